@@ -2,16 +2,25 @@
 
 Used by: scripts/check-programs. The loads take two seconds each; how much is served in them is not looked at.
 """
+import gzip
 import os
+import re
 import signal
 import subprocess
+import sys
 import time
+from xml.etree import ElementTree
 
-from .common import BUILT, MWBENCH, MWSERVE, PROGRAMS, TOP, Peer, at, is_built, same
+from .common import BUILT, MWBENCH, MWINIT, MWSERVE, PROGRAMS, TOP, Peer, at, is_built, same
 
 import mondlexi  # noqa: E402
 
+sys.path.insert(0, str(TOP / "scripts"))
+from bench_parts import chart as chart_module  # noqa: E402
+from bench_parts.chart import Chart  # noqa: E402
+
 VERSION = TOP / "crates/mw_main/src/lib.rt"
+MOST_EXPOSED = 2
 WRONG_SUMS = "mwbench: the words are not the sums of the replies YES\n"
 
 
@@ -67,7 +76,67 @@ def check_units(folder):
         looked = subprocess.run(["systemd-analyze", "verify", copy], stdout=subprocess.PIPE, stderr=subprocess.STDOUT)
         told_of = [line for line in looked.stdout.decode().splitlines() if "mondlexi" in line]
         same((looked.returncode, told_of), (0, []), f"systemd-analyze verify contrib/{path.name}")
-        print(f"contrib/{path.name}: systemd-analyze finds nothing")
+        exposed = exposure(path)
+        if exposed is not None:
+            same((exposed <= MOST_EXPOSED, f"{exposed} of 10" in unit), (True, True), f"the exposure of contrib/{path.name}, {exposed}")
+        print(f"contrib/{path.name}: systemd-analyze finds nothing; its exposure is {exposed}")
+
+
+def exposure(unit):
+    """How exposed a unit is, by systemd-analyze: 0 to 10. None where it can't look at a file."""
+    looked = subprocess.run(["systemd-analyze", "security", "--offline=true", "--no-pager", unit], stdout=subprocess.PIPE, stderr=subprocess.DEVNULL)
+    told = re.search(r"exposure level for \S+: ([0-9.]+)", looked.stdout.decode())
+    return float(told[1]) if told else None
+
+
+def calls_of(group):
+    """The system calls of a group of systemd's, with those of the groups in it."""
+    told = subprocess.run(["systemd-analyze", "syscall-filter", "--no-pager", group], stdout=subprocess.PIPE, check=True).stdout.decode()
+    names = [line.strip() for line in told.splitlines()[1:] if line.strip() and not line.strip().startswith("#")]
+    return {it for name in names for it in (calls_of(name) if name.startswith("@") else [name])}
+
+
+def allowed_by(unit):
+    """The system calls that the lines SystemCallFilter= of a unit leave."""
+    allowed = set()
+    for line in re.findall(r"^SystemCallFilter=(.*)$", unit, re.MULTILINE):
+        named = {it for group in line.lstrip("~").split() for it in calls_of(group)}
+        allowed = allowed - named if line.startswith("~") else allowed | named
+    return allowed
+
+
+def try_system_calls(folder):
+    """What a server calls of the system, from its start to its last session, is what the units allow."""
+    room = folder / "calls"
+    room.mkdir()
+    subprocess.run([MWINIT, "t.mw", "2", "1"], cwd=room, stdout=subprocess.DEVNULL, check=True)
+    (room / "tenants").write_text("t 2 1 t.mw\n")
+    found = set()
+    for at in ("127.0.0.1:0", "unix:socket"):
+        words = ["strace", "-f", "-qq", "-o", "log", MWSERVE, "--tenants", "tenants", "--listen", at, "--clients", "4", "--connections", "1", "--verbose"]
+        server = subprocess.Popen([*words, *(["--mode", "660"] if at == "unix:socket" else [])], cwd=room, stdout=subprocess.PIPE)
+        ready = server.stdout.readline().split()[1].decode()
+        with mondlexi.Client(f"unix:{room}/socket" if at == "unix:socket" else f"127.0.0.1:{ready}", "t") as client:
+            client.cas([(0, client.get(0), 7)])
+        same(server.wait(), 0, f"the status of a server at {at}")
+        server.stdout.close()
+        found |= set(re.findall(r"^[0-9]+ +([a-z0-9_]+)\(", (room / "log").read_text(), re.MULTILINE))
+    for path in sorted((TOP / "contrib").glob("*.service")):
+        same((found - allowed_by(path.read_text()) - {"execve"}, "fdatasync" in found), (set(), True), f"system calls that contrib/{path.name} doesn't allow")
+    print(f"the units allow each of the {len(found)} system calls that a server makes")
+
+
+def try_rotation(folder):
+    """logrotate empties the file that a server writes to, and what is written later is in it."""
+    log, room = folder / "mwserve.log", folder / "rotation"
+    room.mkdir()
+    (room / "rules").write_text((TOP / "contrib/mondlexi.logrotate").read_text().replace("/var/log/mwserve.log", str(log)))
+    with open(log, "a") as out:
+        print("early", file=out, flush=True)
+        subprocess.run(["logrotate", "--force", "--state", room / "state", room / "rules"], check=True)
+        print("late", file=out, flush=True)
+    same((log.read_text(), gzip.decompress((folder / "mwserve.log.1.gz").read_bytes())), ("late\n", b"early\n"), "the log and what was rotated")
+    print("contrib/mondlexi.logrotate: the log goes on behind a rotation")
 
 
 def watched(place):
@@ -94,3 +163,18 @@ def try_versions():
         ran = subprocess.run([BUILT[program], "--version"], stdin=subprocess.DEVNULL, capture_output=True)
         same((ran.returncode, ran.stdout, ran.stderr), (0, f"{program} {version}\n".encode(), b""), f"{program} --version")
     print("versions: each program tells the same, and so does the client")
+
+
+def try_chart(folder):
+    """The chart of bench-server is SVG, with a bar for each figure, and its names in it."""
+    chart = Chart()
+    chart.add_store("a <store>", [10, 2000])
+    chart.add_gets("alone", [25.5, 0])
+    chart.write(folder / "chart.svg")
+    root = ElementTree.parse(folder / "chart.svg").getroot()
+    said = [it.text for it in root.iter() if it.tag.endswith("text")]
+    bars = [it for it in root.iter() if it.tag.endswith("rect") and it.get("height") == str(chart_module.BAR)]
+    same((len(bars), [it for it in ("a <store>", "alone", "2,000", "10", "26", "0.0") if it not in said]), (4, []), "a chart")
+    longest = float(bars[1].get("width"))
+    same((float(bars[0].get("width")), float(bars[3].get("width"))), (round(longest / 200, 1), 0.0), "the bars of a chart")
+    print("the chart of bench-server has a bar for each figure")

@@ -63,6 +63,16 @@ def raises(kind, what, call, *arguments, **named):
     wrong(f"{what}: {given!r} in place of {kind.__name__}")
 
 
+def remove(folder):
+    """Removes a folder, but not if a file system is mounted in it: what is removed there wouldn't be this script's own."""
+    mounted = [line.split()[1] for line in Path("/proc/self/mounts").read_text().splitlines()]
+    below = [it for it in mounted if it == str(folder) or it.startswith(f"{folder}/")]
+    if below:
+        print(f"check-programs: {folder} stays, since this is mounted there: {', '.join(below)}", file=sys.stderr, flush=True)
+    else:
+        shutil.rmtree(folder, ignore_errors=True)
+
+
 def at(port):
     return f"{HOST}:{port}"
 

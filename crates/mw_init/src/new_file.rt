@@ -1,14 +1,16 @@
-//! Implements `mwinit`: makes a tenant's file with words that are 0, and syncs it.
+//! Implements `mwinit`: makes a tenant's file with words that are 0, or with those of a dump, and syncs it.
 //!
 //! `mwinit` calls `init`. docs/OPERATING tells its form, its notes and its statuses: change both together.
 ghost use Rattle.std.specs.Prelude.{◌≤◌, IfSome};
 ghost use Rattle.mw_words.specs.declared.limits.TheConstants.{MAX_WORDS};
 ghost use Rattle.mw_record.specs.declared.layout.TheConstants.{FIRST_PLACES};
 
+use crate::dump::DumpFault;
+use crate::dumped_file::{file_bytes, file_of_dump};
 use clap::error::ErrorKind;
-use clap::{Arg, ArgMatches, Command, value_parser};
+use clap::{Arg, ArgAction, ArgMatches, Command, value_parser};
 use mw_main::VERSION;
-use mw_record::{FIRST_PLACES, header, size};
+use mw_record::{FIRST_PLACES, size};
 use mw_words::MAX_WORDS;
 use std::alloc::{AllocError, Global};
 use std::fs::{File, OpenOptions};
@@ -21,21 +23,31 @@ use thiserror::Error;
 /// The file mode of a new file: only its owner may read and write it.
 const OWN_ONLY: u32 = 0o600;
 
+/// How many bytes of a dump are read. None has so many: 4,096 words and 1,024 entries have lines of less than 32 bytes.
+const MAX_DUMP: u64 = 262_144;
+
 /// Tells why no file was made.
 #[derive(Debug, Drop, Error)]
 enum InitFault {
     /// The command line is wrong, or asks for the help or the version.
     #[error("{0}")]
     Args(clap::Error),
+    /// The dump doesn't exist, may not be read, or a call of the system on it failed.
+    #[error("mwinit: cannot read the dump")]
+    NoDump,
+    /// No file is made of this dump.
+    #[error("{0}")]
+    Dump(DumpFault),
     /// The file exists already, a call of the system failed, or memory was refused.
     #[error("mwinit: cannot make")]
     CannotMake,
 }
 
-/// The path and the size of a new file.
+/// The path and the size of a new file, and the path of the dump whose words it gets.
 #[derive(Drop)]
 struct NewFile<'a> {
     path: &'a str,
+    dump: Option<&'a str>,
     words: u16,
     places: u16,
     ghost some_word: { 1 ≤ words },
@@ -46,12 +58,13 @@ struct NewFile<'a> {
 
 /// Makes the file that the command line `args` asks for. Its first argument is the program's own name.
 ///
-/// The form is `mwinit PATH WORDS PLACES`, with 1 to [`MAX_WORDS`] words, all 0, and 1 to [`FIRST_PLACES`]
-/// record places. It syncs the file and its folder, and then writes `made SIZE` to `out`. The file is
-/// locked until it returns.
+/// The form is `mwinit [--from DUMP] PATH WORDS PLACES`, with 1 to [`MAX_WORDS`] words, all 0, and 1 to
+/// [`FIRST_PLACES`] record places. With a dump the first words are those of the dump, by [`file_of_dump`]. It
+/// syncs the file and its folder, and then writes `made SIZE` to `out`. The file is locked until it returns.
 ///
 /// Gives the exit status: 0 if the file was made; 1 if it couldn't be made, because it exists, a call
-/// failed, or memory was refused; 2 if the command line is wrong. It writes what went wrong to `err`.
+/// failed, memory was refused, or the dump is refused; 2 if the command line is wrong. It writes what went
+/// wrong to `err`. If the dump is refused, nothing was touched.
 pub fn init<R: Files<File = File> + AllocGlobal, O: Write, E: Write>(
     rt: &R,
     args: &[String],
@@ -81,8 +94,9 @@ fn make<R: Files<File = File> + AllocGlobal, O: Write>(
     out: &mut O,
 ) -> Result<(), InitFault> {
     let file = read_args(rt.alloc(), args)?;
+    let bytes = contents(rt, &file)?;
     // The lock is held until `_made` is closed at the end of this function.
-    let _made = write_file(rt, &file)?;
+    let _made = write_file(rt, &file, &bytes)?;
     sync_folder(rt, file.path)?;
     writeln!(out, "made {}", size(file.words, file.places))?;
     Ok(())
@@ -97,6 +111,12 @@ impl From<AllocError> for InitFault {
 impl From<io::Error> for InitFault {
     fn from(_: io::Error) -> Self {
         InitFault::CannotMake
+    }
+}
+
+impl From<DumpFault> for InitFault {
+    fn from(fault: DumpFault) -> Self {
+        InitFault::Dump(fault)
     }
 }
 
@@ -120,10 +140,12 @@ fn read_args<'a>(alloc: Global, args: &'a [String]) -> Result<NewFile<'a>, InitF
 /// Gives the file that the arguments ask for.
 fn new_file_of<'a>(matches: &ArgMatches<'a>) -> Option<NewFile<'a>> {
     let path = matches.get_str("PATH")?;
+    let dump = matches.get_str("from");
     let words = number_of(matches, "WORDS", MAX_WORDS)?;
     let places = number_of(matches, "PLACES", FIRST_PLACES)?;
     Some(NewFile {
         path,
+        dump,
         words,
         places,
     })
@@ -141,8 +163,8 @@ fn number_of(matches: &ArgMatches<'_>, name: &str, most: u16) -> Option<u16>
 fn command<'a>(alloc: Global) -> Result<Command<'a>, AllocError> {
     let command = Command::new(alloc, "mwinit")
         .version(VERSION)
-        .about("Makes a file of words, all 0.");
-    let command = command.arg(path(alloc))?;
+        .about("Makes a file of words, all 0 or those of a dump.");
+    let command = command.arg(dump(alloc))?.arg(path(alloc))?;
     let command = command.arg(size_of(alloc, "WORDS", MAX_WORDS, "how many words it has"))?;
     command.arg(size_of(
         alloc,
@@ -150,6 +172,15 @@ fn command<'a>(alloc: Global) -> Result<Command<'a>, AllocError> {
         FIRST_PLACES,
         "how many changes it can hold at a time",
     ))
+}
+
+/// The option for the path of a dump.
+fn dump<'a>(alloc: Global) -> Arg<'a> {
+    Arg::new(alloc, "from")
+        .long("from")
+        .value_name("DUMP")
+        .action(ArgAction::Set)
+        .help("what mwshow --words printed of the file whose words it gets")
 }
 
 /// The argument for the path of the file.
@@ -167,13 +198,43 @@ fn size_of<'a>(alloc: Global, name: &'a str, most: u16, help: &'a str) -> Arg<'a
         .help(help)
 }
 
-/// Makes a new file that only its owner may read and write, locks it, writes it and syncs it. After a fault
-/// it removes the file that it made, but never one that existed before.
-fn write_file<R: Files<File = File>>(rt: &R, file: &NewFile<'_>) -> io::Result<File> {
+/// Gives the bytes of the new file: with the words of the dump, if there is one, or zeros. It only reads.
+fn contents<R: Files<File = File> + AllocGlobal>(
+    rt: &R,
+    file: &NewFile<'_>,
+) -> Result<Vec<u8>, InitFault> {
+    match file.dump {
+        Some(path) => {
+            let text = read_text(rt, path)?;
+            Ok(file_of_dump(rt.alloc(), &text, file.words, file.places)?)
+        }
+        None => Ok(file_bytes(rt.alloc(), &[], file.words, file.places)?),
+    }
+}
+
+/// Reads the text of a dump. Of a longer text than any dump has it reads the front.
+fn read_text<R: Files<File = File> + AllocGlobal>(
+    rt: &R,
+    path: &str,
+) -> Result<Vec<u8>, InitFault> {
+    let Ok(file) = File::open(rt, path) else {
+        return Err(InitFault::NoDump);
+    };
+    let mut text = Vec::new(rt.alloc());
+    match file.take(MAX_DUMP).read_to_end(&mut text) {
+        Ok(_) => Ok(text),
+        Err(fault) if fault.kind() == io::ErrorKind::OutOfMemory => Err(InitFault::CannotMake),
+        Err(_) => Err(InitFault::NoDump),
+    }
+}
+
+/// Makes a new file that only its owner may read and write, locks it, writes these bytes and syncs it. After a
+/// fault it removes the file that it made, but never one that existed before.
+fn write_file<R: Files<File = File>>(rt: &R, file: &NewFile<'_>, bytes: &[u8]) -> io::Result<File> {
     let mut options = OpenOptions::new();
     options.write(true).create_new(true).mode(OWN_ONLY);
     let mut made = options.open(rt, file.path)?;
-    match write_contents(&mut made, file) {
+    match write_contents(&mut made, bytes) {
         Ok(()) => Ok(made),
         Err(fault) => {
             let _ = rt.remove_file(file.path);
@@ -182,12 +243,9 @@ fn write_file<R: Files<File = File>>(rt: &R, file: &NewFile<'_>) -> io::Result<F
     }
 }
 
-fn write_contents(made: &mut File, file: &NewFile<'_>) -> io::Result<()> {
+fn write_contents(made: &mut File, bytes: &[u8]) -> io::Result<()> {
     made.try_lock()?;
-    let head = header(file.words, file.places);
-    let zeros = size(file.words, file.places) - head.len() as u64;
-    made.write_all(&head)?;
-    io::copy(&mut io::repeat(0).take(zeros), made)?;
+    made.write_all(bytes)?;
     made.sync_all()
 }
 

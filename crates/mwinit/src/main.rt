@@ -1,4 +1,4 @@
-//! `mwinit PATH WORDS PLACES` makes a tenant's file.
+//! `mwinit [--from DUMP] PATH WORDS PLACES` makes a tenant's file.
 //!
 //! mw_init does the work (`init`). Here are only the program's name, and what it says if it can't begin.
 #![tactic(auto)]

@@ -1,0 +1,7 @@
+-- Proves goals of `after_entries` (src/dump.rt) that the check does not prove by itself. Used by: the proof of that function alone. It
+-- may change freely as long as this crate checks.
+use Rattle.mw_init.proofs.Dumps.{entries_and_next}
+use Rattle.mw_init.proofs.dump.after_entries.Goals as goal
+
+pub loop-preserved : goal.loop-preserved
+loop-preserved c = entries_and_next c.args.text.now c.loop.rest.now c.in_ok-behind.field-0 c.in-Some.behind c.loop.invariant c.in_ok-behind.ensures c.in-Some.is

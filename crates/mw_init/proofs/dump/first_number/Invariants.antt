@@ -1,0 +1,8 @@
+-- States why the loop of `first_number` (src/dump.rt) ends. Used by: the proof of that function alone. It may change freely as long
+-- as this crate checks.
+use Rattle.std.proofs.Common.{length}
+use Rattle.mw_init.proofs.dump.first_number.Given as goal
+
+-- each turn takes a byte away
+abbrev pub decreases-loop-rest : goal.decreases-loop-rest
+decreases-loop-rest l = length l.rest

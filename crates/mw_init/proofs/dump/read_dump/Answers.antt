@@ -1,0 +1,11 @@
+-- Proves goals of `read_dump` (src/dump.rt) that the check does not prove by itself. Used by: the proof of that function alone. It
+-- may change freely as long as this crate checks.
+use Rattle.mw_init.proofs.Dumps.{whole}
+use Rattle.mw_init.proofs.dump.read_dump.Goals as goal
+
+pub returns : goal.returns
+returns c =
+    let first = c.in_ok-has_second.ensures in
+    whole c.args.text.now c.in_ok-has_second.sizes.now c.in_ok-number.after.now c.in_ok-places.entries.now c.in_ok-lines.lines.now c.in_ok-words.words.items
+    c.in_ok-has_second.has_second c.in_ok-number.number c.in_ok-places.places first.0
+    first.1 c.in_ok-number.ensures c.in_ok-places.ensures c.in_ok-lines.ensures c.in_ok-words.ensures.text c.in_ok-words.ensures.number
