@@ -1,0 +1,89 @@
+"""A chart of what scripts/bench-server measured, as SVG: changes a second of each store, and how long a GET takes beside each load.
+
+Used by: scripts/bench-server --chart; scripts/check-programs draws one of figures that are made up.
+"""
+import math
+from pathlib import Path
+from typing import List, Sequence, Tuple
+from xml.sax.saxutils import escape
+
+WIDTH, LEFT, RIGHT = 860, 330, 90
+BAR, GAP, GROUP = 14, 3, 12
+COLOURS = ("#2b6cb0", "#dd8a2e")
+Row = Tuple[str, Sequence[float]]
+
+
+def text(x: float, y: float, said: str, more: str = "") -> str:
+    """A text that begins at a point."""
+    return f'<text x="{x:.1f}" y="{y:.1f}"{more}>{escape(said)}</text>'
+
+
+def shown(value: float) -> str:
+    """A figure with commas, and a decimal if it is small."""
+    return f"{value:,.0f}" if value >= 10 else f"{value:.1f}"
+
+
+class Panel:
+    """Bars of several rows, of two kinds each, with a title. Their lengths grow with the logarithm where that is asked for."""
+
+    def __init__(self, title: str, kinds: Sequence[str], is_logarithmic: bool = False):
+        self.title, self.kinds, self.is_logarithmic = title, kinds, is_logarithmic
+        self.rows: List[Row] = []
+
+    def length(self, value: float, most: float) -> float:
+        """How long the bar of a value is."""
+        room = WIDTH - LEFT - RIGHT
+        if self.is_logarithmic:
+            return room * math.log1p(value) / math.log1p(most)
+        return room * value / most
+
+    def draw(self, top: float) -> Tuple[List[str], float]:
+        """The elements of the panel below a height, and where it ends."""
+        out = [text(10, top + 18, self.title, ' font-weight="bold"')]
+        for number, kind in enumerate(self.kinds):
+            at = LEFT + number * 230
+            out.append(f'<rect x="{at}" y="{top + 27}" width="12" height="12" fill="{COLOURS[number]}"/>')
+            out.append(text(at + 18, top + 38, kind))
+        y = top + 52
+        most = max((value for _, values in self.rows for value in values), default=1) or 1
+        for name, values in self.rows:
+            out.append(text(10, y + BAR, name))
+            for number, value in enumerate(values):
+                long = self.length(value, most)
+                out.append(f'<rect x="{LEFT}" y="{y}" width="{long:.1f}" height="{BAR}" fill="{COLOURS[number]}"/>')
+                out.append(text(LEFT + long + 5, y + BAR - 2, shown(value)))
+                y += BAR + GAP
+            y += GROUP
+        return out, y
+
+
+class Chart:
+    """What was measured so far."""
+
+    def __init__(self) -> None:
+        self.stores = Panel("Changes a second", ("one client", "sixteen clients"))
+        self.gets = Panel("A GET, microseconds (the scale is logarithmic)", ("half of them take less", "99 of 100 take less"), True)
+
+    def add_store(self, name: str, rates: Sequence[float]) -> None:
+        """A store's changes a second: of one client, and of sixteen."""
+        self.stores.rows.append((name, rates))
+
+    def add_gets(self, name: str, microseconds: Sequence[float]) -> None:
+        """How long GETs took beside a load: half of them less, and 99 of 100."""
+        self.gets.rows.append((name, microseconds))
+
+    def svg(self) -> str:
+        """The chart, of the panels that have rows."""
+        out: List[str] = []
+        y = 0.0
+        for panel in (self.stores, self.gets):
+            if panel.rows:
+                elements, y = panel.draw(y)
+                out += elements
+        head = (f'<svg xmlns="http://www.w3.org/2000/svg" width="{WIDTH}" height="{y:.0f}" viewBox="0 0 {WIDTH} {y:.0f}" '
+                'font-family="sans-serif" font-size="13">')
+        return "\n".join([head, f'<rect width="{WIDTH}" height="{y:.0f}" fill="#ffffff"/>', *out, "</svg>"]) + "\n"
+
+    def write(self, path: Path) -> None:
+        """Writes it to a file."""
+        path.write_text(self.svg(), encoding="utf-8")
