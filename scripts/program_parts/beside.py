@@ -3,6 +3,7 @@
 Used by: scripts/check-programs. The loads take two seconds each; how much is served in them is not looked at.
 """
 import gzip
+import json
 import os
 import re
 import signal
@@ -21,6 +22,11 @@ from bench_parts.chart import Chart  # noqa: E402
 
 VERSION = TOP / "crates/mw_main/src/lib.rt"
 MOST_EXPOSED = 2
+SECOND = re.compile(r"second \d+: \d+ changes, \d+ reads, \d+ refusals")
+KIND = re.compile(r"([A-Z]+) (\d+): mean (\d+) us, p50 (\d+) us, p90 (\d+) us, p95 (\d+) us, p99 (\d+) us, p99\.9 (\d+) us, slowest (\d+) us")
+KINDS = ["YES", "NO", "BUSY", "VAL"]
+FIGURES = ["changes a second", "reads a second", "refusals", "p50", "p90", "p99", "p99.9", "slowest"]
+TIMES = ["mean_us", "p50_us", "p90_us", "p95_us", "p99_us", "p99_9_us", "slowest_us"]
 WRONG_SUMS = "mwbench: the words are not the sums of the replies YES\n"
 
 
@@ -51,15 +57,42 @@ def try_wrong_sums(server, at):
     same((status, errors), (1, WRONG_SUMS), "mwbench beside a client who changes a word")
 
 
+def try_kinds(kinds, rates, what):
+    """The counts and times of YES, NO, BUSY and VAL agree with each other, and with the changes and reads a second and the refusals
+    of two seconds. How long anything took is not looked at."""
+    yes, no, busy, read = (kind[0] for kind in kinds)
+    same((yes // 2, read // 2, no + busy), tuple(rates), f"the counts of {what}")
+    for count, mean, *within in kinds:
+        same((within == sorted(within), mean <= within[-1], count > 0 or within[-1] == 0), (True, True, True), f"times of {what}: {count, mean, within}")
+
+
+def try_json(at, more):
+    """With --json mwbench writes the same as one JSON object in one line."""
+    status, lines, errors = end_load(begin_load(*at, *more, "--json"))
+    same((status, len(lines), errors), (0, 1, ""), f"mwbench {more} --json")
+    told = json.loads(lines[0])
+    kinds = ["yes", "no", "busy", "val"]
+    same(list(told), ["changes_a_second", "reads_a_second", "refusals", *kinds, "all"], "the names in mwbench's JSON")
+    same([list(told[kind]) for kind in (*kinds, "all")], 5 * [["count", *TIMES]], "the names of a kind in mwbench's JSON")
+    numbers = [[told[kind][name] for name in ("count", *TIMES)] for kind in (*kinds, "all")]
+    same({type(it) for row in numbers for it in row}, {int}, "the numbers in mwbench's JSON")
+    try_kinds(numbers[:4], [told[name] for name in ("changes_a_second", "reads_a_second", "refusals")], f"mwbench {more} --json")
+    same(numbers[4][0], sum(row[0] for row in numbers[:4]), "all replies in mwbench's JSON")
+
+
 def check_load(server):
     """A load is measured, whether its clients share words or not, and the words are the sums of the replies YES. Where more
     clients change at once than the quota allows they are told BUSY too."""
     at = ("--connect", server.at, "--tenant", "load", "--words", "2", "--seconds", "2")
-    figures = ["changes a second", "reads a second", "refusals", "p50", "p90", "p99", "p99.9", "slowest"]
     for more in (("--clients", "4"), ("--clients", "8", "--shared", "--reads", "50"), ("--clients", "2", "--pipeline", "8")):
         status, lines, errors = end_load(begin_load(*at, *more))
-        same((status, len(lines), errors), (0, 2 + len(figures), ""), f"mwbench {more}")
-        same([line.startswith(text) for line, text in zip(lines[2:], figures)], 8 * [True], "the figures of mwbench")
+        same((status, len(lines), errors), (0, 2 + len(KINDS) + len(FIGURES), ""), f"mwbench {more}")
+        same([SECOND.fullmatch(line) is not None for line in lines[:2]], 2 * [True], "the seconds of mwbench")
+        kinds = [KIND.fullmatch(line) for line in lines[2:6]]
+        same([kind and kind.group(1) for kind in kinds], KINDS, f"the kinds of reply of mwbench {more}")
+        same([re.fullmatch(f"{re.escape(text)} \\d+( us)?", line) is not None for line, text in zip(lines[6:], FIGURES)], 8 * [True], "the figures of mwbench")
+        try_kinds([[int(it) for it in kind.groups()[1:]] for kind in kinds], [int(line.split()[-1]) for line in lines[6:9]], f"mwbench {more}")
+        try_json(at, more)
     for wrong_words, wanted in ((("--clients", "64"), 1), (("--clients", "0"), 2), (("--clients", "1", "--reads", "101"), 2)):
         same(end_load(begin_load(*at, *wrong_words))[0], wanted, f"status of mwbench {wrong_words}")
     try_wrong_sums(server, at)

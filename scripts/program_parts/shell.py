@@ -104,6 +104,8 @@ def try_a_terminal(server):
         terminal.wait_for(b"%d\r\n" % (value ^ 1))
         client.cas([(9, value ^ 1, value)])
     for _ in range(2):
+        # Python loses a SIGINT that comes between its prompt and its wait for a key.
+        time.sleep(0.5)
         terminal.process.send_signal(signal.SIGINT)
         terminal.wait_for(b"t> ")
     terminal.type(b"get x\n")

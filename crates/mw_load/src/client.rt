@@ -2,7 +2,7 @@
 //!
 //! Used by: `crowd`, which runs each in a thread; `run`. It has no contracts, and may change freely.
 use crate::command_line::MAX_PIPELINE;
-use crate::latencies::Latencies;
+use crate::replies::Replies;
 use arrayvec::ArrayVec;
 use mw_client::{SocketClient, next_reply, request_text};
 use mw_line::{Request, Say};
@@ -83,7 +83,7 @@ pub struct Asker {
     /// Which replies came so far.
     pub counts: Counts,
     /// How long they took.
-    pub latencies: Latencies,
+    pub replies: Replies,
 }
 
 impl Asker {
@@ -107,7 +107,7 @@ impl Asker {
             dice: Xoshiro256PlusPlus::seed_from_u64(seed),
             lines: Vec::new(alloc),
             counts: Counts::none(),
-            latencies: Latencies::new(alloc)?,
+            replies: Replies::new(alloc)?,
         })
     }
 
@@ -133,8 +133,7 @@ impl Asker {
             let Ok(taken) = begun.elapsed(clock) else {
                 return Err(Stop::Here);
             };
-            self.latencies.note(nanos_of(taken.as_nanos()));
-            self.note(*line, said)?;
+            self.note(*line, said, nanos_of(taken.as_nanos()))?;
         }
         Ok(())
     }
@@ -176,24 +175,30 @@ impl Asker {
         entries
     }
 
-    /// Counts a reply, and learns from it how many times the words have been changed.
-    fn note(&mut self, asked: Asked, said: Say) -> Result<(), Stop> {
+    /// Counts a reply that took so many nanoseconds, and learns from it how many times the words have been
+    /// changed.
+    fn note(&mut self, asked: Asked, said: Say, nanos: u64) -> Result<(), Stop> {
+        self.replies.all.note(nanos);
         match (asked, said) {
             (Asked::Read, Say::Store(Reply::Val(_))) => {
+                self.replies.reads.note(nanos);
                 self.counts.read = self.counts.read.saturating_add(1);
                 Ok(())
             }
             (Asked::Change(expected), Say::Store(Reply::Yes)) => {
+                self.replies.yes.note(nanos);
                 self.counts.made = self.counts.made.saturating_add(1);
                 self.changed = expected.saturating_add(1);
                 Ok(())
             }
             (Asked::Change(_), Say::Store(Reply::No(addr, value))) => {
+                self.replies.no.note(nanos);
                 self.counts.refused = self.counts.refused.saturating_add(1);
                 self.changed = self.changed_by(addr, value);
                 Ok(())
             }
             (Asked::Change(_), Say::Store(Reply::Busy)) => {
+                self.replies.busy.note(nanos);
                 self.counts.refused = self.counts.refused.saturating_add(1);
                 Ok(())
             }

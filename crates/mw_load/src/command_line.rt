@@ -36,6 +36,8 @@ pub struct Settings {
     pub reads: u64,
     /// How many lines a client sends before it reads their replies.
     pub pipeline: u16,
+    /// Whether the figures are written as JSON.
+    pub json: bool,
 }
 
 /// Reads a command line. Its first argument is the program's own name.
@@ -56,6 +58,7 @@ pub fn read_args(alloc: Global, args: &[String]) -> Result<Settings, clap::Error
         shared: matches.get_flag("shared"),
         reads: u64::from(number_of(&matches, "reads")),
         pipeline: number_of(&matches, "pipeline"),
+        json: matches.get_flag("json"),
     })
 }
 
@@ -108,7 +111,11 @@ fn add_switches<'a>(alloc: Global, command: Command<'a>) -> Result<Command<'a>, 
     let pipeline = number(alloc, "pipeline", "D", 1, MAX_PIPELINE as u64)
         .default_value("1")
         .help("how many lines a client sends before it reads their replies, 1 to 64");
-    command.arg(shared)?.arg(reads)?.arg(pipeline)
+    let json = Arg::new(alloc, "json")
+        .long("json")
+        .action(ArgAction::SetTrue)
+        .help("write the figures as one JSON object in one line, and no line a second");
+    command.arg(shared)?.arg(reads)?.arg(pipeline)?.arg(json)
 }
 
 /// Makes an option with a text.

@@ -1,8 +1,9 @@
 //! Runs all clients of a load, each in a thread of its own, and writes once a second what they did.
 //!
-//! Used by: `run`. It has no contracts, and may change freely.
+//! Used by: `run`, `report`. It has no contracts, and may change freely.
 use crate::client::{Asker, Counts, Stop, Task};
-use crate::latencies::Latencies;
+use crate::command_line::Settings;
+use crate::replies::Replies;
 use std::io::Write;
 use std::sync::atomic::{AtomicBool, AtomicU64, Ordering};
 use std::sync::{Mutex, Wait};
@@ -72,8 +73,8 @@ pub struct Done {
 /// What all clients have done that have ended.
 #[derive(Drop)]
 pub struct Tally {
-    /// How long all their replies took.
-    pub latencies: Latencies,
+    /// How long all their replies took, by kind.
+    pub replies: Replies,
     /// What each of them has done.
     pub done: Vec<Done>,
 }
@@ -84,7 +85,7 @@ fn work<R: Wait + Clock>(rt: &R, asker: Asker, board: &Board, tally: &Mutex<Tall
     let stop = work_on(rt, &mut asker, board);
     let mut tally = tally.lock(rt);
     let all = &mut *tally;
-    all.latencies.add(&asker.latencies);
+    all.replies.add(&asker.replies);
     // There is room for all clients. If there were none, this client would be missing at the end.
     let _ = all.done.push(Done {
         task: asker.task,
@@ -108,8 +109,8 @@ fn work_on<R: Wait + Clock>(rt: &R, asker: &mut Asker, board: &Board) -> Option<
     unreachable!()
 }
 
-/// Lets the clients work for so many seconds, and writes a line at the end of each second. Returns when all
-/// clients have ended.
+/// Lets the clients work for as many seconds as the settings say, and writes a line at the end of each second,
+/// but none with `--json`. Returns when all clients have ended.
 ///
 /// # Errors
 ///
@@ -119,7 +120,7 @@ pub fn work_all<R: Threads + Wait + Clock + Sync, O: Write>(
     askers: Vec<Asker>,
     board: &Board,
     tally: &Mutex<Tally>,
-    seconds: u64,
+    settings: &Settings,
     out: &mut O,
 ) -> io::Result<()> {
     thread::scope(thread::scope_env(), rt, |scope| -> io::Result<()> {
@@ -128,25 +129,26 @@ pub fn work_all<R: Threads + Wait + Clock + Sync, O: Write>(
                 break;
             }
         }
-        let told = tell_seconds(rt, board, seconds, out);
+        let told = tell_seconds(rt, board, settings, out);
         board.end();
         told
     })
 }
 
-/// Waits for so many seconds. At the end of each it writes what was done in it.
+/// Waits for as many seconds as the settings say. At the end of each it writes what was done in it, but not with
+/// `--json`.
 fn tell_seconds<K: Clock, O: Write>(
     clock: &K,
     board: &Board,
-    seconds: u64,
+    settings: &Settings,
     out: &mut O,
 ) -> io::Result<()> {
     let mut before = board.counts();
     let mut told = Ok(());
-    for second in 1..=seconds {
+    for second in 1..=settings.seconds {
         thread::sleep(clock, Duration::from_secs(1));
         let now = board.counts();
-        if told.is_ok() {
+        if told.is_ok() && !settings.json {
             told = tell_second(second, before, now, out);
         }
         before = now;

@@ -1,6 +1,6 @@
 //! Counts how long the replies to a load took.
 //!
-//! Used by: `client`, `crowd`, `run`. docs/BENCH tells how exact the counts are: change both together.
+//! Used by: `client`, `replies`, `report`. docs/BENCH tells how exact the counts are: change both together.
 use std::alloc::{AllocError, Global};
 
 /// How many counts there are.
@@ -17,6 +17,7 @@ const OCTAVES: u64 = 60;
 pub struct Latencies {
     counts: Vec<u64>,
     total: u64,
+    sum: u64,
     slowest: u64,
 }
 
@@ -32,6 +33,7 @@ impl Latencies {
         Ok(Latencies {
             counts,
             total: 0,
+            sum: 0,
             slowest: 0,
         })
     }
@@ -42,6 +44,7 @@ impl Latencies {
             *count = count.saturating_add(1);
         }
         self.total = self.total.saturating_add(1);
+        self.sum = self.sum.saturating_add(nanos);
         self.slowest = self.slowest.max(nanos);
     }
 
@@ -51,7 +54,19 @@ impl Latencies {
             *count = count.saturating_add(*more);
         }
         self.total = self.total.saturating_add(other.total);
+        self.sum = self.sum.saturating_add(other.sum);
         self.slowest = self.slowest.max(other.slowest);
+    }
+
+    /// Gives how many replies were counted.
+    pub fn total(&self) -> u64 {
+        self.total
+    }
+
+    /// Gives how many nanoseconds a reply took in the mean, rounded down; 0 if there was no reply. The sum of all
+    /// times is counted up to `u64::MAX`, which is 584 years.
+    pub fn mean(&self) -> u64 {
+        self.sum / self.total.max(1)
     }
 
     /// Gives how many nanoseconds the slowest reply took.

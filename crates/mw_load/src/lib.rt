@@ -10,6 +10,8 @@ mod client;
 mod command_line;
 mod crowd;
 mod latencies;
+mod replies;
+mod report;
 mod run;
 mod sums;
 

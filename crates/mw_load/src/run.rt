@@ -4,7 +4,8 @@
 use crate::client::{Asker, Stop, Task};
 use crate::command_line::{Settings, read_args};
 use crate::crowd::{Board, Done, Tally, work_all};
-use crate::latencies::Latencies;
+use crate::replies::Replies;
+use crate::report::{report, report_json};
 use crate::sums::are_sums;
 use clap::error::ErrorKind;
 use mw_client::{Failure, SocketClient, connect};
@@ -34,9 +35,9 @@ enum LoadFault {
 }
 
 /// Runs the load that the command line `args` asks for. Its first argument is the program's own name. It
-/// writes a line a second to `out`, and at the end how many changes and reads a second there were, how many
-/// refusals, and how long replies took. Then it checks whether each word is its old value plus the number
-/// of replies `YES` to changes of it.
+/// writes a line a second to `out`, and at the end how many replies of each kind came, how long they took,
+/// and how many changes and reads a second there were; with `--json` only this, as one JSON object in one
+/// line. Then it checks whether each word is its old value plus the number of replies `YES` to changes of it.
 ///
 /// Gives the exit status: 0 if the words are so, 1 if they aren't or something failed, 2 for a wrong
 /// command line. It writes what went wrong to `err`.
@@ -90,15 +91,19 @@ fn run<R: Net<Stream = TcpStream> + Threads + Wait + Clock + AllocGlobal + Sync,
     let askers = begin_all(rt, settings, &before)?;
     let board = Board::new();
     let tally = Mutex::new(Tally {
-        latencies: Latencies::new(rt.alloc())?,
+        replies: Replies::new(rt.alloc())?,
         done: Vec::with_capacity(rt.alloc(), usize::from(settings.clients))?,
     });
-    work_all(rt, askers, &board, &tally, settings.seconds, out)?;
+    work_all(rt, askers, &board, &tally, settings, out)?;
     let tally = tally.into_inner();
     if tally.done.len() != usize::from(settings.clients) {
         return Err(LoadFault::Memory);
     }
-    report(&tally, settings.seconds, out)?;
+    if settings.json {
+        report_json(&tally, settings.seconds, out)?;
+    } else {
+        report(&tally, settings.seconds, out)?;
+    }
     if let Some(stop) = first_stop(&tally.done) {
         return Err(LoadFault::Stopped(stop));
     }
@@ -207,30 +212,6 @@ fn first_stop(done: &[Done]) -> Option<Stop> {
         }
     }
     None
-}
-
-/// Writes what was done in so many seconds, and how long replies took.
-fn report<O: Write>(tally: &Tally, seconds: u64, out: &mut O) -> io::Result<()> {
-    let (mut made, mut read, mut refused): (u64, u64, u64) = (0, 0, 0);
-    for one in &tally.done {
-        made = made.saturating_add(one.counts.made);
-        read = read.saturating_add(one.counts.read);
-        refused = refused.saturating_add(one.counts.refused);
-    }
-    writeln!(out, "changes a second {}", made / seconds.max(1))?;
-    writeln!(out, "reads a second {}", read / seconds.max(1))?;
-    writeln!(out, "refusals {refused}")?;
-    report_times(&tally.latencies, out)
-}
-
-/// Writes within how many microseconds so many of the replies came.
-fn report_times<O: Write>(latencies: &Latencies, out: &mut O) -> io::Result<()> {
-    let micros = |of_a_thousand: u64| latencies.within(of_a_thousand) / 1000;
-    writeln!(out, "p50 {} us", micros(500))?;
-    writeln!(out, "p90 {} us", micros(900))?;
-    writeln!(out, "p99 {} us", micros(990))?;
-    writeln!(out, "p99.9 {} us", micros(999))?;
-    writeln!(out, "slowest {} us", latencies.slowest() / 1000)
 }
 
 impl LoadFault {
