@@ -4,10 +4,11 @@
 ghost use Rattle.std.specs.Prelude.{◌<◌, vec_len};
 
 use arrayvec::ArrayVec;
+use mw_connections::{TimeLimits, listen_at, port_of};
 use mw_report::{Figures, TenantFigures};
 use mw_session::Service;
 use mw_words::{Job, Name, Reply};
-use mw_workers::{ServeEnd, TimeLimits, listen_at, port_of, serve_all};
+use mw_workers::{ServeEnd, serve_all};
 use std::fs::File;
 use std::net::{Net, TcpListener, TcpStream};
 use std::rt::Files;

@@ -1,10 +1,9 @@
 //! Tests a desk with several administrators: who gives way to another, who doesn't, and what happens at the end.
 //!
 //! Nothing else uses it: it may change with what it tests.
+use mw_connections::{ClientListener, Closer, RoomWatch, listen_at, port_of};
 use mw_test_server::{Caller, Clerk, NO_LIMITS, Shelf, come_and_go};
-use mw_workers::{
-    ClientListener, Closer, Desk, RoomWatch, ServeEnd, TURN, listen_at, port_of, serve_beside,
-};
+use mw_workers::{Desk, ServeEnd, TURN, serve_beside};
 use std::alloc::AllocError;
 use std::fs::File;
 use std::net::{Net, TcpListener, TcpStream};

@@ -2,8 +2,8 @@
 //!
 //! Nothing else uses it: it may change with what it tests.
 use crate::local_lookout::Lookout;
+use mw_connections::{TimeLimits, listen_at};
 use mw_test_server::{Caller, NO_LIMITS, Shop, serves_beside};
-use mw_workers::{TimeLimits, listen_at};
 use std::fs::File;
 use std::io::ErrorKind;
 use std::net::{Net, TcpListener, TcpStream};

@@ -5,12 +5,10 @@ ghost use Rattle.std.specs.Prelude.{◌≡◌, [], None, Some};
 ghost use Rattle.mw_session.specs.KnownStreams.{reads_of, writes_of};
 
 use arrayvec::ArrayVec;
-use mw_session::{Duplex, Ended, RecordedStream, Service, Session};
+use mw_connections::{Closer, Connection, Listener, Patient, RoomWatch, listen_at};
+use mw_session::{Duplex, Ended, Others, RecordedStream, Service, Session};
 use mw_test_server::{Clerk, NO_LIMITS, Shelf};
-use mw_workers::{
-    Closer, Connection, Desk, Listener, Others, Patient, RoomWatch, ServeEnd, listen_at,
-    serve_beside,
-};
+use mw_workers::{Desk, ServeEnd, serve_beside};
 use std::alloc::Global;
 use std::cell::RefCell;
 use std::fs::File;

@@ -8,12 +8,10 @@ use crate::replaced::{FileLook, PERIOD, Stop, look_on};
 use crate::serving::ServeFault;
 use log::{Log, warn};
 use mw_config::Listening;
+use mw_connections::{ClientListener, Closer, Patient, RoomWatch, TimeLimits, listen_at, port_of};
 use mw_opening::note_cause;
 use mw_session::Service;
-use mw_workers::{
-    ClientListener, Closer, Desk, Patient, RoomWatch, ServeEnd, TimeLimits, listen_at, port_of,
-    serve_all, serve_beside,
-};
+use mw_workers::{Desk, ServeEnd, serve_all, serve_beside};
 use std::fmt::Display;
 use std::fs::File;
 use std::io;

@@ -1,8 +1,8 @@
 //! Tests clients that are silent, take no replies, or are slow to leave.
 //!
 //! Nothing else uses it: it may change with what it tests.
+use mw_connections::TimeLimits;
 use mw_test_server::{Caller, NO_LIMITS, Shop, serves_right};
-use mw_workers::TimeLimits;
 use std::net::{Net, TcpListener, TcpStream};
 use std::sync::atomic::{AtomicBool, Ordering};
 use std::test::Fail;

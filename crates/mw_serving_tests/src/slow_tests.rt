@@ -1,8 +1,8 @@
 //! Tests clients that send a line bit by bit, and clients that think between lines.
 //!
 //! Nothing else uses it: it may change with what it tests.
+use mw_connections::TimeLimits;
 use mw_test_server::{Caller, Shop, serves_right};
-use mw_workers::TimeLimits;
 use std::net::{Net, TcpListener, TcpStream};
 use std::sync::atomic::{AtomicBool, Ordering};
 use std::test::Fail;

@@ -5,9 +5,9 @@ ghost use Rattle.std.specs.Prelude.{◌≡◌, None, Some};
 ghost use Rattle.mw_session.specs.KnownStreams.{inner_of, reads_of, writes_of};
 
 use arrayvec::ArrayVec;
-use mw_session::{Duplex, Ended, PeerStream, RecordedStream, Service, Session};
+use mw_connections::{Connection, Listener};
+use mw_session::{Duplex, Ended, Others, PeerStream, RecordedStream, Service, Session};
 use mw_test_peers::{Failure, Page};
-use mw_workers::{Connection, Listener, Others};
 use std::alloc::Global;
 use std::io;
 use std::io::ErrorKind;

@@ -6,7 +6,8 @@ ghost use Rattle.std.specs.Prelude.{◌<◌};
 
 use crate::callers::come_and_go;
 use crate::shelf::{Clerk, Shelf};
-use mw_workers::{Listener, ServeEnd, TimeLimits, listen_at, port_of, serve_all};
+use mw_connections::{Listener, TimeLimits, listen_at, port_of};
+use mw_workers::{ServeEnd, serve_all};
 use std::alloc::{AllocError, Global};
 use std::fs::File;
 use std::net::{Net, TcpListener, TcpStream};

@@ -1,7 +1,7 @@
 -- If one more connection comes, it is served if the desk is open, and left out if not.
 -- Used by: the proof of serve_in_turn. It may change freely as long as this crate checks.
 use Rattle.std.proofs.Common.{◌≡◌, Bool, true, false, List, [], ◌∷◌, ◌++◌, length, refl, ap, arith, length-append}
-use Rattle.mw_workers.specs.Sessions.{chosen}
+use Rattle.mw_workers.specs.ServedConnections.{chosen}
 
 pub chosen_more : {C : Type 0} (turns : List Bool) (connections : List C) (connection : C) → length turns ≡ length connections
     → chosen (turns ++ true ∷ []) (connections ++ connection ∷ []) ≡ chosen turns connections ++ connection ∷ []

@@ -1,4 +1,3 @@
 pub mod ListenerCalls
-pub mod Sessions
-pub mod Pauses
-pub mod TimesLeft
+pub mod ServedConnections
+pub mod QueueTimes

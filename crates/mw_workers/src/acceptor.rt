@@ -4,7 +4,8 @@
 //! change them together. docs/PROMISES cites `accept_all`.
 ghost use Rattle.mw_workers.specs.ListenerCalls.{ArePut, EndsPut, IsPut};
 
-use crate::peer::{Intake, Listener};
+use crate::intake::Intake;
+use mw_connections::Listener;
 use std::sync::Wait;
 use std::thread;
 

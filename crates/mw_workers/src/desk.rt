@@ -2,19 +2,18 @@
 //!
 //! mw_programs calls [`serve_beside`] (`clients.rt`) if the server has a second address, with a worker kept for it.
 //! [`TURN`] and [`DESK_QUEUE`] may have other numbers, the latter 1 or more; docs/OPERATING tells both. All else but
-//! [`Desk`] is known only here, and may change with `specs/ListenerCalls` and `specs/Sessions`.
+//! [`Desk`] is known only here, and may change with `specs/ListenerCalls` and `specs/ServedConnections`.
 ghost use Rattle.std.specs.Prelude.{◌≡◌, ℕ, Bool, List, length, ◌<◌, vec_len};
 ghost use Rattle.std.specs.Iterator.{Drains, IsFinite};
 ghost use Rattle.mw_session.specs.ServiceCalls.{AreAnswered};
 ghost use Rattle.mw_workers.specs.ListenerCalls.{ArePut, EndsSo};
-ghost use Rattle.mw_workers.specs.Sessions.{AreServed, chosen};
+ghost use Rattle.mw_workers.specs.ServedConnections.{AreServed, chosen};
 
 use crate::acceptor::accept_one;
-use crate::patience::{Patient, RoomWatch};
-use crate::peer::{Connection, Intake, Listener};
+use crate::intake::Intake;
 use crate::server::{ServeEnd, serve_all};
-use crate::sockets::Closer;
 use crossbeam_channel::{Receiver, Sender};
+use mw_connections::{Closer, Connection, Listener, Patient, RoomWatch};
 use mw_session::{Others, Service};
 use std::alloc::{AllocError, Global};
 use std::sync::Wait;

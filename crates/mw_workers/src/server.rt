@@ -6,10 +6,11 @@ ghost use Rattle.std.specs.Prelude.{◌<◌, vec_len};
 ghost use Rattle.mw_workers.specs.ListenerCalls.{EndsSo};
 
 use crate::acceptor::accept_all;
-use crate::peer::{Connection, Intake, Listener};
+use crate::intake::Intake;
 use crate::usher::{ArrivalQueue, Usher, UsheredQueue, WorkerQueue};
 use crate::worker::serve_each;
 use crossbeam_channel::Sender;
+use mw_connections::{Connection, Listener};
 use mw_session::Service;
 use std::alloc::{AllocError, Global};
 use std::sync::Wait;

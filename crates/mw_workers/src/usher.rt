@@ -7,9 +7,9 @@ ghost use Rattle.std.specs.Prelude.{◌≡◌};
 ghost use Rattle.std.specs.Duration.{as_nanos};
 ghost use Rattle.std.specs.Iterator.{at_most};
 ghost use Rattle.crossbeam_channel.specs.Iter.{iter_left};
-ghost use Rattle.mw_workers.specs.TimesLeft.{moment, still_to_wait};
+ghost use Rattle.mw_workers.specs.QueueTimes.{moment, still_to_wait};
 
-use crate::peer::Intake;
+use crate::intake::Intake;
 use crossbeam_channel::{Iter, Receiver, Sender};
 use std::alloc::{AllocError, Global};
 use std::sync::Wait;

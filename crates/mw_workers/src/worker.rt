@@ -1,13 +1,13 @@
 //! Serves one connection after the other, each by one session, until no more come.
 //!
-//! `server.rt` calls [`serve_each`] on a thread for each service. `specs/Sessions` says what it promises: change both
+//! `server.rt` calls [`serve_each`] on a thread for each service. `specs/ServedConnections` says what it promises: change both
 //! together. docs/PROMISES cites `serve_each`.
 ghost use Rattle.std.specs.Prelude.{List};
 ghost use Rattle.std.specs.Iterator.{Drains, IsFinite};
 ghost use Rattle.mw_session.specs.ServiceCalls.{AreAnswered};
-ghost use Rattle.mw_workers.specs.Sessions.{AreServed};
+ghost use Rattle.mw_workers.specs.ServedConnections.{AreServed};
 
-use crate::peer::Connection;
+use mw_connections::Connection;
 use mw_session::{NoOthers, Service};
 use std::alloc::Global;
 use std::sync::Wait;

@@ -3,7 +3,7 @@
 use Rattle.std.proofs.Common.{true, false, [], ◌∷◌, ◌++◌, subst, sym}
 use Rattle.mw_session.specs.ServiceCalls.{AreAnswered}
 use Rattle.mw_session.proofs.TransitionLaws.{goes_further}
-use Rattle.mw_workers.specs.Sessions.{AreServed, IsServed, chosen}
+use Rattle.mw_workers.specs.ServedConnections.{AreServed, IsServed, chosen}
 use Rattle.mw_workers.proofs.Chosen.{chosen_more, chosen_same, one_more}
 use Rattle.mw_workers.proofs.desk.serve_in_turn.Goals as goal
 

@@ -2,7 +2,7 @@
 -- alone. It may change freely as long as this crate checks.
 use Rattle.std.proofs.Common.{◌≡◌, Bool, List, length}
 use Rattle.mw_session.specs.ServiceCalls.{AreAnswered}
-use Rattle.mw_workers.specs.Sessions.{AreServed, chosen}
+use Rattle.mw_workers.specs.ServedConnections.{AreServed, chosen}
 use Rattle.mw_workers.proofs.desk.serve_in_turn.Given as goal
 
 -- of those that came so far, those for which the desk was open are served

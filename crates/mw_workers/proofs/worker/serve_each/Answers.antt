@@ -2,7 +2,7 @@
 -- alone. It may change freely as long as this crate checks.
 use Rattle.mw_session.specs.ServiceCalls.{AreAnswered}
 use Rattle.mw_session.proofs.TransitionLaws.{goes_further}
-use Rattle.mw_workers.specs.Sessions.{IsServed}
+use Rattle.mw_workers.specs.ServedConnections.{IsServed}
 use Rattle.mw_workers.proofs.worker.serve_each.Goals as goal
 
 pub loop-connection-preserved : goal.loop-connection-preserved

@@ -5,8 +5,8 @@
 //! limits.
 ghost use Rattle.std.specs.Prelude.{◌≡◌, None, IsFalse, if◌then◌else◌};
 ghost use Rattle.std.specs.Time.{instant_nanos};
-ghost use Rattle.mw_workers.specs.declared.time_limits.Timing.TheVariants.{Starting, Stopped};
-ghost use Rattle.mw_workers.specs.TimesLeft.{
+ghost use Rattle.mw_connections.specs.declared.time_limits.Timing.TheVariants.{Starting, Stopped};
+ghost use Rattle.mw_connections.specs.TimesLeft.{
   MayWaitASilence,
   after_piece,
   after_write,

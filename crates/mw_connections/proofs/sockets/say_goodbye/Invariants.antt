@@ -2,7 +2,7 @@
 -- alone. It may change freely as long as this crate checks.
 use Rattle.std.proofs.Common.{◌≡◌}
 use Rattle.mw_session.specs.KnownStreams.{writes_of}
-use Rattle.mw_workers.proofs.sockets.say_goodbye.Given as goal
+use Rattle.mw_connections.proofs.sockets.say_goodbye.Given as goal
 
 -- nothing more is written
 abbrev pub invariant-loop : goal.invariant-loop

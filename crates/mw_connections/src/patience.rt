@@ -1,9 +1,9 @@
 //! A listener over another one: it waits, longer each time, while the system has no room for a connection.
 //!
-//! mw_programs puts a [`Patient`] over its listener, and `desk.rt` over the desk's. The two waits may have other
+//! mw_programs puts a [`Patient`] over its listener, and mw_workers over the desk's. The two waits may have other
 //! numbers: no proof names these, but docs/OPERATING tells them.
 ghost use Rattle.std.specs.Prelude.{◌≡◌, false};
-ghost use Rattle.mw_workers.specs.Pauses.{GoesOn, is_of_client, longer};
+ghost use Rattle.mw_connections.specs.Pauses.{GoesOn, is_of_client, longer};
 
 use crate::peer::Listener;
 use std::io::ErrorKind;

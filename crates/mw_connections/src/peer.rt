@@ -1,13 +1,13 @@
-//! Defines the traits of a listener, of a place where connections wait for a worker, and of a client's connection.
+//! Defines the traits of a listener and of a client's connection.
 //!
-//! `sockets.rt` implements [`Listener`] and [`Connection`] for clients, `patience.rt` a listener over another one,
-//! `server.rt` implements [`Intake`], and tests have peers of their own. A new call needs a body in each.
+//! `sockets.rt` implements both for clients, `patience.rt` a listener over another one, and tests have peers of
+//! their own. A new call needs a body in each. mw_workers is generic over both.
 ghost use Rattle.std.specs.Prelude.{ℕ, ◌≡◌, List, Option};
 ghost use Rattle.std.specs.declared.result.Result.{Result as Outcome};
 ghost use Rattle.std.specs.declared.io.Error.{Error as IoError};
 ghost use Rattle.mw_session.specs.ServiceCalls.{AreAnswered};
 ghost use Rattle.mw_session.specs.StreamRecords.{ReadRecord, WriteRecord};
-ghost use Rattle.mw_workers.specs.Sessions.{IsSessionOf};
+ghost use Rattle.mw_connections.specs.Sessions.{IsSessionOf};
 
 use mw_session::{Ended, Others, Service};
 use std::alloc::Global;
@@ -29,17 +29,6 @@ pub trait Listener {
     /// one.
     fn accept(&mut self) -> io::Result<Self::Connection>
         ensures { accepts self.old result self.new };
-}
-
-/// Takes connections, which wait here for a worker.
-pub trait Intake<C> {
-    // Says which state may follow this one after the connection was put here.
-    ghost puts: { Self → C → Self → Type 0 };
-
-    /// Puts the connection here. There may never be room, so this may wait for ever. A connection that
-    /// can't wait here is closed.
-    fn put<R: Wait>(&mut self, rt: &R, connection: C)
-        ensures { puts self.old connection self.new };
 }
 
 /// A client's connection, to be served once. Dropping it closes it.

@@ -8,7 +8,7 @@ use Rattle.std.specs.declared.io.Error.{Error}
 use Rattle.std.specs.declared.io.ErrorKind.{ErrorKind}
 use Rattle.std.specs.declared.io.ErrorKind.TheVariants.{Interrupted, ConnectionAborted}
 use Rattle.std.specs.IoError.{error_kind}
-use Rattle.mw_workers.specs.declared.patience.TheConstants.{FIRST_PAUSE, LONGEST_PAUSE}
+use Rattle.mw_connections.specs.declared.patience.TheConstants.{FIRST_PAUSE, LONGEST_PAUSE}
 
 -- a fault about one client alone: the call was interrupted, or its client went away
 abbrev pub is_of_client : ErrorKind → Bool

@@ -1,6 +1,6 @@
 -- Defines how long a session may still wait for its client: which times run, and what is left of each limit.
--- Used by: the contracts of time_limits.rt and usher.rt. A change here changes when a client is sent away that is slow, or that
--- no worker serves. Times and lengths of time are in nanoseconds.
+-- Used by: the contracts of time_limits.rt. A change here changes when a client is sent away that is slow. Times and lengths
+-- of time are in nanoseconds.
 use Rattle.std.specs.Prelude.{◌≡◌, ◌||◌, ◌&&◌, is_some, ℕ, ◌-◌, ◌*◌, ◌==◌, min, max, length, Bool, true, false, List, Option, Some, None, slice_get, if◌then◌else◌}
 use Rattle.std.specs.List.{list_any}
 use Rattle.std.specs.Option.{option_map}
@@ -9,11 +9,11 @@ use Rattle.std.specs.Duration.{as_nanos}
 use Rattle.std.specs.declared.time.Duration.{Duration}
 use Rattle.std.specs.declared.time.Instant.{Instant}
 use Rattle.mw_frame.specs.Lines.{line_feed}
-use Rattle.mw_workers.specs.declared.time_limits.TheConstants.{LOOK}
-use Rattle.mw_workers.specs.declared.time_limits.Timing.{Timing}
-use Rattle.mw_workers.specs.declared.time_limits.Timing.TheVariants.{Stopped, Starting, Since}
-use Rattle.mw_workers.specs.declared.time_limits.Times.{Times}
-use Rattle.mw_workers.specs.declared.time_limits.WaitLimits.{WaitLimits}
+use Rattle.mw_connections.specs.declared.time_limits.TheConstants.{LOOK}
+use Rattle.mw_connections.specs.declared.time_limits.Timing.{Timing}
+use Rattle.mw_connections.specs.declared.time_limits.Timing.TheVariants.{Stopped, Starting, Since}
+use Rattle.mw_connections.specs.declared.time_limits.Times.{Times}
+use Rattle.mw_connections.specs.declared.time_limits.WaitLimits.{WaitLimits}
 
 -- a time that is to start runs from now on, and any other goes on as it is
 abbrev pub started_timing : Timing → Instant → Timing
@@ -103,13 +103,3 @@ needs_clock limits times = is_some limits.turn || (is_some limits.line && runs t
 -- At whatever time the next call begins, and whoever waits, it may wait for a whole silence.
 abbrev pub MayWaitASilence : WaitLimits → Times → Type 0
 MayWaitASilence limits times = (called : Instant) (others : Bool) → wait_left limits (started times called) called called others ≡ nanos limits.silence
-
--- a reading of the clock, if there is one
-abbrev pub moment : Option Instant → Option ℕ
-moment time = option_map instant_nanos time
-
--- How long a connection may still wait for a worker, by when it came. If a time isn't known, it may wait anew.
-abbrev pub still_to_wait : ℕ → Option ℕ → Option ℕ → ℕ
-still_to_wait wait None now = wait
-still_to_wait wait (Some came) None = wait
-still_to_wait wait (Some came) (Some now) = wait - (now - came)

@@ -1,0 +1,35 @@
+//! Connections of clients: what one is, what gives them, and both by TCP sockets and local sockets.
+//!
+//! A [`Listener`] gives connections. A [`Connection`] serves its client by one session, [`mw_session::Session::run`],
+//! and then lets it read what it was told. [`listen_at`] makes a listener at a TCP address or by a local socket.
+//!
+//! With [`TimeLimits`], a session by a socket also ends if its client sends no byte, or takes none of a reply, for so
+//! long, or if a line or a reply takes longer from its first byte to its last. Clients that send whole lines and take
+//! whole replies cost no reading of a clock for this.
+//!
+//! A connection is closed so that the client can read all that it was told. After the session's end,
+//! [`Connection::leave`] reads and drops what the client sends until the client closes its side, for a second at most.
+//!
+//! [`Patient`] is a listener over another one. When the system has no room for a connection, it waits,
+//! longer each time, and says so once.
+//!
+//! Each reply is sent at once: a TCP connection is set not to hold back what is written to it. If the
+//! system refuses that, the client is served all the same.
+//!
+//! mw_workers serves connections, and mw_programs listens for them. The proofs are about what a session read and wrote,
+//! and how long it may wait; of sockets they say nothing. What a client or an operator sees of it is in docs/PROTOCOL
+//! and docs/OPERATING: change them together.
+#![tactic(auto)]
+
+mod listening_socket;
+mod local;
+mod patience;
+mod peer;
+mod sockets;
+mod time_limits;
+mod timed_stream;
+
+pub use patience::{FIRST_PAUSE, LONGEST_PAUSE, Patient, RoomWatch};
+pub use peer::{Connection, Listener};
+pub use sockets::{Client, ClientListener, Closer, listen_at, port_of};
+pub use time_limits::TimeLimits;
