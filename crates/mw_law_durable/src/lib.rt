@@ -8,7 +8,7 @@
 //! - [`every_moment_keeps_changes`]: all passes. At each moment at which the shared words are under their rule, a crash
 //!   leaves a file with the change. So does a crash during the next call on that file, whoever makes it.
 //!
-//! Whatever a request was answered, each change is in such a file wholly or not at all.
+//! Not said: whose change the one at stake is. So of a change that was answered FAULT only the theorem speaks.
 //!
 //! Not said: that the two premises of the second law hold between two calls of an engine. The first is that the pass
 //! that was answered, and the file pass that the lock keeps, are of one table under its rule. The second is that the lock
