@@ -1,6 +1,9 @@
+pub mod Determined
 mod Fieldless
 pub mod Images
 mod Left
+mod Made
+pub mod MakesLaws
 pub mod Plans
 pub mod Remembered
 pub mod RunLaws

@@ -1,4 +1,5 @@
 pub mod Crash
+pub mod DeviceCalls
 pub mod Facts
 pub mod Memory
 pub mod Runs

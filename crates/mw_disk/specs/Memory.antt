@@ -2,8 +2,9 @@
 -- Used by: Crash, mw_file, mw_world_file, mw_simulator, mw_engine_tests, the contracts of edits.rt, event.rt, memory.rt and
 -- spans.rt. A change here changes what MemDisk promises (to tests, and to the simulated files of the world), and nothing of a
 -- real disk.
-use Rattle.std.specs.Prelude.{◌⊎◌, ◌==◌, ◌&&◌, nat_lt, nat_le, Some, None, Result, MatchResult, ◌≡◌, ℕ, ◌+◌, ◌-◌, Bool, true, false, List, [], ◌∷◌, ◌++◌, length, take, min, replicate, if◌then◌else◌, Option}
+use Rattle.std.specs.Prelude.{◌⊎◌, ◌==◌, ◌&&◌, nat_lt, nat_le, Some, None, ◌≡◌, ◌<◌, ℕ, ◌+◌, ◌-◌, Bool, true, false, List, [], ◌∷◌, ◌++◌, length, take, min, replicate, if◌then◌else◌, Option}
 use Rattle.std.specs.List.{flat_map, list_any}
+use Rattle.mw_disk.specs.DeviceCalls.{DeviceCall, ReadAt, WriteAt, Sync, Length}
 use Rattle.mw_disk.specs.Facts.{Facts, Torn, patched, most_counted}
 use Rattle.mw_disk.specs.declared.event.Event.{Event}
 use Rattle.mw_disk.specs.declared.event.Call.{Call}
@@ -140,16 +141,36 @@ missed_once m = record m { missed = min (m.missed + 1) most_counted; faults = mi
 abbrev pub refused_once : Memory → Memory
 refused_once m = record (missed_once m) { refused = min (m.refused + 1) most_counted }
 
--- How a failed call ends, by its turn. Stopped: without a trace. Fails: the disk remembers it, or memory was out. Goes: memory was out.
+-- How a write that failed ends, by its turn. Stopped: without a trace. Fails: the disk remembers it, or memory was out. Goes: memory
+-- was out.
 abbrev pub FailsAs : Call → Turn → Memory → Memory → Type 0
 FailsAs call Stopped old new = new ≡ missed_once old
 FailsAs call Fails old new = (new ≡ logged old call) ⊎ (new ≡ refused_once old)
 FailsAs call Goes old new = new ≡ refused_once old
 
--- how a call with this turn ends: as one that goes well is remembered, or as one that fails
-abbrev pub Answers : {T E : Type 0} → Result T E → Turn → Call → Call → Memory → Memory → Type 0
-Answers {T} {E} result turn well failed old new =
-    MatchResult result (λ (x : T). (turn ≡ Goes) × (new ≡ logged (begun old) well)) (λ (e : E). FailsAs failed turn (begun old) new)
+-- a call with this turn goes well
+abbrev pub goes_well : Turn → Bool
+goes_well Goes = true
+goes_well Fails = false
+goes_well Stopped = false
+
+-- The disk after a call with this turn that was begun, and was not refused memory. Goes: it remembers the call as one that went
+-- well. Fails: as one that failed. Stopped: the call failed without a trace.
+abbrev pub ended : Turn → Call → Call → Memory → Memory
+ended Goes well failed m = logged m well
+ended Fails well failed m = logged m failed
+ended Stopped well failed m = missed_once m
+
+-- how a call that takes no memory ends: its turn alone says whether it goes well, and which disk it leaves
+pub record Ends (ok : Bool) (turn : Turn) (well failed : Call) (old new : Memory) : Type 0 where
+  pub outcome : ok ≡ goes_well turn
+  pub leaves : new ≡ ended turn well failed (begun old)
+
+-- a call was refused memory, before the disk had stopped
+pub record IsRefused (ok : Bool) (turn : Turn) (old new : Memory) : Type 0 where
+  pub outcome : ok ≡ false
+  pub runs : turn ≡ Stopped → ⊥
+  pub leaves : new ≡ refused_once (begun old)
 
 -- the turn of a call that can go well only if this holds
 abbrev pub only_if : Bool → Turn → Turn
@@ -182,3 +203,17 @@ with_fault m k j = if (j + 1 == k) && nat_le (m.calls + k) most_counted then Som
 -- what is known of call j of the calls to come after all after the next k are made to fail
 abbrev pub with_stop : Memory → ℕ → ℕ → Option Bool
 with_stop m k j = if nat_le k j then Some false else plan_of m j
+
+-- How each call on a disk in memory ends. Only a write takes memory: it ends as its turn says, or is refused memory.
+abbrev pub memory_made : DeviceCall → Bool → Memory → Memory → Type 0
+memory_made (ReadAt at len) ok old new = Ends ok (read_turn old at len) (Quiet true) (Quiet false) old new
+memory_made (WriteAt at bytes) ok old new =
+    Ends ok (next_turn old) (Wrote at bytes) (Tore at (length bytes)) old new ⊎ IsRefused ok (next_turn old) old new
+memory_made Sync ok old new = Ends ok (next_turn old) Synced (Quiet false) old new
+memory_made Length ok old new = Ends ok (next_turn old) (Quiet true) (Quiet false) old new
+
+-- Calls led from one disk in memory to another, and none of them was refused memory: the count of those that were has not risen,
+-- and is below its last value, so that it would have.
+pub record NoneRefused (old new : Memory) : Type 0 where
+  pub room : old.refused < most_counted
+  pub none : new.refused ≡ old.refused

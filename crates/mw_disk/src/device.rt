@@ -3,7 +3,8 @@
 //! mw_file makes its calls, on a [`FileDisk`](crate::FileDisk) in the server and on a [`MemDisk`](crate::MemDisk)
 //! elsewhere. These contracts are the disk model, on which all that is said of crashes rests: a change of one changes
 //! what the server assumes. README, docs/PROMISES and docs/OPERATING refer to it.
-ghost use Rattle.std.specs.Prelude.{◌≡◌, ◌+◌, ◌≤◌, length, slice_range, is_ok, IsTrue, OnOk, IfOk};
+ghost use Rattle.std.specs.Prelude.{◌≡◌, ◌+◌, ◌≤◌, Bool, length, slice_range, is_ok, IsTrue, OnOk, IfOk};
+ghost use Rattle.mw_disk.specs.DeviceCalls.{DeviceCall, ReadAt, WriteAt, Sync, Length};
 ghost use Rattle.mw_disk.specs.Facts.{Facts, Called, Spares, NothingNew, TearsAt, Torn, IsSynced, patched};
 
 /// The device failed in this call.
@@ -29,8 +30,12 @@ pub trait Disk {
     /// What can be said of the disk at this moment.
     ghost facts: { Self → Facts };
 
+    /// This device call was made. It went well (true) or failed (false), and led from one disk to another.
+    ghost made: { DeviceCall → Bool → Self → Self → Type 0 };
+
     /// Fills the whole slice with the bytes from `at` on. After a fault the slice may hold anything.
     fn read_at(&mut self, at: u64, out: &mut [u8]) -> Result<(), DiskFault>
+        ensures made { made (ReadAt at (length out.old)) (is_ok result) self.old self.new }
         ensures call { Called (facts self.old) (facts self.new) (is_ok result) }
         ensures spared { at + length out.old ≤ length (facts self.old).reads
             → Spares (facts self.old) (facts self.new) (is_ok result) }
@@ -43,6 +48,7 @@ pub trait Disk {
     /// Writes these bytes from `at` on, over what is there and past the end. If `at` itself is past the end,
     /// the bytes from the old end on may be any.
     fn write_at(&mut self, at: u64, bytes: &[u8]) -> Result<(), DiskFault>
+        ensures made { made (WriteAt at bytes.now) (is_ok result) self.old self.new }
         ensures call { Called (facts self.old) (facts self.new) (is_ok result) }
         ensures spared { Spares (facts self.old) (facts self.new) (is_ok result) }
         ensures crash { IsTrue (facts self.old).honest
@@ -55,6 +61,7 @@ pub trait Disk {
 
     /// Makes what was written durable. If it goes well, a crash then leaves what a read gives.
     fn sync(&mut self) -> Result<(), DiskFault>
+        ensures made { made Sync (is_ok result) self.old self.new }
         ensures call { Called (facts self.old) (facts self.new) (is_ok result) }
         ensures spared { Spares (facts self.old) (facts self.new) (is_ok result) }
         ensures crash { IsTrue (facts self.old).honest → NothingNew (facts self.old) (facts self.new) }
@@ -63,6 +70,7 @@ pub trait Disk {
 
     /// Returns the number of bytes.
     fn len(&mut self) -> Result<u64, DiskFault>
+        ensures made { made Length (is_ok result) self.old self.new }
         ensures call { Called (facts self.old) (facts self.new) (is_ok result) }
         ensures spared { Spares (facts self.old) (facts self.new) (is_ok result) }
         ensures crash { IsTrue (facts self.old).honest → NothingNew (facts self.old) (facts self.new) }

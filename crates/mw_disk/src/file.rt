@@ -56,6 +56,8 @@ impl<F> FileDisk<F> {
 impl<F: FileExt + OpenFile> Disk for FileDisk<F> {
     ghost facts = { λ d. unknown d.faults };
 
+    ghost made = { λ _ _ _ _. Unit {0} };
+
     fn read_at(&mut self, at: u64, out: &mut [u8]) -> Result<(), DiskFault> {
         let read = if is_in_file(at, out.len()) {
             self.file.read_exact_at(out, at)

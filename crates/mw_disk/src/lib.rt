@@ -13,9 +13,11 @@ mod edits;
 mod event;
 mod file;
 mod history;
+mod laws;
 mod memory;
 mod spans;
 
 pub use device::{Disk, DiskFault};
 pub use file::FileDisk;
+pub use laws::{calls_determine_the_disk, torn_bytes_determine_the_image};
 pub use memory::MemDisk;

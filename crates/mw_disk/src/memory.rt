@@ -3,10 +3,11 @@
 //!
 //! Used by tests, and by the simulated files of mw_world_file; the server uses `FileDisk`. A change of a contract
 //! here is no change of the disk model, which is in `device.rt`.
-ghost use Rattle.std.specs.Prelude.{◌≡◌, ◌+◌, ◌≤◌, ℕ, min, [], length, slice_range, nat_le, nat_lt, true, false, Some, None, is_ok, IfOk, OnOk, OnErr};
+ghost use Rattle.std.specs.Prelude.{◌≡◌, ◌+◌, ◌≤◌, ℕ, min, [], length, slice_range, nat_le, nat_lt, true, false, Some, None, is_ok, IsOk, IfOk, OnOk, OnErr};
 ghost use Rattle.mw_disk.specs.Crash.{Tears, unsynced as unsynced_spans};
+ghost use Rattle.mw_disk.specs.DeviceCalls.{ReadAt, WriteAt, Sync, Length};
 ghost use Rattle.mw_disk.specs.Facts.{most_counted, Called, Spares, IsSynced, MayLeave, NothingNew, TearsAt, Torn, patched};
-ghost use Rattle.mw_disk.specs.Memory.{Memory, memory_facts, next_turn, read_turn, begun, logged, missed_once, refused_once, Answers, FailsAs, with_name, scripted, with_fault, with_stop, sooner};
+ghost use Rattle.mw_disk.specs.Memory.{Memory, memory_facts, next_turn, begun, logged, missed_once, refused_once, ended, FailsAs, memory_made, with_name, scripted, with_fault, with_stop, sooner};
 ghost use Rattle.mw_disk.specs.declared.event.Call.TheVariants.{Quiet, Wrote, Tore, Synced};
 
 use crate::device::{Disk, DiskFault};
@@ -65,8 +66,9 @@ impl Model for MemDisk {
 }
 
 impl MemDisk {
-    /// Makes a disk of these bytes, which is synced. The only error is that memory is out.
+    /// Makes a disk of these bytes, which is synced. It never fails.
     pub fn new(alloc: Global, bytes: Vec<u8>, script: Vec<u64>) -> Result<MemDisk, AllocError>
+        ensures sure { IsOk result }
         ensures made { IfOk result (λ disk. disk ≡ record {
           first = bytes.items;
           log = [];
@@ -98,8 +100,9 @@ impl MemDisk {
 
     /// Makes a disk of these bytes, which is synced, and stops it as [`MemDisk::stop_next`] does. Its next `k`
     /// calls go well, unless memory is out or a read is past the end. Each call after them fails and changes
-    /// nothing. The only error is that memory is out.
+    /// nothing. It never fails.
     pub fn stop_after(alloc: Global, bytes: Vec<u8>, k: u64) -> Result<MemDisk, AllocError>
+        ensures sure { IsOk result }
         ensures made { IfOk result (λ disk. disk ≡ record {
           first = bytes.items;
           log = [];
@@ -262,7 +265,7 @@ impl MemDisk {
     // Ends a call that must fail and is not a write.
     fn fail(&mut self, turn: Turn) -> DiskFault
         requires { turn ≡ Turn.Goes → ⊥ }
-        ensures { FailsAs (Quiet false) turn self.old self.new }
+        ensures { self.new ≡ ended turn (Quiet true) (Quiet false) self.old }
     {
         if turn == Turn::Stopped {
             return self.miss();
@@ -332,7 +335,10 @@ impl MemDisk {
 impl Disk for MemDisk {
     ghost facts = { memory_facts };
 
+    ghost made = { memory_made };
+
     fn read_at(&mut self, at: u64, out: &mut [u8]) -> Result<(), DiskFault>
+        ensures made { memory_made (ReadAt at (length out.old)) (is_ok result) self.old self.new }
         ensures call { Called (memory_facts self.old) (memory_facts self.new) (is_ok result) }
         ensures spared { at + length out.old ≤ length (memory_facts self.old).reads
             → Spares (memory_facts self.old) (memory_facts self.new) (is_ok result) }
@@ -340,8 +346,6 @@ impl Disk for MemDisk {
         ensures same { (memory_facts self.new).reads ≡ (memory_facts self.old).reads }
         ensures read { OnOk result ((at + length out.old ≤ length (memory_facts self.old).reads)
             × (out.new ≡ slice_range (memory_facts self.old).reads at (at + length out.old))) }
-        ensures answers { Answers result (read_turn self.old at (length out.old)) (Quiet true) (Quiet false)
-            self.old self.new }
     {
         let turn = self.begin();
         let turn = turn.only_if(self.holds(at, out.len()));
@@ -354,14 +358,13 @@ impl Disk for MemDisk {
     }
 
     fn write_at(&mut self, at: u64, bytes: &[u8]) -> Result<(), DiskFault>
+        ensures made { memory_made (WriteAt at bytes.now) (is_ok result) self.old self.new }
         ensures call { Called (memory_facts self.old) (memory_facts self.new) (is_ok result) }
         ensures spared { Spares (memory_facts self.old) (memory_facts self.new) (is_ok result) }
         ensures crash { TearsAt at (length bytes.now) (memory_facts self.old) (memory_facts self.new) }
         ensures torn { Torn at (length bytes.now) (memory_facts self.old).reads (memory_facts self.new).reads }
         ensures written { OnOk result (at ≤ length (memory_facts self.old).reads
             → (memory_facts self.new).reads ≡ patched (memory_facts self.old).reads at bytes.now) }
-        ensures answers { Answers result (next_turn self.old) (Wrote at bytes.now) (Tore at (length bytes.now))
-            self.old self.new }
     {
         let turn = self.begin();
         if turn != Turn::Goes {
@@ -374,12 +377,12 @@ impl Disk for MemDisk {
     }
 
     fn sync(&mut self) -> Result<(), DiskFault>
+        ensures made { memory_made Sync (is_ok result) self.old self.new }
         ensures call { Called (memory_facts self.old) (memory_facts self.new) (is_ok result) }
         ensures spared { Spares (memory_facts self.old) (memory_facts self.new) (is_ok result) }
         ensures crash { NothingNew (memory_facts self.old) (memory_facts self.new) }
         ensures same { (memory_facts self.new).reads ≡ (memory_facts self.old).reads }
         ensures durable { OnOk result (IsSynced (memory_facts self.new)) }
-        ensures answers { Answers result (next_turn self.old) Synced (Quiet false) self.old self.new }
     {
         let turn = self.begin();
         if turn != Turn::Goes {
@@ -390,12 +393,12 @@ impl Disk for MemDisk {
     }
 
     fn len(&mut self) -> Result<u64, DiskFault>
+        ensures made { memory_made Length (is_ok result) self.old self.new }
         ensures call { Called (memory_facts self.old) (memory_facts self.new) (is_ok result) }
         ensures spared { Spares (memory_facts self.old) (memory_facts self.new) (is_ok result) }
         ensures crash { NothingNew (memory_facts self.old) (memory_facts self.new) }
         ensures same { (memory_facts self.new).reads ≡ (memory_facts self.old).reads }
         ensures length { IfOk result (λ n. n ≡ length (memory_facts self.old).reads) }
-        ensures answers { Answers result (next_turn self.old) (Quiet true) (Quiet false) self.old self.new }
     {
         let turn = self.begin();
         if turn != Turn::Goes {

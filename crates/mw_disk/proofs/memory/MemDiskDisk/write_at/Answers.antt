@@ -1,7 +1,9 @@
 -- Proves goals of `MemDisk::write_at of Disk` (src/memory.rt) that the check does not prove by itself. Used by: the proof of
 -- that function alone. It may change freely as long as this crate checks.
-use Rattle.std.proofs.Common.{refl, ◌∙◌, rules}
+use Rattle.std.proofs.Common.{inl, length, refl, ◌∙◌, rules}
 use Rattle.mw_disk.proofs.Remembered.{went_called, went_spared, fails_called, fails_spared, refused_called, refused_spared, fails_tears, fails_torn, wrote_tears, wrote_torn, wrote_written}
+use Rattle.mw_disk.specs.declared.event.Call.TheVariants.{Wrote, Tore}
+use Rattle.mw_disk.proofs.Made.{went_ends, fails_made, refused_made}
 use Rattle.mw_disk.proofs.memory.MemDiskDisk.write_at.Goals as goal
 
 pub returns-then-ne-clause-crash : goal.returns-then-ne-clause-crash
@@ -36,3 +38,17 @@ returns-in-Err-clause-call c = refused_called _ _ _ (c.in-Err.ensures.err ∙ c.
 
 pub returns-in-Err-clause-spared : goal.returns-in-Err-clause-spared
 returns-in-Err-clause-spared c = refused_spared _ _ _ (c.in-Err.ensures.err ∙ c.begin-turn.ensures.begun) c.refuse.ensures
+
+pub returns-then-ne-clause-made : goal.returns-then-ne-clause-made
+returns-then-ne-clause-made c =
+    fails_made c.begin-turn.result c.args.at c.args.bytes.now _ _ _ c.begin-turn.ensures.turn (search rules) c.begin-turn.ensures.begun c.fail_write.ensures
+
+pub returns-in-Ok-clause-made : goal.returns-in-Ok-clause-made
+returns-in-Ok-clause-made c = inl
+    (went_ends _ c.begin-turn.result (Wrote c.args.at c.args.bytes.now) (Tore c.args.at (length c.args.bytes.now)) _ _ _ c.begin-turn.ensures.turn (search rules)
+    c.begin-turn.ensures.begun c.in-Ok.ensures.ok)
+
+pub returns-in-Err-clause-made : goal.returns-in-Err-clause-made
+returns-in-Err-clause-made c =
+    refused_made c.begin-turn.result c.args.at c.args.bytes.now _ _ _ c.begin-turn.ensures.turn (search rules)
+    (c.in-Err.ensures.err ∙ c.begin-turn.ensures.begun) c.refuse.ensures
