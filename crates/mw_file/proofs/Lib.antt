@@ -1,3 +1,4 @@
+mod CallLoops
 pub mod Bytes
 pub mod PlaceWrites
 pub mod Ended

@@ -1,3 +1,4 @@
+pub mod DeviceCalls
 pub mod Reopenings
 pub mod File
 pub mod RecoveryInvariant

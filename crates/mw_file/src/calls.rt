@@ -6,7 +6,8 @@
 //! `specs/PlaceStates` says which calls may be made, `specs/File` and `specs/RecoveryInvariant` how they end.
 //! docs/FILES tells the order of the device calls: change them together. README cites `seal`, docs/PROMISES `prepare`
 //! and `seal`.
-ghost use Rattle.std.specs.Prelude.{◌≡◌, ◌+◌, ◌≤◌, ◌<◌, ◌^◌, Some, length, IsTrue, IsSome, IfSome, is_some, IfOk, OnOk, OnErr};
+ghost use Rattle.std.specs.Prelude.{◌≡◌, ◌+◌, ◌≤◌, ◌<◌, ◌^◌, Some, length, IsTrue, IsSome, IfSome, is_some, is_ok, ℕ, [], ◌∷◌, IfOk, OnOk, OnErr};
+ghost use Rattle.mw_disk.specs.DeviceCalls.{WriteAt, Sync, Makes};
 ghost use Rattle.mw_disk.specs.Facts.{IsSynced, patched};
 ghost use Rattle.mw_disk.specs.Runs.{Later, Touched, Fits};
 ghost use Rattle.mw_file.specs.RollForward.{InRange};
@@ -25,7 +26,8 @@ use mw_words::Entries;
 use std::slice;
 
 impl<D: Disk> TenantFile<D> {
-    ghost use Rattle.mw_file.specs.File.{states_of, words_of, disk_of, Ends};
+    ghost use Rattle.mw_file.specs.DeviceCalls.{prepare_calls, seal_calls, settle_calls, MadeCalls};
+    ghost use Rattle.mw_file.specs.File.{states_of, words_of, at_of, disk_of, Ends};
     ghost use Rattle.mw_file.specs.RecoveryInvariant.{ContentsStay, ChangeIsSealed, FirstStays};
 
     /// Returns how many words the file has.
@@ -71,6 +73,8 @@ impl<D: Disk> TenantFile<D> {
         ensures lowest { IfOk result (λ p. spec.free_place (states_of self.old) ≡ Some p.0) }
         ensures staged { IfOk result (λ p. IsStaged (states_of self.old) (states_of self.new) p.0
             Stage.Prepared (pairs_of entries.now.items)) }
+        ensures made { (place : ℕ) → spec.free_place (states_of self.old) ≡ Some place
+            → MadeCalls D.made (prepare_calls (at_of self.old) (words_of self.old) place entries.now.items) self.old self.new result }
         ensures later { Later (D.facts (disk_of self.old)) (D.facts (disk_of self.new)) }
         ensures safe { ContentsStay D.facts self.old self.new }
         ensures first { FirstStays D.facts self.old self.new }
@@ -106,6 +110,7 @@ impl<D: Disk> TenantFile<D> {
         ensures ends { Ends D.facts 2 self.old self.new result }
         ensures staged { OnOk result (IsStaged (states_of self.old) (states_of self.new) place.0
             Stage.Sealed (writes_of_place (states_of self.old) place.0)) }
+        ensures made { MadeCalls D.made (seal_calls (at_of self.old) (words_of self.old) place.0) self.old self.new result }
         ensures later { Later (D.facts (disk_of self.old)) (D.facts (disk_of self.new)) }
         ensures safe { ChangeIsSealed D.facts self.old self.new (writes_of_place (states_of self.old) place.0) result }
         ensures first { FirstStays D.facts self.old self.new }
@@ -135,6 +140,8 @@ impl<D: Disk> TenantFile<D> {
         ensures ends { Ends D.facts (length (writes_of_place (states_of self.old) place.0) + 3) self.old self.new result }
         ensures staged { OnOk result (IsStaged (states_of self.old) (states_of self.new) place.0
             Stage.Free (writes_of_place (states_of self.old) place.0)) }
+        ensures made { MadeCalls D.made (settle_calls (at_of self.old) (words_of self.old) place.0
+            (writes_of_place (states_of self.old) place.0)) self.old self.new result }
         ensures later { Later (D.facts (disk_of self.old)) (D.facts (disk_of self.new)) }
         ensures safe { ContentsStay D.facts self.old self.new }
         ensures first { FirstStays D.facts self.old self.new }
@@ -193,6 +200,7 @@ fn free_place(states: &[PlaceState]) -> Option<u16>
 
 pub(crate) fn write_and_sync<D: Disk>(disk: &mut D, at: u64, bytes: &[u8]) -> Result<(), DiskFault>
     ensures calls { Ran 2 (D.facts disk.old) (D.facts disk.new) result }
+    ensures made { Makes D.made (WriteAt at bytes.now ∷ Sync ∷ []) (is_ok result) disk.old disk.new }
     ensures later { Later (D.facts disk.old) (D.facts disk.new) }
     ensures touched { IsTrue (D.facts disk.old).honest → Fits (D.facts disk.old) (at + length bytes.now)
         → Touched (InRange at (length bytes.now)) (D.facts disk.old) (D.facts disk.new) }

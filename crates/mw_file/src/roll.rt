@@ -1,8 +1,9 @@
 //! Rolls sealed changes forward (redo): writes their values into the home words, then clears their commit bytes.
 //!
 //! Called by `settle` and by an opening. Callers don't see it: it may change with `specs/RollForward`.
-ghost use Rattle.std.specs.Prelude.{◌≡◌, ◌+◌, ◌≤◌, ◌<◌, ◌^◌, ℕ, List, Some, length, drop, slice_index, IsTrue, OnOk, OnErr};
+ghost use Rattle.std.specs.Prelude.{◌≡◌, ◌+◌, ◌≤◌, ◌<◌, ◌^◌, ℕ, List, Some, length, drop, slice_index, map, is_ok, [], ◌∷◌, ◌++◌, IsTrue, OnOk, OnErr};
 ghost use Rattle.arrayvec.specs.ArrayVec.{array_vec_len};
+ghost use Rattle.mw_disk.specs.DeviceCalls.{Sync, Makes};
 ghost use Rattle.mw_disk.specs.Facts.{IsSynced};
 ghost use Rattle.mw_disk.specs.Runs.{Later, Touched, Fits, LeavesOnly};
 ghost use Rattle.mw_record.specs.declared.layout.Layout.TheVariants.{Second};
@@ -10,6 +11,7 @@ ghost use Rattle.mw_record.specs.declared.layout.TheConstants.{MAX_FIRST};
 ghost use Rattle.mw_record.specs.Layout as layout;
 ghost use Rattle.mw_record.specs.Records.{home, over, record_over, all_over};
 ghost use Rattle.mw_record.specs.Contents.{HasSecond};
+ghost use Rattle.mw_file.specs.DeviceCalls.{home_call, home_calls_of, home_calls, clear_calls_of, clear_calls, roll_device_calls};
 ghost use Rattle.mw_file.specs.Run.{Ran};
 ghost use Rattle.mw_file.specs.RollForward.{Behind, InRecord, InHomes, AtCommit, AtCommits, HasHomes, IsBelow, AreBelow, CanRoll, IsRolled, record_of, kept_of};
 ghost use Rattle.mw_file.specs.PlaceStates.{stage_of};
@@ -34,6 +36,7 @@ pub(crate) fn roll_forward<D: Disk>(
     requires near { at ≤ MAX_FIRST }
     requires few { first + length states.now < 2 ^ 16 }
     ensures calls { Ran (roll_calls states.now) (D.facts disk.old) (D.facts disk.new) result }
+    ensures made { Makes D.made (roll_device_calls at words first states.now) (is_ok result) disk.old disk.new }
     ensures later { Later (D.facts disk.old) (D.facts disk.new) }
     ensures moments { (places : ℕ) (contents : List ℕ) → CanRoll (D.facts disk.old) at words places first states.now contents
         → LeavesOnly (D.facts disk.old) (D.facts disk.new) (HasSecond at words places contents) }
@@ -52,6 +55,7 @@ pub(crate) fn roll_forward<D: Disk>(
 fn write_homes<D: Disk>(disk: &mut D, at: u64, states: &[PlaceState]) -> Result<(), DiskFault>
     requires { at ≤ MAX_FIRST }
     ensures calls { Ran (home_writes states.now + 1) (D.facts disk.old) (D.facts disk.new) result }
+    ensures made { Makes D.made (home_calls at states.now ++ Sync ∷ []) (is_ok result) disk.old disk.new }
     ensures later { Later (D.facts disk.old) (D.facts disk.new) }
     ensures touched { (words : ℕ) → HasHomes (D.facts disk.old) at words → AreBelow words states.now
         → Touched (Behind at (InHomes states.now)) (D.facts disk.old) (D.facts disk.new) }
@@ -70,6 +74,7 @@ fn write_homes<D: Disk>(disk: &mut D, at: u64, states: &[PlaceState]) -> Result<
 fn write_home<D: Disk>(disk: &mut D, at: u64, state: &PlaceState) -> Result<(), DiskFault>
     requires { at ≤ MAX_FIRST }
     ensures calls { Ran (home_writes_of state.now) (D.facts disk.old) (D.facts disk.new) result }
+    ensures made { Makes D.made (home_calls_of at state.now) (is_ok result) disk.old disk.new }
     ensures later { Later (D.facts disk.old) (D.facts disk.new) }
     ensures touched { (words : ℕ) → HasHomes (D.facts disk.old) at words → IsBelow words (record_of state.now)
         → Touched (Behind at (InRecord (record_of state.now))) (D.facts disk.old) (D.facts disk.new) }
@@ -85,6 +90,7 @@ fn write_home<D: Disk>(disk: &mut D, at: u64, state: &PlaceState) -> Result<(), 
 fn write_values<D: Disk>(disk: &mut D, at: u64, writes: &Writes) -> Result<(), DiskFault>
     requires { at ≤ MAX_FIRST }
     ensures calls { Ran (array_vec_len writes.now) (D.facts disk.old) (D.facts disk.new) result }
+    ensures made { Makes D.made (map (home_call at) writes.now.items) (is_ok result) disk.old disk.new }
     ensures later { Later (D.facts disk.old) (D.facts disk.new) }
     ensures touched { (words : ℕ) → HasHomes (D.facts disk.old) at words → IsBelow words (Some writes.now.items)
         → Touched (Behind at (InRecord (Some writes.now.items))) (D.facts disk.old) (D.facts disk.new) }
@@ -107,6 +113,7 @@ fn clear_commits<D: Disk>(
     requires near { at ≤ MAX_FIRST }
     requires few { first + length states.now < 2 ^ 16 }
     ensures calls { Ran (commit_writes states.now + 1) (D.facts disk.old) (D.facts disk.new) result }
+    ensures made { Makes D.made (clear_calls at words first states.now ++ Sync ∷ []) (is_ok result) disk.old disk.new }
     ensures later { Later (D.facts disk.old) (D.facts disk.new) }
     ensures touched { IsTrue (D.facts disk.old).honest → Fits (D.facts disk.old) (at + layout.place_at Second words (first + length states.now))
         → Touched (Behind at (AtCommits words first states.now)) (D.facts disk.old) (D.facts disk.new) }
@@ -126,6 +133,7 @@ fn clear_commits<D: Disk>(
 
 fn clear_commit<D: Disk>(disk: &mut D, commit: u64, state: &PlaceState) -> Result<(), DiskFault>
     ensures calls { Ran (commit_writes_of state.now) (D.facts disk.old) (D.facts disk.new) result }
+    ensures made { Makes D.made (clear_calls_of commit state.now) (is_ok result) disk.old disk.new }
     ensures later { Later (D.facts disk.old) (D.facts disk.new) }
     ensures touched { IsTrue (D.facts disk.old).honest → Fits (D.facts disk.old) (commit + 1)
         → Touched (AtCommit commit state.now) (D.facts disk.old) (D.facts disk.new) }

@@ -1,6 +1,6 @@
 -- Proves goals of `clear_commits` (src/roll.rt) that the check does not prove by itself. Used by: the proof of that function
 -- alone. It may change freely as long as this crate checks.
-use Rattle.std.proofs.Common.{◌<◌, ◌+◌, ◌∙◌, length, take, arith, ap, true, false}
+use Rattle.std.proofs.Common.{◌<◌, ◌≤◌, ◌+◌, [], ◌∷◌, ◌++◌, ◌∙◌, length, take, arith, ap, true, false}
 use Rattle.std.proofs.lemmas.List.{take_all}
 use Rattle.std.proofs.lemmas.List.Sums.{sum_by_more, sum_by_more_le}
 use Rattle.mw_disk.proofs.RunLaws.{bad_call, later_trans, still_honest, touched_trans, touched_quiet}
@@ -8,6 +8,11 @@ use Rattle.mw_record.specs.declared.layout.Layout.TheVariants.{Second}
 use Rattle.mw_record.specs.Layout.{place_at}
 use Rattle.mw_file.specs.PlaceStates.{commit_writes, commit_writes_of}
 use Rattle.mw_file.specs.RollForward.{Behind, AtCommits}
+use Rattle.mw_disk.specs.DeviceCalls.{Sync, Makes}
+use Rattle.mw_disk.proofs.Remembered.{on_err}
+use Rattle.mw_disk.proofs.MakesLaws.{makes_one, makes_after, makes_cut}
+use Rattle.mw_file.specs.DeviceCalls.{clear_calls}
+use Rattle.mw_file.proofs.CallLoops.{continues_next, continues_fall, continues_end, clears_from, no_clears}
 use Rattle.mw_file.proofs.Ran.{goes_on, stops}
 use Rattle.mw_file.proofs.RollLoop.{item_at, commit_there, commits_more, shut_more}
 use Rattle.mw_file.proofs.roll.clear_commits.Goals as goal
@@ -54,6 +59,8 @@ loop-state-preserved g c =
             commits_more start old new c.args.at c.args.words states k s lt here c.args.first c.place_at.result commit so_far.0 touched,
             shut_more start old new c.args.at c.args.words states k s lt here c.args.first c.place_at.result commit touched so_far.1 (c.in_ok-clear_commit.ensures.shut honest2 fits2),
           ),
+      continues_next g.D.Disk.made _ _ _ _ c.args.disk.now c.loop-state.disk c.clear_commit.new.disk c.loop-state.invariant.4
+          (clears_from c.args.at c.args.words c.args.first states k c.place_at.result s lt c.state-item.is commit) c.in_ok-clear_commit.ensures.made,
     )
 
 pub returns-in_err-clear_commit-clause-calls : goal.returns-in_err-clear_commit-clause-calls
@@ -94,3 +101,36 @@ returns-clause-touched g c honest fits =
     let honest2 = still_honest start mid c.loop-state.invariant.2 honest in
     touched_trans S start mid new (c.loop-state.invariant.3 honest fits).0
     (touched_quiet S mid new true c.in_ok-sync.ensures.call (c.in_ok-sync.ensures.crash honest2) (c.in_ok-sync.ensures.same honest2))
+
+pub returns-in_err-clear_commit-clause-made : goal.returns-in_err-clear_commit-clause-made
+returns-in_err-clear_commit-clause-made g c =
+    let states = c.args.states.now in
+    let k = c.loop-state.state-index in
+    let lt : k < length states = c.loop-state-test.true in
+    let all = clear_calls c.args.at c.args.words c.args.first states in
+    let commit = c.place_at.ensures ∙ ap (λ p. c.args.at + place_at Second c.args.words p) c.loop-state.invariant.0 in
+    on_err (λ ok. Makes g.D.Disk.made (all ++ Sync ∷ []) ok c.args.disk.now c.clear_commit.new.disk) _ c.from_residual.ensures.0
+    (makes_cut g.D.Disk.made all (Sync ∷ []) c.args.disk.now c.clear_commit.new.disk
+    (continues_fall g.D.Disk.made _ _ _ _ c.args.disk.now c.loop-state.disk c.clear_commit.new.disk c.loop-state.invariant.4
+    (clears_from c.args.at c.args.words c.args.first states k c.place_at.result c.state-item.result lt c.state-item.is commit) c.in_err-clear_commit.ensures.made))
+
+pub returns-in_err-sync-clause-made : goal.returns-in_err-sync-clause-made
+returns-in_err-sync-clause-made g c =
+    let states = c.args.states.now in
+    let k = c.loop-state.state-index in
+    let all = clear_calls c.args.at c.args.words c.args.first states in
+    let long : length states ≤ k = (let l = c.loop-state-test.false in omega arith) in
+    on_err (λ ok. Makes g.D.Disk.made (all ++ Sync ∷ []) ok c.args.disk.now c.sync.new.self) _ c.from_residual-in_err-sync.ensures.0
+    (makes_after g.D.Disk.made all (Sync ∷ []) false c.args.disk.now c.loop-state.disk c.sync.new.self
+    (continues_end g.D.Disk.made _ _ c.args.disk.now c.loop-state.disk c.loop-state.invariant.4 (no_clears c.args.at c.args.words c.args.first states k long))
+    (makes_one g.D.Disk.made Sync false _ _ c.in_err-sync.ensures.made))
+
+pub returns-clause-made : goal.returns-clause-made
+returns-clause-made g c =
+    let states = c.args.states.now in
+    let k = c.loop-state.state-index in
+    let all = clear_calls c.args.at c.args.words c.args.first states in
+    let long : length states ≤ k = (let l = c.loop-state-test.false in omega arith) in
+    makes_after g.D.Disk.made all (Sync ∷ []) true c.args.disk.now c.loop-state.disk c.sync.new.self
+    (continues_end g.D.Disk.made _ _ c.args.disk.now c.loop-state.disk c.loop-state.invariant.4 (no_clears c.args.at c.args.words c.args.first states k long))
+    (makes_one g.D.Disk.made Sync true _ _ c.in_ok-sync.ensures.made)

@@ -1,9 +1,13 @@
 -- Proves goals of `roll_forward` (src/roll.rt) that the check does not prove by itself. Used by: the proof of that function
 -- alone. It may change freely as long as this crate checks.
-use Rattle.std.proofs.Common.{◌+◌, arith}
+use Rattle.std.proofs.Common.{◌+◌, [], ◌∷◌, ◌++◌, true, false, arith}
 use Rattle.mw_file.specs.PlaceStates.{home_writes, commit_writes, roll_calls}
 use Rattle.mw_disk.proofs.RunLaws.{still_honest}
 use Rattle.mw_file.proofs.Rolled.{has_homes, are_below, homes_moments, homes_alone, homes_read, commits_fit, commits_moments, commits_alone, commits_read, rolled}
+use Rattle.mw_disk.specs.DeviceCalls.{Sync, Makes}
+use Rattle.mw_disk.proofs.Remembered.{on_err}
+use Rattle.mw_disk.proofs.MakesLaws.{makes_after, makes_cut}
+use Rattle.mw_file.specs.DeviceCalls.{home_calls, clear_calls}
 use Rattle.mw_file.proofs.Ran.{goes_on, stops}
 use Rattle.mw_file.proofs.roll.roll_forward.Goals as goal
 
@@ -175,3 +179,23 @@ returns-clause-touched g c places contents can =
     let fit = commits_fit start at words places first states contents can mid touched in
     let shut = c.clear_commits.ensures.touched honest fit in
     commits_alone start at words places first states contents can mid touched rest values new shut
+
+pub returns-in_err-write_homes-clause-made : goal.returns-in_err-write_homes-clause-made
+returns-in_err-write_homes-clause-made g c =
+    let homes = home_calls c.args.at c.args.states.now ++ Sync ∷ [] in
+    let clears = clear_calls c.args.at c.args.words c.args.first c.args.states.now ++ Sync ∷ [] in
+    on_err (λ ok. Makes g.D.Disk.made (homes ++ clears) ok c.args.disk.now c.write_homes.new.disk) _ c.from_residual.ensures.0
+    (makes_cut g.D.Disk.made homes clears _ _ c.in_err-write_homes.ensures.made)
+
+pub returns-in_err-clear_commits-clause-made : goal.returns-in_err-clear_commits-clause-made
+returns-in_err-clear_commits-clause-made g c =
+    let homes = home_calls c.args.at c.args.states.now ++ Sync ∷ [] in
+    let clears = clear_calls c.args.at c.args.words c.args.first c.args.states.now ++ Sync ∷ [] in
+    on_err (λ ok. Makes g.D.Disk.made (homes ++ clears) ok c.args.disk.now c.clear_commits.new.disk) _ c.from_residual-in_err-clear_commits.ensures.0
+    (makes_after g.D.Disk.made homes clears false _ _ _ c.in_ok-write_homes.ensures.made c.in_err-clear_commits.ensures.made)
+
+pub returns-clause-made : goal.returns-clause-made
+returns-clause-made g c =
+    let homes = home_calls c.args.at c.args.states.now ++ Sync ∷ [] in
+    let clears = clear_calls c.args.at c.args.words c.args.first c.args.states.now ++ Sync ∷ [] in
+    makes_after g.D.Disk.made homes clears true _ _ _ c.in_ok-write_homes.ensures.made c.in_ok-clear_commits.ensures.made

@@ -1,9 +1,14 @@
 -- Proves goals of `write_homes` (src/roll.rt) that the check does not prove by itself. Used by: the proof of that function
 -- alone. It may change freely as long as this crate checks.
-use Rattle.std.proofs.Common.{◌<◌, ◌+◌, length, take, arith, ap}
+use Rattle.std.proofs.Common.{◌<◌, ◌≤◌, ◌+◌, [], ◌∷◌, ◌++◌, true, false, length, take, arith, ap}
 use Rattle.std.proofs.lemmas.List.Sums.{sum_by_more, sum_by_more_le}
 use Rattle.mw_disk.proofs.RunLaws.{later_trans}
 use Rattle.mw_file.specs.PlaceStates.{home_writes, home_writes_of}
+use Rattle.mw_disk.specs.DeviceCalls.{Sync, Makes}
+use Rattle.mw_disk.proofs.Remembered.{on_err}
+use Rattle.mw_disk.proofs.MakesLaws.{makes_one, makes_after, makes_cut}
+use Rattle.mw_file.specs.DeviceCalls.{home_calls}
+use Rattle.mw_file.proofs.CallLoops.{continues_next, continues_fall, continues_end, homes_from, no_homes}
 use Rattle.mw_file.proofs.Ran.{goes_on, stops}
 use Rattle.mw_file.proofs.RollLoop.{item_at, below_item, homes_still_there, homes_more, values_more}
 use Rattle.mw_file.proofs.roll.write_homes.Goals as goal
@@ -53,4 +58,35 @@ loop-state-preserved g c =
             homes_more start old new c.args.at words states k s lt here so_far.0 (c.write_home.ensures.touched words has2 below2),
             λ addr low. values_more start old new c.args.at words states k s lt here addr (so_far.1 addr low) (c.in_ok-write_home.ensures.values words has2 below2 addr low),
           ),
+      continues_next g.D.Disk.made _ _ _ _ c.args.disk.now c.loop-state.disk c.write_home.new.disk c.loop-state.invariant.3
+          (homes_from c.args.at states k s lt c.state-item.is) c.in_ok-write_home.ensures.made,
     )
+
+pub returns-in_err-write_home-clause-made : goal.returns-in_err-write_home-clause-made
+returns-in_err-write_home-clause-made g c =
+    let states = c.args.states.now in
+    let k = c.loop-state.state-index in
+    let lt : k < length states = c.loop-state-test.true in
+    on_err (λ ok. Makes g.D.Disk.made (home_calls c.args.at states ++ Sync ∷ []) ok c.args.disk.now c.write_home.new.disk) _ c.from_residual.ensures.0
+    (makes_cut g.D.Disk.made (home_calls c.args.at states) (Sync ∷ []) c.args.disk.now c.write_home.new.disk
+    (continues_fall g.D.Disk.made _ _ _ _ c.args.disk.now c.loop-state.disk c.write_home.new.disk c.loop-state.invariant.3
+    (homes_from c.args.at states k c.state-item.result lt c.state-item.is) c.in_err-write_home.ensures.made))
+
+pub returns-in_err-sync-clause-made : goal.returns-in_err-sync-clause-made
+returns-in_err-sync-clause-made g c =
+    let states = c.args.states.now in
+    let k = c.loop-state.state-index in
+    let long : length states ≤ k = (let l = c.loop-state-test.false in omega arith) in
+    on_err (λ ok. Makes g.D.Disk.made (home_calls c.args.at states ++ Sync ∷ []) ok c.args.disk.now c.sync.new.self) _ c.from_residual-in_err-sync.ensures.0
+    (makes_after g.D.Disk.made (home_calls c.args.at states) (Sync ∷ []) false c.args.disk.now c.loop-state.disk c.sync.new.self
+    (continues_end g.D.Disk.made _ _ c.args.disk.now c.loop-state.disk c.loop-state.invariant.3 (no_homes c.args.at states k long))
+    (makes_one g.D.Disk.made Sync false _ _ c.in_err-sync.ensures.made))
+
+pub returns-clause-made : goal.returns-clause-made
+returns-clause-made g c =
+    let states = c.args.states.now in
+    let k = c.loop-state.state-index in
+    let long : length states ≤ k = (let l = c.loop-state-test.false in omega arith) in
+    makes_after g.D.Disk.made (home_calls c.args.at states) (Sync ∷ []) true c.args.disk.now c.loop-state.disk c.sync.new.self
+    (continues_end g.D.Disk.made _ _ c.args.disk.now c.loop-state.disk c.loop-state.invariant.3 (no_homes c.args.at states k long))
+    (makes_one g.D.Disk.made Sync true _ _ c.in_ok-sync.ensures.made)

@@ -1,12 +1,16 @@
 -- Proves goals of `write_values` (src/roll.rt) that the check does not prove by itself. Used by: the proof of that function
 -- alone. It may change freely as long as this crate checks.
-use Rattle.std.proofs.Common.{◌≡◌, true, false, drop, ◌^◌, ℕ, ◌≤◌, ◌+◌, ◌<◌, length, take, get_or, ap, ◌∙◌, arith, subst}
+use Rattle.std.proofs.Common.{◌≡◌, [], ◌∷◌, true, false, drop, ◌^◌, ℕ, ◌≤◌, ◌+◌, ◌<◌, length, take, map, get_or, ap, ◌∙◌, arith, subst}
 use Rattle.std.proofs.lemmas.List.{take_all}
 use Rattle.mw_disk.proofs.RunLaws.{good_call, called_later, later_trans, still_honest}
 use Rattle.mw_record.specs.declared.layout.TheConstants.{WORD_SIZE}
 use Rattle.mw_record.specs.Records.{Pairs, over, home}
 use Rattle.mw_record.specs.Layout.{home_at, number_bytes}
 use Rattle.mw_record.proofs.ReadBytes.{length-number_bytes}
+use Rattle.mw_disk.specs.DeviceCalls.{Makes}
+use Rattle.mw_disk.proofs.Remembered.{on_err}
+use Rattle.mw_file.specs.DeviceCalls.{home_call}
+use Rattle.mw_file.proofs.CallLoops.{continues_next, continues_fall, continues_end, values_from, no_values, one_value}
 use Rattle.mw_file.proofs.Ran.{goes_on}
 use Rattle.mw_file.proofs.OneWrite.{next_touched, next_put}
 use Rattle.mw_file.proofs.roll.write_values.Goals as goal
@@ -42,6 +46,13 @@ loop-write-preserved g c =
           let small = subst (λ (ws : Pairs). (get_or ws k (0, 0)).1 < 256 ^ WORD_SIZE) is c.home_word.ensures.fits in
           next_put start old c.args.at words c.args.writes.now.items k (c.loop-write.invariant.2 words has below) has below within new c.home_word.result c.home_at.result small block at
           c.in_ok-write_at.ensures.call (c.in_ok-write_at.ensures.crash honest) (c.in_ok-write_at.ensures.torn honest) (c.in_ok-write_at.ensures.written honest),
+      let is = c.as_slice-write-items.ensures.value in
+          let within : k < length c.args.writes.now.items = (let l = c.loop-write-test.true in let m = ap length is in omega arith) in
+          let at = c.home_at.ensures ∙ ap (λ (ws : Pairs). c.args.at + home_at (get_or ws k (0, 0)).0) is in
+          let block = c.home_word.ensures.bytes ∙ ap (λ (ws : Pairs). number_bytes WORD_SIZE (get_or ws k (0, 0)).1) is in
+          continues_next g.D.Disk.made _ _ (home_call c.args.at (get_or c.args.writes.now.items k (0, 0)) ∷ []) (map (home_call c.args.at) (drop (k + 1) c.args.writes.now.items)) c.args.disk.now c.loop-write.disk c.write_at.new.self c.loop-write.invariant.3
+          (values_from c.args.at c.args.writes.now.items k within)
+          (one_value g.D.Disk.made c.args.at (get_or c.args.writes.now.items k (0, 0)) c.home_at.result c.home_word.result true _ _ at block c.in_ok-write_at.ensures.made),
     )
 
 pub returns-clause-values : goal.returns-clause-values
@@ -53,3 +64,22 @@ returns-clause-values g c words has below addr lt =
     let all : over (take k writes) addr before ≡ over writes addr before = ap (λ ws. over ws addr before) (take_all k writes long) in
     let so_far : home (drop c.args.at (g.D.Disk.facts c.loop-write.disk).reads) addr ≡ over (take k writes) addr before = (c.loop-write.invariant.2 words has below).values addr lt in
     so_far ∙ all
+
+pub returns-in_err-write_at-clause-made : goal.returns-in_err-write_at-clause-made
+returns-in_err-write_at-clause-made g c =
+    let k = c.loop-write.write-index in
+    let is = c.as_slice-write-items.ensures.value in
+    let within : k < length c.args.writes.now.items = (let l = c.loop-write-test.true in let m = ap length is in omega arith) in
+    let at = c.home_at.ensures ∙ ap (λ (ws : Pairs). c.args.at + home_at (get_or ws k (0, 0)).0) is in
+    let block = c.home_word.ensures.bytes ∙ ap (λ (ws : Pairs). number_bytes WORD_SIZE (get_or ws k (0, 0)).1) is in
+    on_err (λ ok. Makes g.D.Disk.made (map (home_call c.args.at) c.args.writes.now.items) ok c.args.disk.now c.write_at.new.self) _ c.from_residual.ensures.0
+    (continues_fall g.D.Disk.made _ _ (home_call c.args.at (get_or c.args.writes.now.items k (0, 0)) ∷ []) (map (home_call c.args.at) (drop (k + 1) c.args.writes.now.items)) c.args.disk.now c.loop-write.disk c.write_at.new.self c.loop-write.invariant.3
+    (values_from c.args.at c.args.writes.now.items k within)
+    (one_value g.D.Disk.made c.args.at (get_or c.args.writes.now.items k (0, 0)) c.home_at.result c.home_word.result false _ _ at block c.in_err-write_at.ensures.made))
+
+pub returns-clause-made : goal.returns-clause-made
+returns-clause-made g c =
+    let writes = c.args.writes.now.items in
+    let k = c.loop-write.write-index in
+    let long : length writes ≤ k = (let l = c.loop-write-test.false in let m = ap length c.as_slice-write-items.ensures.value in omega arith) in
+    continues_end g.D.Disk.made _ _ c.args.disk.now c.loop-write.disk c.loop-write.invariant.3 (no_values c.args.at writes k long)

@@ -1,11 +1,14 @@
 -- Proves goals of `TenantFile::settle` (src/calls.rt) that the check does not prove by itself. Used by: the proof of that
 -- function alone. It may change freely as long as this crate checks.
-use Rattle.std.proofs.Common.{List, [], inl, subst, arith, ◌+◌, ap, length, refl, ◌∙◌, sym}
+use Rattle.std.proofs.Common.{List, Bool, true, false, [], inl, subst, arith, ◌+◌, ap, length, refl, ◌∙◌, sym}
 use Rattle.mw_disk.proofs.RunLaws.{leaves_wider}
 use Rattle.mw_file.specs.declared.place_states.PlaceState.{PlaceState}
 use Rattle.mw_file.specs.declared.place_states.Stage.TheVariants.{Sealed}
 use Rattle.mw_file.specs.PlaceStates.{roll_calls, writes_of_place}
 use Rattle.mw_file.specs.RollForward.{CanRoll, IsRolled}
+use Rattle.mw_disk.specs.DeviceCalls.{DeviceCall, Makes}
+use Rattle.mw_file.specs.DeviceCalls.{roll_device_calls}
+use Rattle.mw_file.proofs.CallLoops.{alone_device_calls, ok_or_err}
 use Rattle.mw_file.proofs.Ended.{went_well}
 use Rattle.mw_file.proofs.Safety.{safe_failed, safe_well, safe_same, settle_can, settle_moments, settle_durable}
 use Rattle.mw_file.proofs.Places.{state_at, state_there, alone_calls, staged_as}
@@ -125,3 +128,25 @@ returns-clause-first g c honest contents doubt was =
     let is = c.from_ref-alone.ensures.value in
     let can = subst (λ (ss : List PlaceState). CanRoll old at words (length states) place ss contents) (sym is) (settle_can old new at words contents states place durable there honest s item) in
     c.roll_forward.ensures.touched (length states) contents can
+
+pub returns-then-is_err-clause-made : goal.returns-then-is_err-clause-made
+returns-then-is_err-clause-made g c =
+    let file = c.args.self.now in
+    let place = c.args.place.0 in
+    let item = state_at file.states.items place c.index.result.now Sealed c.index.ensures c.requires (λ e. cc) in
+    let calls = ap (λ (ss : List PlaceState). roll_device_calls file.at file.words place ss) c.from_ref-alone.ensures.value
+    ∙ alone_device_calls file.at file.words place file.states.items c.index.result.now item c.requires in
+    let failed = ok_or_err c.roll_forward.result true (sym c.is_err.ensures.value ∙ c.if-is_err.true) in
+    subst (λ (l : List DeviceCall). Makes g.D.Disk.made l false file.disk c.roll_forward.new.disk) calls
+    (subst (λ (b : Bool). Makes g.D.Disk.made (roll_device_calls file.at file.words place c.from_ref-alone.result.now) b file.disk c.roll_forward.new.disk) failed c.roll_forward.ensures.made)
+
+pub returns-clause-made : goal.returns-clause-made
+returns-clause-made g c =
+    let file = c.args.self.now in
+    let place = c.args.place.0 in
+    let item = state_at file.states.items place c.index.result.now Sealed c.index.ensures c.requires (λ e. cc) in
+    let calls = ap (λ (ss : List PlaceState). roll_device_calls file.at file.words place ss) c.from_ref-alone.ensures.value
+    ∙ alone_device_calls file.at file.words place file.states.items c.index.result.now item c.requires in
+    let went = ok_or_err c.roll_forward.result false (sym c.is_err.ensures.value ∙ c.if-is_err.false) in
+    subst (λ (l : List DeviceCall). Makes g.D.Disk.made l true file.disk c.roll_forward.new.disk) calls
+    (subst (λ (b : Bool). Makes g.D.Disk.made (roll_device_calls file.at file.words place c.from_ref-alone.result.now) b file.disk c.roll_forward.new.disk) went c.roll_forward.ensures.made)
