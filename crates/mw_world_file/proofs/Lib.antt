@@ -2,9 +2,11 @@ pub mod ApartPlaces
 pub mod CalledDisks
 pub mod CrashedFiles
 pub mod EnoughPlaces
+pub mod ExactDisks
 pub mod KeptPlaces
 pub mod NewFiles
 pub mod OldFiles
+mod OneEnd
 pub mod OpenedFiles
 pub mod RestartedFiles
 pub mod SealedFiles

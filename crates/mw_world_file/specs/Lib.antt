@@ -1,6 +1,7 @@
 pub mod Books
 pub mod Calls
 pub mod Crashes
+pub mod DeviceCalls
 pub mod Devices
 pub mod Files
 pub mod FirstPlaces

@@ -16,6 +16,7 @@ use Rattle.mw_world_file.specs.declared.cut.Cut.{Cut}
 use Rattle.mw_world_file.specs.declared.book.SimulatedFile.{SimulatedFile}
 use Rattle.mw_world_file.specs.declared.faults.BookFault.{BookFault}
 use Rattle.mw_world_file.specs.declared.faults.BookFault.TheVariants.{NotEnabled, Memory}
+use Rattle.mw_world_file.specs.DeviceCalls.{cut_list, LedBy}
 use Rattle.mw_world_file.specs.Devices.{disk_under}
 use Rattle.mw_world_file.specs.Files.{File, entries_at}
 use Rattle.mw_world_file.specs.Openings.{CameOfBytes}
@@ -70,6 +71,19 @@ pub record IsTornImage (disk : Disk) (torn image : List ℕ) : Type 0 where
 abbrev pub until : Disk → ℕ → Disk
 until disk made = record disk { stop = Some (sooner disk.stop made) }
 
+-- The disk of a book when all stopped. It is the book's disk if no device call was under way. Else the call under way led to it,
+-- from the book's disk with a stop after just as many device calls as the cut says.
+pub record IsCutDisk (old : SimulatedFile) (cut : Option Cut) (stopped : Disk) : Type 0 where
+  pub same : made_of cut ≡ 0 → stopped ≡ disk_under old.device
+  pub well : Bool
+  pub led : 1 ≤ made_of cut → LedBy (cut_list old cut) well (until (disk_under old.device) (made_of cut)) stopped
+
+-- A crash leaves this image of that disk, with these torn bytes.
+pub record IsCutImage (old : SimulatedFile) (cut : Option Cut) (torn image : List ℕ) : Type 0 where
+  pub stopped : Disk
+  pub is_stopped : IsCutDisk old cut stopped
+  pub tears : Tears (unsynced stopped.log) torn (length torn) (memory_facts stopped).reads image
+
 -- Exactly `made` device calls went well since. No other was made, or one more was made and failed.
 abbrev pub RanJust : ℕ → Facts → Facts → Type 0
 RanJust made old new = Good made old new ⊎ ((calls : ℕ) × (bad : Bad calls old new) × (bad.well ≡ made))
@@ -84,12 +98,13 @@ pub record IsLeftOf (disk : Disk) (made : ℕ) (torn image : List ℕ) : Type 0 
   pub image_is : IsTornImage stopped torn image
 
 -- A start may find these bytes of the book's file, with these torn bytes. They represent these words, and are left of
--- the book's disk.
+-- the book's disk by just the device calls of the call under way.
 pub record IsLeft (old : SimulatedFile) (file : File) (cut : Option Cut) (torn words image : List ℕ) : Type 0 where
   pub made : may_be_made file (quota_of old) cut ≡ true
   pub has : file_words image ≡ Some words
   pub found : may_find (is_sealed_left file (quota_of old) cut) file.contents (doubt_left file (quota_of old) cut) words ≡ true
   pub left : IsLeftOf (disk_under old.device) (made_of cut) torn image
+  pub exact : IsCutImage old cut torn image
 
 -- The start found bytes that it may find, and opened them; one of the opening's device calls may fail so. The new book,
 -- with this quota, is that of the file after the opening, with as many places as before, on the disk that the opening

@@ -6,7 +6,7 @@ ghost use Rattle.std.specs.Prelude.{◌≡◌, ◌<◌, ◌≤◌, ℕ, List, le
 ghost use Rattle.mw_words.specs.Change.{is_change};
 ghost use Rattle.mw_disk.specs.Memory.{memory_facts, with_fault};
 ghost use Rattle.mw_record.specs.Records.{Pairs};
-ghost use Rattle.mw_file.specs.File.{disk_of, words_of, states_of, has_failed};
+ghost use Rattle.mw_file.specs.File.{disk_of, at_of, words_of, states_of, has_failed};
 ghost use Rattle.mw_file.specs.RecoveryInvariant.{RecoversTo};
 ghost use Rattle.mw_world_file.specs.declared.device.Device.TheVariants.{Open};
 ghost use Rattle.mw_world_file.specs.Devices.{told, is_clear, AreKept, IsReady};
@@ -64,6 +64,7 @@ fn copy_for(
     outcome: Outcome,
 ) -> Result<TenantFile<MemDisk>, AllocError>
     ensures states { IfOk result (λ copy. states_of copy ≡ states_of file.now) }
+    ensures at { IfOk result (λ copy. at_of copy ≡ at_of file.now) }
     ensures words { IfOk result (λ copy. words_of copy ≡ words_of file.now) }
     ensures failed { IfOk result (λ copy. has_failed copy ≡ has_failed file.now) }
     ensures disk { IfOk result (λ copy. outcome ≡ Outcome.Good → disk_of copy ≡ disk_of file.now) }
@@ -101,6 +102,7 @@ impl SimulatedFile {
     ghost use Rattle.mw_words.specs.declared.jobs.Entry.{Entry};
     ghost use Rattle.mw_world_file.specs.Crashes.{CrashesDoNoHarm};
     ghost use Rattle.mw_world_file.specs.CallEffects.{Works, CameOf};
+    ghost use Rattle.mw_world_file.specs.DeviceCalls.{CameExactly};
 
     /// Makes a call on the file for the change of a slot, with these entries. Returns a new book, of the file
     /// after the call. Its disk is a copy of this book's disk, on which the call made its device calls, up to
@@ -122,6 +124,7 @@ impl SimulatedFile {
         requires formed { call ≡ Call.Prepare → IsTrue (is_change (length self.now.contents.items) entries.now.items) }
         ensures works { Works self.now call slot entries.now.items outcome result }
         ensures disk { CameOf self.now call slot outcome result }
+        ensures exact { CameExactly self.now call slot entries.now.items outcome result }
         ensures moments { CrashesDoNoHarm self.now call slot result }
     {
         match call {
@@ -144,6 +147,7 @@ impl SimulatedFile {
         requires formed { IsTrue (is_change (length self.now.contents.items) entries.now.items) }
         ensures works { Works self.now Call.Prepare slot entries.now.items outcome result }
         ensures disk { CameOf self.now Call.Prepare slot outcome result }
+        ensures exact { CameExactly self.now Call.Prepare slot entries.now.items outcome result }
         ensures moments { CrashesDoNoHarm self.now Call.Prepare slot result }
     {
         let Device::Open(held) = &self.device else {
@@ -211,6 +215,7 @@ impl SimulatedFile {
         requires { self.now.has_failed ≡ false }
         ensures works { (entries : List Entry) → Works self.now Call.Seal slot entries outcome result }
         ensures disk { CameOf self.now Call.Seal slot outcome result }
+        ensures exact { (entries : List Entry) → CameExactly self.now Call.Seal slot entries outcome result }
         ensures moments { CrashesDoNoHarm self.now Call.Seal slot result }
     {
         let place = self.place_of[slot as usize];
@@ -251,6 +256,7 @@ impl SimulatedFile {
         requires { self.now.has_failed ≡ false }
         ensures works { (entries : List Entry) → Works self.now Call.Settle slot entries outcome result }
         ensures disk { CameOf self.now Call.Settle slot outcome result }
+        ensures exact { (entries : List Entry) → CameExactly self.now Call.Settle slot entries outcome result }
         ensures moments { CrashesDoNoHarm self.now Call.Settle slot result }
     {
         let place = self.place_of[slot as usize];
@@ -285,6 +291,7 @@ impl SimulatedFile {
     fn cancel(&self, alloc: Global, slot: u8, outcome: Outcome) -> Result<SimulatedFile, BookFault>
         ensures works { (entries : List Entry) → Works self.now Call.Cancel slot entries outcome result }
         ensures disk { CameOf self.now Call.Cancel slot outcome result }
+        ensures exact { (entries : List Entry) → CameExactly self.now Call.Cancel slot entries outcome result }
         ensures moments { CrashesDoNoHarm self.now Call.Cancel slot result }
     {
         let place = self.place_of[slot as usize];

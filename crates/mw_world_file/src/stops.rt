@@ -5,7 +5,7 @@
 ghost use Rattle.std.specs.Prelude.{◌≡◌, ℕ, List, Some, false, slice_get, MatchOption, IfOk};
 ghost use Rattle.mw_disk.specs.Memory.{memory_facts, with_stop};
 ghost use Rattle.mw_record.specs.Records.{Pairs};
-ghost use Rattle.mw_file.specs.File.{disk_of, words_of, states_of, has_failed};
+ghost use Rattle.mw_file.specs.File.{disk_of, at_of, words_of, states_of, has_failed};
 ghost use Rattle.mw_file.specs.RecoveryInvariant.{RecoversTo};
 ghost use Rattle.mw_world_file.specs.Files.{is_prepared, is_sealed};
 ghost use Rattle.mw_world_file.specs.Devices.{place_in};
@@ -31,6 +31,7 @@ fn copy_until(
     calls: u64,
 ) -> Result<TenantFile<MemDisk>, AllocError>
     ensures states { IfOk result (λ copy. states_of copy ≡ states_of file.now) }
+    ensures at { IfOk result (λ copy. at_of copy ≡ at_of file.now) }
     ensures words { IfOk result (λ copy. words_of copy ≡ words_of file.now) }
     ensures failed { IfOk result (λ copy. has_failed copy ≡ has_failed file.now) }
     ensures disk { IfOk result (λ copy. disk_of copy ≡ until (disk_of file.now) calls) }

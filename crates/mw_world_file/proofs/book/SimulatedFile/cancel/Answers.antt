@@ -12,6 +12,7 @@ use Rattle.mw_world_file.proofs.SealedFiles.{ends_well, none_shut, is_prepared_i
 use Rattle.mw_world_file.specs.declared.outcomes.Outcome.TheVariants.{Good, Fail}
 use Rattle.mw_world_file.proofs.CalledDisks.{came_well}
 use Rattle.mw_world_file.proofs.CrashedFiles.{stays_safe}
+use Rattle.mw_world_file.proofs.ExactDisks.{exactly_none}
 use Rattle.mw_world_file.proofs.book.SimulatedFile.cancel.Goals as goal
 
 pub cancel-requires : goal.cancel-requires
@@ -59,3 +60,9 @@ pub returns-clause-moments : goal.returns-clause-moments
 returns-clause-moments c =
     stays_safe c.args.self.now c.in_ok-emptied.field-0 c.in-Open.held c.in_ok-file.file c.cancel.new.self c.args.slot Good c.in-Open.is c.in_ok-emptied.ensures.is_device
     (λ well. c.in_ok-file.ensures.same.disk) (λ number bad. absurd (let e : Good ≡ Fail number = bad in cc)) c.in_ok-file.ensures.keeps Cancel (λ file. refl) c.cancel.ensures.safe
+
+pub returns-clause-exact : goal.returns-clause-exact
+returns-clause-exact c others =
+    let may : may_end 0 c.args.outcome ≡ true = ap (λ n. may_end n c.args.outcome) (sym c.device_calls.ensures) ∙ sym c.may_end.ensures ∙ c.if-not-may_end.false in
+    exactly_none c.args.self.now c.in_ok-emptied.field-0 c.in-Open.held c.cancel.new.self c.args.slot others c.args.outcome c.in-Open.is c.in_ok-emptied.ensures.is_device (ends_well c.args.outcome may)
+    (ap disk_of c.cancel.ensures.rest ∙ c.in_ok-file.ensures.same.disk)

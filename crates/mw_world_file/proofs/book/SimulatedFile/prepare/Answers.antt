@@ -1,15 +1,18 @@
 -- Proves goals of `SimulatedFile::prepare` (src/calls.rt) that the check does not prove by itself. Used by: the proof of that
 -- function alone. It may change freely as long as this crate checks.
-use Rattle.std.proofs.Common.{◌∙◌, ◌≤◌, true, false, length, sym, ap, refl, arith, rules}
+use Rattle.std.proofs.Common.{Ok, get_or, ◌∙◌, ◌≤◌, true, false, length, sym, ap, refl, arith, rules}
 use Rattle.mw_words.specs.declared.limits.TheConstants.{MAX_POOL}
 use Rattle.mw_look.specs.declared.steps.Call.TheVariants.{Prepare}
 use Rattle.mw_record.specs.Layout.{pairs_of}
 use Rattle.mw_file.specs.declared.place_states.Stage.TheVariants.{Prepared as PreparedStage}
 use Rattle.mw_world_file.specs.declared.places.Place.TheVariants.{Prepared as KeptPrepared}
 use Rattle.mw_world_file.specs.CallEffects.{may_end}
-use Rattle.mw_world_file.proofs.WorkedFiles.{none_empty, found, is_found, place_within, kept_after, prepare_done, prepare_broken, refused}
+use Rattle.mw_world_file.proofs.WorkedFiles.{none_empty, found, is_found, place_within, kept_after, prepare_done, prepare_broken, refused, unfailed_open}
 use Rattle.mw_world_file.proofs.CalledDisks.{came_to_fault}
 use Rattle.mw_world_file.proofs.CrashedFiles.{stays_safe}
+use Rattle.mw_file.specs.File.{at_of, words_of, states_of}
+use Rattle.mw_world_file.specs.DeviceCalls.{call_list_at}
+use Rattle.mw_world_file.proofs.ExactDisks.{exactly_well, exactly_badly, prepare_listed, made_badly}
 use Rattle.mw_world_file.proofs.book.SimulatedFile.prepare.Goals as goal
 
 pub returns-then-not-has_empty-clause-works : goal.returns-then-not-has_empty-clause-works
@@ -77,3 +80,19 @@ pub returns-in_ok-broken-in-Fail-clause-moments : goal.returns-in_ok-broken-in-F
 returns-in_ok-broken-in-Fail-clause-moments c =
     stays_safe c.args.self.now c.in_ok-broken-in-Fail.field-0 c.in-Open.held c.in_ok-file.file c.prepare-made.new.self c.args.slot c.args.outcome c.in-Open.is c.in_ok-broken-in-Fail.ensures.is_device
     c.in_ok-file.ensures.disk c.in_ok-file.ensures.failing c.in_ok-file.ensures.keeps Prepare (λ file. refl) c.prepare-made.ensures.safe
+
+pub returns-in_ok-prepared-in-Ok-clause-exact : goal.returns-in_ok-prepared-in-Ok-clause-exact
+returns-in_ok-prepared-in-Ok-clause-exact c =
+    exactly_well c.args.self.now c.in_ok-prepared-in-Ok.field-0 c.in-Open.held c.in_ok-file.file c.prepare-made.new.self Prepare c.args.slot c.args.entries.now.items c.args.outcome c.in-Open.is c.in_ok-prepared-in-Ok.ensures.is_device c.requires.sound c.in-Good.is
+    (c.in_ok-file.ensures.disk c.in-Good.is) c.in_ok-file.ensures.at c.in_ok-file.ensures.words c.in_ok-file.ensures.states c.in-Ok.ensures.ends.made.refused
+    (prepare_listed c.in_ok-file.file c.prepare-made.new.self (get_or c.args.self.now.place_of c.args.slot 0) c.args.entries.now.items (Ok c.in-Ok.place) (is_found c.args.self.now c.in-Open.held c.args.slot c.args.entries.now c.in-Open.is
+    (found c.args.self.now c.deref.result.now c.has_empty.result true c.deref.ensures.value c.has_empty.ensures c.if-not-has_empty.false) c.in_ok-file.file c.in_ok-file.ensures.states) c.in-Ok.ensures.made)
+
+pub returns-in_ok-broken-in-Fail-clause-exact : goal.returns-in_ok-broken-in-Fail-clause-exact
+returns-in_ok-broken-in-Fail-clause-exact c =
+    exactly_badly c.args.self.now c.in_ok-broken-in-Fail.field-0 c.in-Open.held c.in_ok-file.file c.prepare-made.new.self Prepare c.args.slot c.args.entries.now.items c.args.outcome c.in-Fail.field-0 c.in-Open.is c.in_ok-broken-in-Fail.ensures.is_device c.requires.sound
+    c.in-Fail.is (c.in_ok-file.ensures.failing c.in-Fail.field-0 c.in-Fail.is) c.in_ok-file.ensures.at c.in_ok-file.ensures.words c.in_ok-file.ensures.states
+    (omega (arith, c.refused.ensures, c.refused-else-is_ok.ensures, c.if-refused.false))
+    (made_badly (call_list_at (at_of c.in_ok-file.file) (words_of c.in_ok-file.file) (states_of c.in_ok-file.file) Prepare (get_or c.args.self.now.place_of c.args.slot 0) c.args.entries.now.items) c.in_ok-file.file c.prepare-made.new.self _ c.prepare-made.result (c.in_ok-file.ensures.failed ∙ unfailed_open c.args.self.now c.in-Open.held c.in-Open.is c.requires.sound) (sym c.is_ok.ensures.value ∙ c.if-is_ok.false)
+    c.prepare-made.ensures.ends (prepare_listed c.in_ok-file.file c.prepare-made.new.self (get_or c.args.self.now.place_of c.args.slot 0) c.args.entries.now.items c.prepare-made.result (is_found c.args.self.now c.in-Open.held c.args.slot c.args.entries.now c.in-Open.is
+    (found c.args.self.now c.deref.result.now c.has_empty.result true c.deref.ensures.value c.has_empty.ensures c.if-not-has_empty.false) c.in_ok-file.file c.in_ok-file.ensures.states) c.prepare-made.ensures.made))

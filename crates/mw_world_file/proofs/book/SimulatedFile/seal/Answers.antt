@@ -12,6 +12,9 @@ use Rattle.mw_world_file.proofs.CrashedFiles.{seal_safe}
 use Rattle.mw_file.specs.File.{has_failed}
 use Rattle.mw_file.proofs.Ended.{ended_well, went_well}
 use Rattle.mw_disk.specs.Memory.{memory_facts}
+use Rattle.mw_file.specs.File.{at_of, words_of, states_of}
+use Rattle.mw_world_file.specs.DeviceCalls.{call_list_at}
+use Rattle.mw_world_file.proofs.ExactDisks.{exactly_well, exactly_badly, made_well, made_badly}
 use Rattle.mw_world_file.proofs.book.SimulatedFile.seal.Goals as goal
 
 pub returns-then-not-is_apart-clause-works : goal.returns-then-not-is_apart-clause-works
@@ -107,3 +110,18 @@ returns-in_ok-broken-in-Fail-clause-moments c =
     seal_safe old c.in_ok-broken-in-Fail.field-0 c.in-Open.held c.in_ok-file.file c.seal-made.new.self c.args.slot c.args.outcome c.in-Open.is c.in_ok-broken-in-Fail.ensures.is_device
     c.in_ok-file.ensures.disk c.in_ok-file.ensures.failing c.in_ok-file.ensures.keeps (get_or old.place_of c.args.slot 0) es at c.in_ok-file.ensures.states c.seal-made.result unfailed 2
     c.seal-made.ensures.ends c.seal-made.ensures.safe
+
+pub returns-in_ok-with_place-in-Good-clause-exact : goal.returns-in_ok-with_place-in-Good-clause-exact
+returns-in_ok-with_place-in-Good-clause-exact c others =
+    let fine : is_err c.seal-made.result ≡ false = sym c.is_err.ensures.value ∙ c.if-is_err.false in
+    exactly_well c.args.self.now c.in_ok-with_place-in-Good.field-0 c.in-Open.held c.in_ok-file.file c.seal-made.new.self Seal c.args.slot others c.args.outcome c.in-Open.is c.in_ok-with_place-in-Good.ensures.is_device c.requires c.in-Good.is
+    (c.in_ok-file.ensures.disk c.in-Good.is) c.in_ok-file.ensures.at c.in_ok-file.ensures.words c.in_ok-file.ensures.states (ended_well memory_facts 2 c.in_ok-file.file c.seal-made.new.self c.seal-made.result fine c.seal-made.ensures.ends).made.refused
+    (made_well (call_list_at (at_of c.in_ok-file.file) (words_of c.in_ok-file.file) (states_of c.in_ok-file.file) Seal (get_or c.args.self.now.place_of c.args.slot 0) others) c.in_ok-file.file c.seal-made.new.self c.seal-made.result fine c.seal-made.ensures.made)
+
+pub returns-in_ok-broken-in-Fail-clause-exact : goal.returns-in_ok-broken-in-Fail-clause-exact
+returns-in_ok-broken-in-Fail-clause-exact c others =
+    exactly_badly c.args.self.now c.in_ok-broken-in-Fail.field-0 c.in-Open.held c.in_ok-file.file c.seal-made.new.self Seal c.args.slot others c.args.outcome c.in-Fail.field-0 c.in-Open.is c.in_ok-broken-in-Fail.ensures.is_device c.requires
+    c.in-Fail.is (c.in_ok-file.ensures.failing c.in-Fail.field-0 c.in-Fail.is) c.in_ok-file.ensures.at c.in_ok-file.ensures.words c.in_ok-file.ensures.states
+    (omega (arith, c.refused.ensures, c.refused-else-is_ok.ensures, c.if-refused.false))
+    (made_badly (call_list_at (at_of c.in_ok-file.file) (words_of c.in_ok-file.file) (states_of c.in_ok-file.file) Seal (get_or c.args.self.now.place_of c.args.slot 0) others) c.in_ok-file.file c.seal-made.new.self _ c.seal-made.result (c.in_ok-file.ensures.failed ∙ unfailed_open c.args.self.now c.in-Open.held c.in-Open.is c.requires) (sym c.is_ok.ensures.value ∙ c.if-is_ok.false)
+    c.seal-made.ensures.ends c.seal-made.ensures.made)

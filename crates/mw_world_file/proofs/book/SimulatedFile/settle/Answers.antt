@@ -9,10 +9,13 @@ use Rattle.mw_world_file.specs.Files.{entries_in}
 use Rattle.mw_world_file.specs.Devices.{told_at}
 use Rattle.mw_world_file.specs.Calls.{device_calls}
 use Rattle.mw_world_file.specs.CallEffects.{may_end}
-use Rattle.mw_world_file.proofs.WorkedFiles.{is_at, IsAt}
+use Rattle.mw_world_file.proofs.WorkedFiles.{is_at, IsAt, unfailed_open}
 use Rattle.mw_world_file.proofs.CalledDisks.{came_well, came_to_fault}
 use Rattle.mw_world_file.proofs.CrashedFiles.{stays_safe}
 use Rattle.mw_world_file.proofs.SealedFiles.{is_sealed_in, sealed_writes, emptied_kept, settle_done, settle_broken}
+use Rattle.mw_file.specs.File.{at_of, words_of, states_of}
+use Rattle.mw_world_file.specs.DeviceCalls.{call_list_at}
+use Rattle.mw_world_file.proofs.ExactDisks.{exactly_well, exactly_badly, made_well, made_badly}
 use Rattle.mw_world_file.proofs.book.SimulatedFile.settle.Goals as goal
 
 pub settle-made-requires : goal.settle-made-requires
@@ -87,3 +90,18 @@ pub returns-in_ok-broken-in-Fail-clause-moments : goal.returns-in_ok-broken-in-F
 returns-in_ok-broken-in-Fail-clause-moments c =
     stays_safe c.args.self.now c.in_ok-broken-in-Fail.field-0 c.in-Open.held c.in_ok-file.file c.settle-made.new.self c.args.slot c.args.outcome c.in-Open.is c.in_ok-broken-in-Fail.ensures.is_device
     c.in_ok-file.ensures.disk c.in_ok-file.ensures.failing c.in_ok-file.ensures.keeps Settle (λ file. refl) c.settle-made.ensures.safe
+
+pub returns-in_ok-emptied-in-Good-clause-exact : goal.returns-in_ok-emptied-in-Good-clause-exact
+returns-in_ok-emptied-in-Good-clause-exact c others =
+    let fine : is_err c.settle-made.result ≡ false = sym c.is_err.ensures.value ∙ c.if-is_err.false in
+    exactly_well c.args.self.now c.in_ok-emptied-in-Good.field-0 c.in-Open.held c.in_ok-file.file c.settle-made.new.self Settle c.args.slot others c.args.outcome c.in-Open.is c.in_ok-emptied-in-Good.ensures.is_device c.requires c.in-Good.is
+    (c.in_ok-file.ensures.disk c.in-Good.is) c.in_ok-file.ensures.at c.in_ok-file.ensures.words c.in_ok-file.ensures.states (ended_well memory_facts _ c.in_ok-file.file c.settle-made.new.self c.settle-made.result fine c.settle-made.ensures.ends).made.refused
+    (made_well (call_list_at (at_of c.in_ok-file.file) (words_of c.in_ok-file.file) (states_of c.in_ok-file.file) Settle (get_or c.args.self.now.place_of c.args.slot 0) others) c.in_ok-file.file c.settle-made.new.self c.settle-made.result fine c.settle-made.ensures.made)
+
+pub returns-in_ok-broken-in-Fail-clause-exact : goal.returns-in_ok-broken-in-Fail-clause-exact
+returns-in_ok-broken-in-Fail-clause-exact c others =
+    exactly_badly c.args.self.now c.in_ok-broken-in-Fail.field-0 c.in-Open.held c.in_ok-file.file c.settle-made.new.self Settle c.args.slot others c.args.outcome c.in-Fail.field-0 c.in-Open.is c.in_ok-broken-in-Fail.ensures.is_device c.requires
+    c.in-Fail.is (c.in_ok-file.ensures.failing c.in-Fail.field-0 c.in-Fail.is) c.in_ok-file.ensures.at c.in_ok-file.ensures.words c.in_ok-file.ensures.states
+    (omega (arith, c.refused.ensures, c.refused-else-is_ok.ensures, c.if-refused.false))
+    (made_badly (call_list_at (at_of c.in_ok-file.file) (words_of c.in_ok-file.file) (states_of c.in_ok-file.file) Settle (get_or c.args.self.now.place_of c.args.slot 0) others) c.in_ok-file.file c.settle-made.new.self _ c.settle-made.result (c.in_ok-file.ensures.failed ∙ unfailed_open c.args.self.now c.in-Open.held c.in-Open.is c.requires) (sym c.is_ok.ensures.value ∙ c.if-is_ok.false)
+    c.settle-made.ensures.ends c.settle-made.ensures.made)

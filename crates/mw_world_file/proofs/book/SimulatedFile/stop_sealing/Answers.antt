@@ -12,6 +12,7 @@ use Rattle.mw_world_file.specs.declared.places.Place.TheVariants.{Prepared as Ke
 use Rattle.mw_world_file.proofs.WorkedFiles.{IsAt, is_there, told_there, unfailed_open}
 use Rattle.mw_world_file.proofs.SealedFiles.{all_clear, may_seal_it, seal_suits, unprepared, writes_are}
 use Rattle.mw_world_file.proofs.StoppedFiles.{not_suited, left_cut, left_of, sealed_left, sealed_whole, doubt_sealing, part_of_seal, whole_seal}
+use Rattle.mw_world_file.proofs.ExactDisks.{cut_image}
 use Rattle.mw_world_file.proofs.book.SimulatedFile.stop_sealing.Goals as goal
 
 pub returns-in_default : goal.returns-in_default
@@ -56,6 +57,10 @@ returns-then-cut-device_calls-2 c file shows =
     (left_of old c.in-Open.held c.in_ok-file.file c.seal-sealed.new.self cut.made _ c.args.torn.now c.in_ok-crash.field-0.items c.seal-sealed.result c.in-Open.is c.requires.sound c.requires.some
     (omega (arith, c.if-cut-device_calls.false, c.device_calls.ensures)) c.in_ok-file.ensures.disk c.in_ok-file.ensures.plan c.in_ok-file.ensures.failed c.seal-sealed.ensures.ends (omega (arith, c.refused.ensures, c.refused-2.ensures, c.if-refused.false))
     c.seal-sealed.ensures.later (record { may = c.in_ok-crash.ensures.image; tears = c.in_ok-crash.ensures.torn }))
+    (cut_image old cut Seal c.in-Open.held c.in_ok-file.file c.seal-sealed.new.self _ c.args.torn.now c.in_ok-crash.field-0.items c.seal-sealed.result c.requires.call c.in-Open.is c.requires.sound c.requires.some
+    c.in_ok-file.ensures.disk c.in_ok-file.ensures.at c.in_ok-file.ensures.words c.in_ok-file.ensures.states c.in_ok-file.ensures.failed c.seal-sealed.ensures.ends
+    (omega (arith, c.refused.ensures, c.refused-2.ensures, c.if-refused.false)) c.seal-sealed.ensures.made
+    (record { may = c.in_ok-crash.ensures.image; tears = c.in_ok-crash.ensures.torn }))
 
 pub returns : goal.returns
 returns c file shows =
@@ -77,3 +82,7 @@ returns c file shows =
     (left_of old c.in-Open.held c.in_ok-file.file c.seal-sealed.new.self cut.made _ c.args.torn.now c.in_ok-crash-2.field-0.items c.seal-sealed.result c.in-Open.is c.requires.sound c.requires.some
     (omega (arith, c.if-cut-device_calls.false, c.device_calls.ensures)) c.in_ok-file.ensures.disk c.in_ok-file.ensures.plan c.in_ok-file.ensures.failed c.seal-sealed.ensures.ends (omega (arith, c.refused.ensures, c.refused-2.ensures, c.if-refused.false))
     c.seal-sealed.ensures.later (record { may = c.in_ok-crash-2.ensures.image; tears = c.in_ok-crash-2.ensures.torn }))
+    (cut_image old cut Seal c.in-Open.held c.in_ok-file.file c.seal-sealed.new.self _ c.args.torn.now c.in_ok-crash-2.field-0.items c.seal-sealed.result c.requires.call c.in-Open.is c.requires.sound c.requires.some
+    c.in_ok-file.ensures.disk c.in_ok-file.ensures.at c.in_ok-file.ensures.words c.in_ok-file.ensures.states c.in_ok-file.ensures.failed c.seal-sealed.ensures.ends
+    (omega (arith, c.refused.ensures, c.refused-2.ensures, c.if-refused.false)) c.seal-sealed.ensures.made
+    (record { may = c.in_ok-crash-2.ensures.image; tears = c.in_ok-crash-2.ensures.torn }))

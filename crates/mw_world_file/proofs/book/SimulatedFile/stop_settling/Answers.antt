@@ -10,6 +10,7 @@ use Rattle.mw_world_file.specs.declared.places.Place.TheVariants.{Sealed as Kept
 use Rattle.mw_world_file.proofs.WorkedFiles.{IsAt, is_there, told_there}
 use Rattle.mw_world_file.proofs.SealedFiles.{unsettled, settle_suits, is_sealed_in, sealed_writes}
 use Rattle.mw_world_file.proofs.StoppedFiles.{not_suited, too_many, left_cut, left_of, stays_left}
+use Rattle.mw_world_file.proofs.ExactDisks.{cut_image}
 use Rattle.mw_world_file.proofs.book.SimulatedFile.stop_settling.Goals as goal
 
 pub returns-in_default : goal.returns-in_default
@@ -53,3 +54,7 @@ returns c file shows =
     (left_of old c.in-Open.held c.in_ok-file.file c.settle.new.self cut.made _ c.args.torn.now c.in_ok-crash.field-0.items c.settle.result c.in-Open.is c.requires.sound c.requires.some
     (omega (arith, writes, counted, c.if-cut-device_calls.false)) c.in_ok-file.ensures.disk c.in_ok-file.ensures.plan c.in_ok-file.ensures.failed c.settle.ensures.ends (omega (arith, c.refused.ensures, c.refused-2.ensures, c.if-refused.false))
     c.settle.ensures.later (record { may = c.in_ok-crash.ensures.image; tears = c.in_ok-crash.ensures.torn }))
+    (cut_image old cut Settle c.in-Open.held c.in_ok-file.file c.settle.new.self _ c.args.torn.now c.in_ok-crash.field-0.items c.settle.result c.requires.call c.in-Open.is c.requires.sound c.requires.some
+    c.in_ok-file.ensures.disk c.in_ok-file.ensures.at c.in_ok-file.ensures.words c.in_ok-file.ensures.states c.in_ok-file.ensures.failed c.settle.ensures.ends
+    (omega (arith, c.refused.ensures, c.refused-2.ensures, c.if-refused.false)) c.settle.ensures.made
+    (record { may = c.in_ok-crash.ensures.image; tears = c.in_ok-crash.ensures.torn }))

@@ -1,0 +1,37 @@
+//! Laws of a simulated file: a book and an event determine what comes of them. Each is the contract of an empty function.
+//!
+//! Nothing that runs calls them. They say that an event of the simulator has one end, unless memory is out.
+ghost use Rattle.std.specs.Prelude.{◌≡◌, ℕ, Bool, List, Option, Ok, Err};
+ghost use Rattle.mw_words.specs.declared.jobs.Entry.{Entry};
+ghost use Rattle.mw_look.specs.declared.steps.Call.{Call};
+ghost use Rattle.mw_world_file.specs.declared.book.SimulatedFile.{SimulatedFile};
+ghost use Rattle.mw_world_file.specs.declared.cut.Cut.{Cut};
+ghost use Rattle.mw_world_file.specs.declared.outcomes.Outcome.{Outcome};
+ghost use Rattle.mw_world_file.specs.declared.faults.BookFault.TheVariants.{NotEnabled};
+ghost use Rattle.mw_world_file.specs.Books.{Represents};
+ghost use Rattle.mw_world_file.specs.DeviceCalls.{CameExactly};
+ghost use Rattle.mw_world_file.specs.Devices.{disk_under};
+ghost use Rattle.mw_world_file.specs.Files.{File};
+ghost use Rattle.mw_world_file.specs.Recovery.{IsCutImage, Restarts};
+
+/// From one book the same call, with the same outcome, leads to one disk.
+pub fn calls_lead_to_one_disk()
+    ensures { (old one other : SimulatedFile) (call : Call) (slot : ℕ) (entries : List Entry) (outcome : Outcome)
+        → CameExactly old call slot entries outcome (Ok one) → CameExactly old call slot entries outcome (Ok other)
+        → disk_under one.device ≡ disk_under other.device }
+{}
+
+/// A stop leaves one image of a book's file, for the same call under way and the same torn bytes.
+pub fn stops_leave_one_image()
+    ensures { (old : SimulatedFile) (cut : Option Cut) (torn one other : List ℕ) → IsCutImage old cut torn one → IsCutImage old cut torn other → one ≡ other }
+{}
+
+/// Two starts of one book after the same stop and with the same torn bytes find the same words, and both take the
+/// change in doubt or neither does. A start that can be made is never refused as one that can't.
+pub fn restarts_have_one_end()
+    ensures same { (old : SimulatedFile) (file : File) (cut : Option Cut) (torn : List ℕ) (fails_at : Option ℕ) (quota : ℕ) (one other : SimulatedFile) (took also : Bool)
+        → Represents old file → Restarts old cut torn fails_at quota (Ok (one, took)) → Restarts old cut torn fails_at quota (Ok (other, also))
+        → (one.contents.items ≡ other.contents.items) × (took ≡ also) }
+    ensures enabled { (old : SimulatedFile) (file : File) (cut : Option Cut) (torn : List ℕ) (fails_at : Option ℕ) (quota : ℕ) (one : SimulatedFile) (took : Bool)
+        → Represents old file → Restarts old cut torn fails_at quota (Ok (one, took)) → Restarts old cut torn fails_at quota (Err NotEnabled) → ⊥ }
+{}
