@@ -1,3 +1,4 @@
 pub mod LineTextLaws
 pub mod FirstLines
 mod OneAnswer
+mod FormRules

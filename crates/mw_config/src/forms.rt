@@ -2,13 +2,16 @@
 //!
 //! mw_opening calls [`broken_rule`] for the note about a refused line. It may change with `specs/Forms`: it decides
 //! the text of a note alone, and not what is refused.
-ghost use Rattle.std.specs.Prelude.{◌≡◌};
+ghost use Rattle.std.specs.Prelude.{◌≡◌, ◌&&◌, MatchOption};
 ghost use Rattle.std.specs.List.{list_all};
+ghost use Rattle.mw_line.specs.Number as number;
+ghost use Rattle.mw_words.specs.Name as name_spec;
+ghost use Rattle.mw_config.specs.LineTexts.{HasNoLine};
 ghost use Rattle.mw_config.specs.Forms as spec;
+ghost use Rattle.mw_config.specs.Forms.{AreFields, BeginsWithLine, Breaks, Fields, FieldsBreak, IsFirstBroken, LineBreaks};
 
-use crate::lines::{are_path_bytes, is_path};
-use mw_line::{address_at as number_at, field};
-use mw_words::is_name;
+use mw_line::field;
+use mw_words::{MAX_PATH, is_name};
 
 /// A rule of the form that each line of a tenants file has, `name words quota path`.
 #[derive(Clone, Copy, Debug)]
@@ -44,10 +47,14 @@ impl FormRule {
     }
 }
 
-/// Gives the first rule of its form that the first line of `text` breaks, if it breaks one. It checks the
-/// rules in the order of [`FormRule`].
+/// Gives the first rule of its form that the first line of `text` breaks, in the order of [`FormRule`]. Gives none
+/// exactly if `text` begins with a line of the form.
+///
+/// A text without a line feed breaks the rule of the line feed alone. The rules of the name, the words, the quota
+/// and the path are for a line of four fields alone.
 pub fn broken_rule(text: &[u8]) -> Option<FormRule>
-    ensures { result ≡ spec.rule_in_front text.now }
+    ensures first { IsFirstBroken (λ rule. Breaks rule text.now) result }
+    ensures line { MatchOption result (BeginsWithLine text.now) (λ rule. HasNoLine text.now) }
 {
     match field(b'\n', text) {
         Some((line, _)) => rule_of_line(line),
@@ -57,47 +64,71 @@ pub fn broken_rule(text: &[u8]) -> Option<FormRule>
 
 /// Gives the first rule that a line without its line feed breaks.
 fn rule_of_line(line: &[u8]) -> Option<FormRule>
-    ensures { result ≡ spec.rule_of_line line.now }
+    ensures { IsFirstBroken (λ rule. LineBreaks rule line.now) result }
 {
     if !are_line_bytes(line) {
         return Some(FormRule::Bytes);
     }
+    match fields_of(line) {
+        Some((name, words, quota, path)) => rule_of_fields(name, words, quota, path),
+        None => Some(FormRule::Fields),
+    }
+}
+
+/// Gives the four fields of a line: its name, words, quota and path.
+fn fields_of(line: &[u8]) -> Option<(&[u8], &[u8], &[u8], &[u8])>
+    ensures { MatchOption result ((fields : Fields) → AreFields line.now fields → ⊥)
+        (λ x. AreFields line.now (spec.as_fields x.0.now x.1.now x.2.now x.3.now)) }
+{
     let Some((name, rest)) = field(b' ', line) else {
-        return Some(FormRule::Fields);
+        return None;
     };
     let Some((words, rest)) = field(b' ', rest) else {
-        return Some(FormRule::Fields);
+        return None;
     };
     let Some((quota, path)) = field(b' ', rest) else {
-        return Some(FormRule::Fields);
+        return None;
     };
-    rule_of_fields(name, words, quota, path)
+    if !are_fields(name, words, quota, path) {
+        return None;
+    }
+    Some((name, words, quota, path))
 }
 
 /// Gives the first rule that these fields break.
 fn rule_of_fields(name: &[u8], words: &[u8], quota: &[u8], path: &[u8]) -> Option<FormRule>
-    ensures { result ≡ spec.rule_of_fields name.now words.now quota.now path.now }
+    ensures { IsFirstBroken (λ rule. FieldsBreak rule (spec.as_fields name.now words.now quota.now path.now)) result }
 {
-    if !are_fields(words, quota, path) {
-        Some(FormRule::Fields)
-    } else if !is_name(name) {
+    if !is_name(name) {
         Some(FormRule::Name)
     } else if !is_number(words) {
         Some(FormRule::Words)
     } else if !is_number(quota) {
         Some(FormRule::Quota)
-    } else if !is_path(path) {
+    } else if path.len() > MAX_PATH {
         Some(FormRule::Path)
     } else {
         None
     }
 }
 
-/// Tells whether none of these fields is empty, and the last one has no space.
-fn are_fields(words: &[u8], quota: &[u8], path: &[u8]) -> bool
-    ensures { result ≡ spec.are_fields words.now quota.now path.now }
+/// Tells whether none of these texts is empty or has a space.
+fn are_fields(name: &[u8], words: &[u8], quota: &[u8], path: &[u8]) -> bool
+    ensures { result ≡ (spec.is_field name.now && spec.is_field words.now && spec.is_field quota.now && spec.is_field path.now) }
 {
-    !words.is_empty() && !quota.is_empty() && !path.is_empty() && are_path_bytes(path)
+    is_field(name) && is_field(words) && is_field(quota) && is_field(path)
+}
+
+fn is_field(text: &[u8]) -> bool
+    ensures { result ≡ spec.is_field text.now }
+{
+    !text.is_empty() && lacks_spaces(text)
+}
+
+fn lacks_spaces(text: &[u8]) -> bool
+    ensures { result ≡ spec.lacks 32 text.now }
+{
+    text.iter().all(|byte| *byte != b' ')
 }
 
 fn are_line_bytes(text: &[u8]) -> bool
@@ -106,11 +137,19 @@ fn are_line_bytes(text: &[u8]) -> bool
     text.iter().all(|byte| (b' '..=b'~').contains(byte))
 }
 
+/// Tells whether a text is a number: a 0 alone, or a digit from 1 to 9 and then any digits.
 fn is_number(text: &[u8]) -> bool
-    ensures { result ≡ spec.is_number text.now }
+    ensures { result ≡ number.is_number_text text.now }
 {
-    match number_at(text) {
-        Some((_, rest)) => rest.is_empty(),
-        None => false,
+    match text {
+        [b'0', rest @ ..] => rest.is_empty(),
+        [b'1'..=b'9', rest @ ..] => are_digits(rest),
+        _ => false,
     }
+}
+
+fn are_digits(text: &[u8]) -> bool
+    ensures { result ≡ list_all name_spec.is_digit text.now }
+{
+    text.iter().all(|byte| (b'0'..=b'9').contains(byte))
 }
