@@ -1,7 +1,7 @@
 -- The first broken rule of a line's fields is that of the line, and that of a text's first line is that of the text. A text
 -- breaks a rule exactly if it begins with no line.
 -- Used by: the proofs of broken_rule, rule_of_line and fields_of. It may change freely as long as this crate checks.
-use Rattle.std.proofs.Common.{◌≡◌, ℕ, ◌<◌, ◌≤◌, eqb, leb, ltb, leb-true, le-leb, eq-eqb, Bool, true, false, not, List, [], ◌∷◌, ◌++◌, length, Option, Some, None, MatchOption, refl, sym, ap, subst, ◌∙◌, inl, inr, ◌⊎◌, arith, append_assoc, ◌&&◌}
+use Rattle.std.proofs.Common.{◌≡◌, ℕ, ◌<◌, ◌≤◌, eqb, leb, leb-true, le-leb, eq-eqb, Bool, true, false, not, List, [], ◌∷◌, ◌++◌, length, Option, Some, None, MatchOption, refl, sym, ap, subst, ◌∙◌, inl, inr, ◌⊎◌, arith, append_assoc, ◌&&◌}
 use Rattle.std.specs.Prelude.{codes}
 use Rattle.std.specs.List.{list_all}
 use Rattle.std.proofs.lemmas.Bool.{cases_lt}
@@ -14,13 +14,12 @@ use Rattle.mw_words.specs.Name.{is_name, is_name_byte, is_digit}
 use Rattle.mw_line.specs.Number.{numeral, is_number_text}
 use Rattle.mw_line.specs.LineReader.{◌>>=◌, field_at}
 use Rattle.mw_line.proofs.Entries.{bind_some, cases_cond_is}
-use Rattle.mw_line.proofs.Fronts.{cases_eqb}
 use Rattle.mw_line.proofs.Numerals.{number_texts_are}
 use Rattle.mw_config.specs.declared.forms.FormRule.{FormRule}
 use Rattle.mw_config.specs.declared.forms.FormRule.TheVariants as rule
 use Rattle.mw_config.specs.LineTexts.{Line, IsLine, HasNoLine, spelling, is_path, is_path_byte}
 use Rattle.mw_config.specs.LineReader.{line_at}
-use Rattle.mw_config.specs.Forms.{lacks, IsFirstLine, Fields, as_fields, is_field, AreFields, FieldsBreak, is_line_byte, LineBreaks, Breaks, place_of, IsFirstBroken, BeginsWithLine}
+use Rattle.mw_config.specs.Forms.{lacks, IsFirstLine, Fields, as_fields, is_field, AreFields, FieldsBreak, is_line_byte, LineBreaks, Breaks, IsFirstBroken, BeginsWithLine}
 use Rattle.mw_config.proofs.LineTextLaws.{both_true, field_again, field_found, line_found, none_there}
 
 -- ---- tests
@@ -372,9 +371,13 @@ none_gives : (text : List ℕ) (found : Option (List ℕ × List ℕ)) → field
 none_gives text None e none no_line = none rule.LineFeed (none_lacks 10 text e)
 none_gives text (Some found) e none no_line =
     let first = first_line text found.0 found.1 e in
-    none rule.Fields (found.0, first, λ f a.
-    let begins = line_of_fields text found.0 f first a none in
-    no_line begins.line begins.after begins.formed begins.spelled)
+    none rule.Fields (
+      found.0,
+      first,
+      λ f a.
+          let begins = line_of_fields text found.0 f first a none in
+          no_line begins.line begins.after begins.formed begins.spelled,
+    )
 
 begins_if : (text : List ℕ) (read : Option (Line × List ℕ)) → line_at (λ n. n) text ≡ read → ((which : FormRule) → Breaks which text → ⊥) → BeginsWithLine text
 begins_if text None e none = absurd (none_gives text (field_at 10 text) refl none (none_there (λ n. n) text e))

@@ -91,6 +91,29 @@ const OWNERS_MODE: u32 = 0o600;
 /// The largest file mode of a local socket: everybody may do everything.
 pub const MAX_SOCKET_MODE: u32 = 0o777;
 
+/// A rule of how the options of a command line go together, of which clap knows nothing. Its text says what it asks.
+#[derive(Clone, Copy, Debug, Error)]
+pub enum OptionRule {
+    /// There is exactly one of `--listen` and `--script`.
+    #[error("give exactly one of --listen and --script")]
+    OneMode,
+    /// An option of `--listen` needs it.
+    #[error("--script takes no option of --listen")]
+    OfListen,
+    /// A file mode is at most [`MAX_SOCKET_MODE`], in octal digits.
+    #[error("--mode is 0 to 777, in octal digits")]
+    FileMode,
+    /// Readers are for shared workers alone.
+    #[error("--readers needs --clients")]
+    Shared,
+    /// One worker at least is no reader.
+    #[error("--clients needs more --workers than --readers, and so at least 2")]
+    Changes,
+    /// The tenants file is given, and each number is in its range. Clap refuses first what breaks this rule.
+    #[error("give --tenants, and each number in its range")]
+    Given,
+}
+
 /// Tells why a command line is not served.
 #[derive(Debug, Drop, Error)]
 pub enum ArgFault {
@@ -98,10 +121,9 @@ pub enum ArgFault {
     /// version.
     #[error("{0}")]
     Refused(clap::Error),
-    /// It hasn't exactly one of `--listen` and `--script`; or it has an option of `--listen` with `--script`; or
-    /// its `--mode` is no file mode; or it has `--readers` without `--clients`; or no worker is left for changes.
-    #[error("mwserve: refused 1 command")]
-    Mode,
+    /// Its options break this rule.
+    #[error("mwserve: refused 1 command: {0}")]
+    Mode(OptionRule),
     /// Memory was refused.
     #[error("mwserve: memory")]
     Memory,
@@ -135,10 +157,10 @@ impl From<clap::Error> for ArgFault {
 ///
 /// # Errors
 ///
-/// [`ArgFault::Refused`] if clap refuses them, or they ask for the help or the version. [`ArgFault::Mode`]
-/// if they haven't exactly one of `--listen` and `--script`, have an option of `--listen` with `--script`, have a
-/// `--mode` that is no file mode, have `--readers` without `--clients`, or would leave no worker for changes.
-/// [`ArgFault::Memory`] if memory was refused. `args` is only read.
+/// [`ArgFault::Refused`] if clap refuses them, or they ask for the help or the version. [`ArgFault::Mode`], with the
+/// rule that they break, if they haven't exactly one of `--listen` and `--script`, have an option of `--listen` with
+/// `--script`, have a `--mode` that is no file mode, have `--readers` without `--clients`, or would leave no worker
+/// for changes. [`ArgFault::Memory`] if memory was refused. `args` is only read.
 pub fn read_args(alloc: Global, args: &[String]) -> Result<Args, ArgFault>
     ensures permitted { IfOk result (λ args. ArePermittedArgs args) }
 {
@@ -155,7 +177,7 @@ fn args_of(alloc: Global, matches: &ArgMatches<'_>) -> Result<Args, ArgFault>
         number_of(matches, "pool", u32::from(MAX_POOL)),
         number_of(matches, "workers", u32::from(MAX_WORKERS)),
     ) else {
-        return Err(ArgFault::Mode);
+        return Err(ArgFault::Mode(OptionRule::Given));
     };
     Ok(Args {
         tenants: String::from_str(alloc, tenants)?,
@@ -177,7 +199,8 @@ fn mode_of(alloc: Global, matches: &ArgMatches<'_>, workers: u8) -> Result<Mode,
         (None, Some(script)) if !tell_of_connections(matches) => {
             Ok(Mode::Script(String::from_str(alloc, script)?))
         }
-        _ => Err(ArgFault::Mode),
+        (None, Some(_)) => Err(ArgFault::Mode(OptionRule::OfListen)),
+        _ => Err(ArgFault::Mode(OptionRule::OneMode)),
     }
 }
 
@@ -226,13 +249,13 @@ fn shared_of(matches: &ArgMatches<'_>, workers: u8) -> Result<Option<SharedWorke
         return if readers.is_none() {
             Ok(None)
         } else {
-            Err(ArgFault::Mode)
+            Err(ArgFault::Mode(OptionRule::Shared))
         };
     };
     let usual = u32::from((workers / WORKERS_A_READER).max(1));
     let readers = readers.unwrap_or(usual);
     if readers >= u32::from(workers) {
-        return Err(ArgFault::Mode);
+        return Err(ArgFault::Mode(OptionRule::Changes));
     }
     Ok(Some(SharedWorkers {
         clients: clients as u16,
@@ -249,7 +272,7 @@ fn socket_mode_of(text: Option<&str>) -> Result<u32, ArgFault>
     };
     match u32::from_str_radix(text, 8) {
         Ok(mode) if mode <= MAX_SOCKET_MODE => Ok(mode),
-        _ => Err(ArgFault::Mode),
+        _ => Err(ArgFault::Mode(OptionRule::FileMode)),
     }
 }
 
