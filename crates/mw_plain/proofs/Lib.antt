@@ -11,3 +11,4 @@ mod Serves
 mod StartEnds
 pub mod Joined
 pub mod Runs
+mod TenantSearch

@@ -13,3 +13,4 @@ pub mod Tasks
 pub mod CallEnds
 pub mod Refinement
 pub mod Tickets
+pub mod Search

@@ -41,27 +41,30 @@ impl<D: Disk + Drop> Plain<D> {
         ensures pool { IfOk result (λ plain. plain.pool ≡ pool) }
         ensures stands { IfOk result (EachStands D.facts lines.now files.items) }
     {
+        let disks = Vec::with_capacity(alloc, lines.len())?;
         let mut parts = Vec::with_capacity(alloc, lines.len())?;
         for file in files {
             let part = Part::new(&lines[parts.len()], file);
             parts.push(part)?;
         }
-        Ok(Plain { parts, pool })
+        Ok(Plain { parts, pool, disks })
     }
 
-    /// Gives the disks of the tenants' files, by the tenant's number; `None` for a file that didn't open.
-    ///
-    /// # Errors
-    ///
-    /// [`AllocError`] if memory is out. The disks are dropped.
-    pub fn into_disks(self, alloc: Global) -> Result<Vec<Option<D>>, AllocError>
-        ensures { IfOk result (λ disks. disks.items ≡ map disk_in self.parts.items) }
+    /// Gives the disks of the tenants' files, by the tenant's number; `None` for a file that didn't open. Asks for no
+    /// memory.
+    pub fn into_disks(self) -> Vec<Option<D>>
+        ensures { result.items ≡ map disk_in self.parts.items }
     {
-        let mut disks = Vec::with_capacity(alloc, self.parts.len())?;
-        for part in self.parts {
-            disks.push(part.into_disk())?;
+        let Plain {
+            parts,
+            pool: _,
+            disks,
+        } = self;
+        let mut disks = disks;
+        for part in parts {
+            disks.push(part.into_disk()).unwrap();
         }
-        Ok(disks)
+        disks
     }
 }
 

@@ -1,9 +1,9 @@
 //! The calls on the plain store: start, finish, ask, run, and the report's figures, each for the tenant that it
-//! names.
+//! names, and the search for a tenant's number by its name.
 //!
 //! mw_store_tests and mw_engine_tests make these calls. `specs/Answers` and `specs/Tasks` say what they promise:
 //! change them together. docs/PROMISES cites `ask`.
-ghost use Rattle.std.specs.Prelude.{◌≡◌, ◌<◌, ◌≤◌, ◌-◌, map, IsTrue, IfOk, OnErr};
+ghost use Rattle.std.specs.Prelude.{◌≡◌, ◌<◌, ◌≤◌, ◌-◌, map, IsTrue, IfOk, MatchOption, OnErr};
 ghost use Rattle.mw_report.specs.Table.{AreWithinLimits};
 ghost use Rattle.mw_words.specs.Change.{is_well_formed};
 
@@ -13,13 +13,14 @@ use crate::tickets::{Start, Task, Ticket};
 use arrayvec::ArrayVec;
 use mw_disk::Disk;
 use mw_report::{Figures, TenantFigures};
-use mw_words::{Job, MAX_TENANTS, Reply};
+use mw_words::{Job, MAX_TENANTS, Name, Reply};
 use std::alloc::{AllocError, Global};
 
 impl<D: Disk> Plain<D> {
     ghost use Rattle.mw_plain.specs.Parts.{tenants, words_at, ServesOne};
     ghost use Rattle.mw_plain.specs.Quotas.{used_by};
     ghost use Rattle.mw_plain.specs.Report.{figures_of};
+    ghost use Rattle.mw_plain.specs.Search.{HasNone, IsFirst};
     ghost use Rattle.mw_plain.specs.Tasks.{AreTasks, AskedAll, ServesAll};
     ghost use Rattle.mw_plain.specs.Tickets.{IsOpen};
     ghost use Rattle.mw_plain.specs.Cases.{StartCase, FinishCase, AskCase};
@@ -40,10 +41,25 @@ impl<D: Disk> Plain<D> {
         self.parts[tenant as usize].words
     }
 
+    /// Finds the first tenant with this name: its number, and how many words it has. `None` if no tenant has the
+    /// name.
+    pub fn find(&self, name: &Name) -> Option<(u8, u16)>
+        ensures { MatchOption result (HasNone self.now (tenants self.now) name.now.items) (IsFirst self.now name.now.items) }
+    {
+        for (tenant, part) in self.parts.iter().enumerate() {
+            if part.name.as_slice() == name.as_slice() {
+                return Some((tenant as u8, part.words));
+            }
+        }
+        None
+    }
+
     /// Starts a job of a tenant. A read is answered with the word's value. A change is counted as one of the
     /// tenant's slots in use and prepared in the tenant's file, and the ticket finishes it. If the quota is used
     /// up, the change is answered BUSY. A tenant that has faulted answers FAULT. If the file fails in this call,
     /// the answer is FAULT too: the tenant has faulted from then on, and the slot stays in use.
+    ///
+    /// A ticket can't be dropped: it is finished, or given up by [`Ticket::abandon`].
     pub fn start(&mut self, tenant: u8, job: &Job) -> Start
         requires tenant { tenant < tenants self.old }
         requires formed { IsTrue (is_well_formed (words_at self.old tenant) job.now) }
@@ -70,7 +86,12 @@ impl<D: Disk> Plain<D> {
         ensures one { ServesOne self.old self.new ticket.tenant }
         ensures answers { (case : FinishCase) × FinishesAs D.facts case self.old self.new ticket result }
     {
-        self.parts[ticket.tenant as usize].finish(ticket.place, &ticket.entries)
+        let Ticket {
+            tenant,
+            place,
+            entries,
+        } = ticket;
+        self.parts[tenant as usize].finish(place, &entries)
     }
 
     /// Serves a job of a tenant: starts it, and finishes it if the start left it open.

@@ -7,16 +7,30 @@
 use mw_file::Place;
 use mw_words::{Entries, Job, Reply};
 
-/// A change of a tenant that was started and isn't finished. Finishing it uses up the ticket.
-#[derive(Debug, Drop)]
+/// A change of a tenant that was started and isn't finished. Finishing it uses up the ticket. A ticket isn't `Drop`,
+/// so none gets lost: the change of a lost one would keep its slot and its place.
+#[derive(Debug)]
 pub struct Ticket {
     pub(crate) tenant: u8,
     pub(crate) place: Place,
     pub(crate) entries: Entries,
 }
 
+impl Ticket {
+    /// Gives the ticket up, and leaves the store as it is: the change stays prepared in its place of the tenant's
+    /// file, and its slot stays counted, as long as the store is there. An opening of the file finds nothing of the
+    /// change.
+    pub fn abandon(self) {
+        let Ticket {
+            tenant: _,
+            place: _,
+            entries: _,
+        } = self;
+    }
+}
+
 /// How a job started.
-#[derive(Debug, Drop)]
+#[derive(Debug)]
 pub enum Start {
     /// The job is done, and this is its reply.
     Done(Reply),
