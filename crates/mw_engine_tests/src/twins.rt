@@ -165,9 +165,7 @@ pub(crate) fn leave_the_same_words(
     disks: Vec<Option<LatchedDisk<'_>>>,
     plain: Plain<LatchedDisk<'_>>,
 ) -> bool {
-    let Ok(others) = plain.into_disks(alloc) else {
-        return false;
-    };
+    let others = plain.into_disks();
     if disks.len() != others.len() {
         return false;
     }

@@ -165,7 +165,7 @@ fn refuse<O: Write, E: Write>(fault: &ArgFault, out: &mut O, err: &mut E) -> u8 
             let _ = write!(err, "{fault}");
             2
         }
-        ArgFault::Mode => {
+        ArgFault::Mode(_) => {
             let _ = writeln!(err, "{fault}");
             2
         }

@@ -185,16 +185,91 @@ fn long_files_and_paths(rt: HostRuntime) {
     same(&rt, &count(&text, 256), &Err(Refusal::Form(1)));
 }
 
+/// Texts, and what their first line does that breaks a rule of the form. `/` is for a line's end.
+const FORMS: [(&str, &str); 14] = [
+    ("t 1 1 a", "has no line feed at its end"),
+    ("", "has no line feed at its end"),
+    (
+        "t 1 1 a\r/",
+        "has a byte that is no space and no visible character of ASCII",
+    ),
+    (
+        "/t 1 1 a/",
+        "isn't four fields with a single space between each two",
+    ),
+    (
+        " 1 1 a/",
+        "isn't four fields with a single space between each two",
+    ),
+    (
+        "t  1 a/",
+        "isn't four fields with a single space between each two",
+    ),
+    (
+        "T 1 1 /",
+        "isn't four fields with a single space between each two",
+    ),
+    (
+        "t 1 1 a b/",
+        "isn't four fields with a single space between each two",
+    ),
+    (
+        "T 01 1 a/",
+        "has a name that isn't a to z, then up to 15 of a to z, 0 to 9 and -",
+    ),
+    (
+        "t 01 -1 a/",
+        "has words that aren't a number without a 0 in front",
+    ),
+    (
+        "t 1x 1 a/",
+        "has words that aren't a number without a 0 in front",
+    ),
+    (
+        "t 1 00 a/",
+        "has a quota that isn't a number without a 0 in front",
+    ),
+    ("t 0 99999999999999999999 a/", ""),
+    ("t 1 1 a/T 1/", ""),
+];
+
+#[test]
+fn rules_of_the_form(rt: HostRuntime) {
+    for (text, wanted) in FORMS {
+        let text = with_line_ends(&rt, text);
+        let told = match broken_rule(text.as_str().as_bytes()) {
+            Some(rule) => rule.broken(),
+            None => "",
+        };
+        same_text(&rt, told, wanted);
+    }
+}
+
 /// Refusals, and the text of each.
 const REFUSALS: [(Refusal, &str); 8] = [
     (Refusal::File, "mwserve: refused 2 file"),
     (Refusal::Form(1), "mwserve: refused 3 form line 1"),
-    (Refusal::Words(2), "mwserve: refused 4 words line 2"),
-    (Refusal::Quota(16), "mwserve: refused 5 quota line 16"),
-    (Refusal::Twice(2), "mwserve: refused 6 twice line 2"),
-    (Refusal::Many(17), "mwserve: refused 7 many line 17"),
-    (Refusal::None, "mwserve: refused 8 none"),
-    (Refusal::Pool, "mwserve: refused 9 pool"),
+    (
+        Refusal::Words(2),
+        "mwserve: refused 4 words line 2: the words are 1 to 4096",
+    ),
+    (
+        Refusal::Quota(16),
+        "mwserve: refused 5 quota line 16: the quota is 1 to 64",
+    ),
+    (
+        Refusal::Twice(2),
+        "mwserve: refused 6 twice line 2: an earlier line has the name or the path",
+    ),
+    (
+        Refusal::Many(17),
+        "mwserve: refused 7 many line 17: at most 16 lines",
+    ),
+    (Refusal::None, "mwserve: refused 8 none: there is no line"),
+    (
+        Refusal::Pool,
+        "mwserve: refused 9 pool: the quotas together are more than --pool",
+    ),
 ];
 
 /// Gives the text of a refusal.
@@ -222,7 +297,7 @@ fn words_of(alloc: Global, line: &str) -> Result<Vec<String>, AllocError> {
 fn name_of(fault: &ArgFault) -> Result<&'static str, AllocError> {
     match fault {
         ArgFault::Refused(_) => Ok("refused"),
-        ArgFault::Mode => Ok("mode"),
+        ArgFault::Mode(_) => Ok("mode"),
         ArgFault::Memory => Err(AllocError),
     }
 }
@@ -283,29 +358,57 @@ fn command_lines_that_are_accepted(rt: HostRuntime) {
     }
 }
 
-/// Command lines with no mode, with two, with an option of connections and a script, with a file mode that is
-/// none, with readers but no clients, and with no worker for changes.
-const LINES_WITHOUT_ONE_MODE: &str = "\
+/// Rules of the options, and command lines that break them, one a line.
+const LINES_THAT_BREAK: [(&str, &str); 5] = [
+    (
+        "give exactly one of --listen and --script",
+        "\
 mwserve --tenants t
+mwserve --tenants t --strict --mode 8
 mwserve --tenants t --listen a:1 --script s
+mwserve --tenants t --listen a:1 --script s --readers 1",
+    ),
+    (
+        "--script takes no option of --listen",
+        "\
 mwserve --tenants t --script s --connections 1
 mwserve --tenants t --script s --idle 1
 mwserve --tenants t --script s --admin a
 mwserve --tenants t --script s --mode 600
+mwserve --tenants t --script s --mode 8
 mwserve --tenants t --script s --clients 1
 mwserve --tenants t --script s --readers 1
 mwserve --tenants t --script s --wait 1
-mwserve --tenants t --script s --line-time 1
-mwserve --tenants t --listen a --readers 1
+mwserve --tenants t --script s --line-time 1",
+    ),
+    (
+        "--readers needs --clients",
+        "mwserve --tenants t --listen a --readers 1",
+    ),
+    (
+        "--clients needs more --workers than --readers, and so at least 2",
+        "\
 mwserve --tenants t --listen a --clients 1 --workers 1
 mwserve --tenants t --listen a --clients 1 --readers 4
-mwserve --tenants t --listen a --clients 1 --readers 2 --workers 2
+mwserve --tenants t --listen a --clients 1 --readers 2 --workers 2",
+    ),
+    (
+        "--mode is 0 to 777, in octal digits",
+        "\
 mwserve --tenants t --listen a --mode 1000
-mwserve --tenants t --listen a --mode 8";
+mwserve --tenants t --listen a --mode 8
+mwserve --tenants t --listen a --mode 8 --readers 1",
+    ),
+];
 
 #[test]
-fn command_lines_without_one_mode(rt: HostRuntime) {
-    each_gives(&rt, LINES_WITHOUT_ONE_MODE, "mode");
+fn command_lines_that_break_a_rule(rt: HostRuntime) {
+    for (rule, lines) in LINES_THAT_BREAK {
+        let text = format!(in rt.alloc(); "mwserve: refused 1 command: {rule}").expect(&rt, MEMORY);
+        for line in lines.split('\n') {
+            same_text(&rt, fault_of(&rt, line).as_str(), text.as_str());
+        }
+    }
 }
 
 /// Command lines that are not of the form that the help tells, that have a number out of range, or that ask

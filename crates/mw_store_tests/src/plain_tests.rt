@@ -13,7 +13,7 @@ use mw_disk::MemDisk;
 use mw_file::TenantFile;
 use mw_plain::*;
 use mw_record::{header, size};
-use mw_words::{Entries, Entry, Job, Reply};
+use mw_words::{Entries, Entry, Job, Name, Reply};
 use std::alloc::{AllocError, Global};
 use std::process::Abort;
 
@@ -135,25 +135,42 @@ fn val(value: u64) -> Option<Reply> {
     Some(Reply::Val(value))
 }
 
+/// Gives the reply of a start that is the end of its job, and gives up the ticket of any other.
+fn reply_of(start: Start) -> Option<Reply> {
+    match start {
+        Start::Done(reply) => Some(reply),
+        Start::Open(ticket) => {
+            ticket.abandon();
+            None
+        }
+    }
+}
+
 /// Gives the replies to two tenants' changes. Those of t wait for each other.
 fn two_at_a_time(store: &mut Plain<MemDisk>) -> [Option<Reply>; 5]
     requires count { tenants store.old ≡ 2 }
     requires first { words_at store.old 0 ≡ 2 }
     requires second { words_at store.old 1 ≡ 2 }
 {
-    let Start::Open(one) = store.start(0, &change(0)) else {
-        return [None; 5];
+    let one = match store.start(0, &change(0)) {
+        Start::Open(ticket) => ticket,
+        Start::Done(_) => return [None; 5],
     };
-    let busy = match store.start(0, &change(1)) {
-        Start::Done(reply) => Some(reply),
-        Start::Open(_) => None,
-    };
-    let Start::Open(other) = store.start(1, &change(0)) else {
-        return [None; 5];
+    let busy = reply_of(store.start(0, &change(1)));
+    let other = match store.start(1, &change(0)) {
+        Start::Open(ticket) => ticket,
+        Start::Done(_) => {
+            one.abandon();
+            return [None; 5];
+        }
     };
     let made = store.finish(one);
-    let Start::Open(next) = store.start(0, &change(1)) else {
-        return [None; 5];
+    let next = match store.start(0, &change(1)) {
+        Start::Open(ticket) => ticket,
+        Start::Done(_) => {
+            other.abandon();
+            return [None; 5];
+        }
     };
     let next = store.finish(next);
     let other = store.finish(other);
@@ -176,6 +193,22 @@ fn tickets(rt: HostRuntime) {
     let replies = [Some(Reply::Busy), yes, yes, yes, None];
     let words = [val(1), val(1), val(1), val(0)];
     same(&rt, &told_of_tickets(&rt), &(replies, words, true));
+}
+
+/// Gives what the store finds by a name: the tenant's number, and how many words it has.
+fn found(store: &Plain<MemDisk>, name: &[u8]) -> Option<(u8, u16)> {
+    store.find(&Name::try_from(name).unwrap_or_default())
+}
+
+#[test]
+fn tenants_by_name(rt: HostRuntime) {
+    let store = new_store(&rt);
+    let told = [
+        found(&store, b"t"),
+        found(&store, b"u"),
+        found(&store, b"tu"),
+    ];
+    same(&rt, &told, &[Some((0, 2)), Some((1, 2)), None]);
 }
 
 /// Gives the replies to two changes of the same word by t, and to a read by u.
@@ -231,7 +264,7 @@ fn crash_in_trouble<R: Abort + AllocGlobal>(rt: &R, calls: u8) -> (Option<Reply>
     let failing = failing_disk(rt, calls);
     let mut first = store(rt.alloc(), failing, new_disk(rt)).expect(rt, MEMORY);
     let reply = ask(&mut first, 0, &change(1));
-    let disks = first.into_disks(rt.alloc()).expect(rt, MEMORY);
+    let disks = first.into_disks();
     (reply, left_of_first(rt, &disks))
 }
 
@@ -265,7 +298,7 @@ fn each_device_call_fails(rt: HostRuntime) {
 fn left_after_a_change<R: Abort + AllocGlobal>(rt: &R) -> Vec<u8> {
     let mut store = new_store(rt);
     let _ = ask(&mut store, 0, &change(1));
-    let disks = store.into_disks(rt.alloc()).expect(rt, MEMORY);
+    let disks = store.into_disks();
     left_of_first(rt, &disks)
 }
 
@@ -274,10 +307,7 @@ fn begun(store: &mut Plain<MemDisk>, job: &Job) -> Option<Reply> {
     if store.len() == 0 || !job.is_well_formed(store.words_of(0) as usize) {
         return None;
     }
-    match store.start(0, job) {
-        Start::Done(reply) => Some(reply),
-        Start::Open(_) => None,
-    }
+    reply_of(store.start(0, job))
 }
 
 /// Gives the quota of the first tenant and the places of its file, as they are reported.
