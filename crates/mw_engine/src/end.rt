@@ -1,15 +1,17 @@
 //! Ends an engine and gives the disks of its tenants' files.
 //!
-//! Only tests call `into_disks`. `mwserve` drops its engine when it ends. Its contracts use `specs/Brand` and
-//! `specs/DisksAtEnd`: change them together.
+//! Only tests call `into_disks` and `into_disks_with`. `mwserve` drops its engine when it ends. Its contracts use
+//! `specs/Brand`, `specs/DisksAtEnd` and `specs/Passes`: change them together.
 ghost use Rattle.std.specs.Prelude.{◌≡◌, IfOk};
 ghost use Rattle.mw_engine.specs.Brand.{identity_on};
-ghost use Rattle.mw_engine.specs.DisksAtEnd.{AreGiven, GivenAs};
+ghost use Rattle.mw_core.specs.FromTable.{IsSamePass};
+ghost use Rattle.mw_engine.specs.DisksAtEnd.{AreGiven, AreGivenSeen, GivenAs, GivenSeenAs, SeesMore};
+ghost use Rattle.mw_engine.specs.Passes.{IsPassOf};
 
 use crate::brand::EngineBrand;
 use crate::engine::Engine;
 use crate::guarded_file::GuardedFile;
-use mw_core::Core;
+use mw_core::{Core, Pass};
 use mw_disk::Disk;
 use std::alloc::Global;
 
@@ -54,6 +56,46 @@ impl<J: EngineBrand, D: Disk + Drop, H: Drop> Engine<J, D, H> {
         }
         Ok(disks)
     }
+
+    /// Ends the engine as [`Engine::into_disks`] does, and lets a pass see all changes that were sealed in the files. On
+    /// each disk that keeps the model, the file represents the words of the latest start, with all changes put over them
+    /// that the pass had seen when it saw that file, in order, and with the change in doubt. Each change for which the
+    /// pass was answered YES is one of these changes. So no YES is lost, and none is made twice. If passes have met this
+    /// one before, that holds of the requests of all of them.
+    ///
+    /// # Errors
+    ///
+    /// As [`Engine::into_disks`]. The pass stays the engine's.
+    pub fn into_disks_with(
+        self,
+        alloc: Global,
+        pass: &mut Pass,
+    ) -> Result<Vec<Option<D>>, NoDisks>
+        requires own { IsPassOf J.identity pass.old }
+        ensures own { IsPassOf J.identity pass.new }
+        ensures stays { IsSamePass pass.old pass.new }
+        ensures sees { SeesMore pass.old.seat.me.0 pass.new.seat.me.0 }
+        ensures given { IfOk result (λ disks. AreGivenSeen D.facts J.identity pass.old.seat.me.0 pass.new.seat.me.0 disks.items) }
+    {
+        let Engine {
+            words,
+            hold: _,
+            books,
+        } = self;
+        let Ok(mut disks) = Vec::with_capacity(alloc, books.len()) else {
+            return Err(NoDisks::Memory);
+        };
+        for book in books {
+            let kept = book.into_inner();
+            if usize::from(kept.tenant) != disks.len() {
+                return Err(NoDisks::Misplaced);
+            }
+            let Ok(()) = disks.push(kept.into_disk_with(&words.core, pass)) else {
+                return Err(NoDisks::Memory);
+            };
+        }
+        Ok(disks)
+    }
 }
 
 impl<J: EngineBrand, D: Disk> GuardedFile<J, D> {
@@ -73,6 +115,28 @@ impl<J: EngineBrand, D: Disk> GuardedFile<J, D> {
             unreachable!()
         };
         core.shared().confirm(file_pass);
+        book.into_disk()
+    }
+
+    /// The same, and a pass sees all changes that were sealed in the file.
+    fn into_disk_with(self, core: &Core, pass: &mut Pass) -> Option<D>
+        requires engine { identity_on core.now.shared J.identity.lines ≡ J.identity }
+        requires own { IsPassOf J.identity pass.old }
+        ensures own { IsPassOf J.identity pass.new }
+        ensures stays { IsSamePass pass.old pass.new }
+        ensures sees { SeesMore pass.old.seat.me.0 pass.new.seat.me.0 }
+        ensures given { GivenSeenAs D.facts J.identity pass.old.seat.me.0 pass.new.seat.me.0 self.tenant result }
+    {
+        let GuardedFile {
+            book,
+            file_pass,
+            tenant: _,
+            brand: _,
+        } = self;
+        let Some(file_pass) = file_pass else {
+            unreachable!()
+        };
+        core.shared().confirm_with(pass, file_pass);
         book.into_disk()
     }
 }

@@ -1,1 +1,3 @@
+pub mod AskedRequests
 pub mod DurableLaws
+pub mod Stakes

@@ -18,3 +18,4 @@ pub mod OpenedFiles
 pub mod PassesAtStart
 pub mod PlacesAtIndexes
 pub mod LearnedNotes
+pub mod SeenFiles

@@ -15,3 +15,4 @@ pub mod Idleness
 pub mod Runs
 pub mod Said
 pub mod Notes
+pub mod SeenFiles

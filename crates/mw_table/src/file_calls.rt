@@ -1,7 +1,7 @@
 //! Lets a pass take a tenant's file for a call and give it back.
 //!
-//! Used by: mw_core, in each call on a file; mw_engine, at its end (`confirm`). Its contracts use
-//! `specs/FileCalls`, `specs/HeldFiles`, `specs/Meet` and others: change them together.
+//! Used by: mw_core, in each call on a file; mw_engine, at its end (`confirm`, `confirm_with`). Its contracts
+//! use `specs/FileCalls`, `specs/HeldFiles`, `specs/SeenFiles` and others: change them together.
 ghost use Rattle.std.specs.Prelude.{◌≡◌, []};
 ghost use Rattle.mw_rule.specs.Splits.{without_file, takes_files, with_file_given};
 ghost use Rattle.mw_rule.specs.Steps.{LearnsPlainLoad};
@@ -11,6 +11,7 @@ ghost use Rattle.mw_table.specs.HeldFiles.{HasFile, file_among};
 ghost use Rattle.mw_table.specs.Meet.{IsSamePass};
 ghost use Rattle.mw_table.specs.Origins.{config_of, openings_of};
 ghost use Rattle.mw_table.specs.Passes.{IsOf};
+ghost use Rattle.mw_table.specs.SeenFiles.{SeesFile};
 
 use crate::file_pass::FilePass;
 use crate::shared::{Pass, Shared};
@@ -82,5 +83,35 @@ impl Shared {
             tenant: _,
         } = file_pass;
         self.table.shared.load::<Confirms>(&mut seat, 0);
+    }
+
+    /// Confirms what is known of a file that nobody calls, as [`Shared::confirm`] does, and gives up its file pass. It
+    /// lets a pass see all changes that were sealed in the file. The pass must have no file, and has none afterwards. No
+    /// event is added to the run.
+    pub fn confirm_with(&self, pass: &mut Pass, file_pass: FilePass)
+        requires own { IsOf self.now pass.old }
+        requires free { IsFree pass.old }
+        requires file_pass { IsFilePassOf self.now file_pass }
+        ensures own { IsOf self.now pass.new }
+        ensures free { IsFree pass.new }
+        ensures same { IsSamePass pass.old pass.new }
+        ensures so { IsSoOfWorld (config_of self.now.table.shared.key) (openings_of self.now.table.shared.key) file_pass.seat.me.0.known_run file_pass.tenant (file_kept file_pass) }
+        ensures sees { SeesFile file_pass pass.old.seat.me.0 pass.new.seat.me.0 }
+    {
+        let tenant = file_pass.tenant;
+        self.take(pass, file_pass);
+        self.load_any(pass);
+        self.give_back(pass, tenant);
+    }
+
+    // Loads a word, so that the pass sees what is sealed by now. Returns its bits.
+    fn load_any(&self, pass: &mut Pass) -> u64
+        requires own { IsOf self.now pass.old }
+        ensures own { IsOf self.now pass.new }
+        ensures same { IsSamePass pass.old pass.new }
+        ensures looked { LearnsPlainLoad 0 result pass.old.seat.me.0 pass.new.seat.me.0 }
+        ensures event { WentOn [] pass.old.seat.me.0 pass.new.seat.me.0 }
+    {
+        self.table.shared.load::<Confirms>(&mut pass.seat, 0)
     }
 }

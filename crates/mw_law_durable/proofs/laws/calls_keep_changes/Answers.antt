@@ -1,6 +1,6 @@
 -- Proves the law `calls_keep_changes` (src/laws.rt): a call on a file keeps the changes that its pass was answered YES. Used by:
 -- that law alone. It may change freely as long as this crate checks.
-use Rattle.mw_law_durable.proofs.DurableLaws.{calls_keep_changes, calls_leave_whole_changes}
+use Rattle.mw_law_durable.proofs.DurableLaws.{calls_keep_changes, calls_leave_whole_changes, calls_leave_wholly_or_not}
 use Rattle.mw_law_durable.proofs.laws.calls_keep_changes.Goals as goal
 
 pub returns-clause-whole : goal.returns-clause-whole
@@ -8,3 +8,6 @@ returns-clause-whole g c = calls_leave_whole_changes g.D.Disk.facts
 
 pub returns-clause-kept : goal.returns-clause-kept
 returns-clause-kept g c = calls_keep_changes g.D.Disk.facts
+
+pub returns-clause-wholly : goal.returns-clause-wholly
+returns-clause-wholly g c = calls_leave_wholly_or_not g.D.Disk.facts

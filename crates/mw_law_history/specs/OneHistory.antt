@@ -1,0 +1,52 @@
+-- Defines the one history in which the replies of all passes are right at a moment of the shared words.
+-- Used by: the law of src/laws.rt. A change here changes what this law says.
+use Rattle.std.specs.Prelude.{ℕ, ◌≡◌, ◌≢◌, ◌<◌, ◌≤◌, ◌⊎◌, ◌++◌, List, length, slice_get, Some}
+use mathlib.Core.Option.{some}
+use lib.ListN.{get_elem?}
+use Rattle.atomic_table.specs.Table.{State as Table}
+use Rattle.mw_words.specs.declared.replies.Reply.TheVariants.{Yes as SaysYes}
+use Rattle.mw_actor.specs.ActorState.{ActorState}
+use Rattle.mw_world.specs.declared.config.Config.{Config}
+use Rattle.mw_world.specs.Claim.Headline.{IsExecution}
+use Rattle.mw_world.specs.Definition.Events.{WorldEvent}
+use Rattle.mw_world.specs.Definition.State.{State, TenantStart, tenants_of, world_at}
+use Rattle.mw_law_calls.specs.FromLaws.{AreNoStarts, IsRightAt, sealed_of}
+use Rattle.mw_law_store.specs.ReplyPlaces.{words_at_start}
+use Rattle.mw_rule.specs.KnownRuns.{ExtendsKnownRun, known_run_of}
+use Rattle.mw_rule.specs.Rule.{IsHandedOut, TableInvariant}
+use Rattle.mw_rule.specs.declared.views.Finished.{Finished}
+use Rattle.mw_rule.specs.declared.views.View.{View}
+
+-- A finished request is right in this run. Its position is within its tenant's sealed changes, and its reply is right there: the words
+-- at that position are those of the latest start with all sealed changes before it put over them. The run handed the reply out.
+pub record IsRightInRun (config : Config) (openings : ℕ → TenantStart) (before events : List WorldEvent) (state : State) (one : Finished) : Type 0 where
+  pub there : one.tenant < tenants_of config
+  pub within : one.place ≤ length (sealed_of openings state one.tenant)
+  pub right : IsRightAt (words_at_start openings state one.tenant) (sealed_of openings state one.tenant) one.place one.request one.job one.reply
+  pub handed : IsHandedOut config (world_at config openings) (before ++ events) one
+
+-- Two finished requests of one tenant have two numbers. If both were answered YES, they have two changes.
+pub record AreTwo (one other : Finished) : Type 0 where
+  pub numbers : one.request ≢ other.request
+  pub changes : one.reply ≡ SaysYes → other.reply ≡ SaysYes → one.place ≢ other.place
+
+-- One run is behind what all threads know:
+--
+-- - it is a run from a first start, whose latest start is before `events`; it extends the run that each thread knows;
+-- - each request that any thread's workers finished is right in it;
+-- - any two of these requests of one tenant, of one thread or of two, are two.
+pub record IsOneHistory (config : Config) (s : Table ActorState View) : Type 0 where
+  pub openings : ℕ → TenantStart
+  pub before : List WorldEvent
+  pub events : List WorldEvent
+  pub state : State
+  pub played : IsExecution config openings (before ++ events) state
+  pub no_starts : AreNoStarts events
+  pub known : (id : ℕ) (view : View) → get_elem? s.views id ≡ some view → ExtendsKnownRun view.known_run (Some (known_run_of config openings before events))
+  pub right : (id index : ℕ) (view : View) (one : Finished) → get_elem? s.views id ≡ some view → slice_get view.mine index ≡ Some one → IsRightInRun config openings before events state one
+  pub two : (id other index another : ℕ) (view its : View) (one that : Finished) → get_elem? s.views id ≡ some view → get_elem? s.views other ≡ some its
+      → slice_get view.mine index ≡ Some one → slice_get its.mine another ≡ Some that → one.tenant ≡ that.tenant → ((id ≡ other) × (index ≡ another)) ⊎ AreTwo one that
+
+-- At each moment at which the table is under the rule, there is such a history.
+abbrev pub MomentsHaveOneHistory : Config → ((ℕ → TenantStart) → List WorldEvent → Type 0) → Type 0
+MomentsHaveOneHistory config begun = (s : Table ActorState View) → TableInvariant config begun s → IsOneHistory config s

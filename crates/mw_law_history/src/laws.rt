@@ -1,0 +1,15 @@
+//! States that the replies of all passes are right in one history. The function does nothing; its contract is the fact.
+//!
+//! No code calls it. A change of the contract here changes a theorem.
+ghost use Rattle.mw_law_history.specs.OneHistory.{MomentsHaveOneHistory};
+
+use mw_rule::Begins;
+
+/// At every moment of the shared words one run of the model is behind what all passes know, whether they ever meet or
+/// not.
+///
+/// - `history`: each reply that any pass has given is right at its position among its tenant's sealed changes in this
+///   run, and the run handed it out. No two replies are to one request, and each YES has a change of its own.
+pub fn every_moment_has_one_history<B: Begins>()
+    ensures history { (key : B) → MomentsHaveOneHistory (B.config key) (B.begun key) }
+{}

@@ -1,0 +1,2 @@
+pub mod AskedChanges
+pub mod WholeChangeLaws

@@ -1,0 +1,53 @@
+-- Defines what a request asked for, and when a change in a tenant's file is just that.
+-- Used by: the law of src/laws.rt, mw_law_durable. A change here changes what their laws say.
+use Rattle.std.specs.Prelude.{ℕ, ◌≡◌, ◌<◌, ◌⊎◌, List, [], slice_get, Option, Some}
+use Rattle.mw_words.specs.declared.jobs.Entry.{Entry}
+use Rattle.mw_words.specs.declared.jobs.Job.{Job}
+use Rattle.mw_lone.specs.declared.marks.Mark.{Mark}
+use Rattle.mw_lone.specs.declared.marks.Mark.TheVariants.{Ask}
+use Rattle.mw_lone.specs.Store.{entries_of}
+use Rattle.mw_world_file.specs.Files.{entries_at}
+use Rattle.mw_world.specs.declared.config.Config.{Config}
+use Rattle.mw_world.specs.Claim.Headline.{IsExecution}
+use Rattle.mw_world.specs.Definition.Events.{WorldEvent, Come}
+use Rattle.mw_world.specs.Definition.State.{State, TenantStart, tenants_of}
+use Rattle.mw_world.specs.Definition.World.{run, step}
+use Rattle.mw_law_store.specs.AbstractStates.{SealedChange}
+use Rattle.mw_law_store.specs.History.{AreNoStarts}
+use Rattle.mw_law_store.specs.ReplyPlaces.{sealed_of}
+
+-- On a line of this history a request came, under this number, with a job that has just these entries.
+pub record IsAskedIn (lines : List (Option Mark)) (request : ℕ) (entries : List Entry) : Type 0 where
+  pub line : ℕ
+  pub job : Job
+  pub came : slice_get lines line ≡ Some (Some (Ask request job))
+  pub its : entries ≡ entries_of job
+
+-- Since the latest start, this request of the tenant asked for a change with just these entries.
+abbrev pub IsAskedFor : State → ℕ → ℕ → List Entry → Type 0
+IsAskedFor state tenant request entries = IsAskedIn (state.tenant_states tenant).lines request entries
+
+-- There is no change, or it is just what one request of the tenant asked for since the latest start.
+abbrev pub IsWholeChange : State → ℕ → List Entry → Type 0
+IsWholeChange state tenant entries = (entries ≡ []) ⊎ ((request : ℕ) × IsAskedFor state tenant request entries)
+
+-- After every run, each place of a tenant's file has no change or a whole one. So has the change in doubt.
+abbrev pub FilesHoldWholeChanges : Type 0
+FilesHoldWholeChanges = (config : Config) (openings : ℕ → TenantStart) (events : List WorldEvent) (state : State) (tenant : ℕ) → IsExecution config openings events state → tenant < tenants_of config
+    → ((place : ℕ) → IsWholeChange state tenant (entries_at (state.tenant_states tenant).file place)) × IsWholeChange state tenant (state.tenant_states tenant).file.doubt
+
+-- After every run, each change that was sealed since the latest start is just what its request asked for.
+abbrev pub SealedChangesAreWhole : Type 0
+SealedChangesAreWhole = (config : Config) (openings : ℕ → TenantStart) (events : List WorldEvent) (state : State) (tenant : ℕ) → IsExecution config openings events state → tenant < tenants_of config
+    → (place : ℕ) (one : SealedChange) → slice_get (sealed_of openings state tenant) place ≡ Some one → IsAskedFor state tenant one.request one.entries
+
+-- After every run, whatever a request asked for under one number is one change.
+abbrev pub RequestsAskForOneChange : Type 0
+RequestsAskForOneChange = (config : Config) (openings : ℕ → TenantStart) (events : List WorldEvent) (state : State) (tenant request : ℕ) (entries others : List Entry) → IsExecution config openings events state → tenant < tenants_of config
+    → IsAskedFor state tenant request entries → IsAskedFor state tenant request others → entries ≡ others
+
+-- A request comes, and events follow that are not starts. Then the request has asked, under the number that was the tenant's next
+-- one, for just the change of its job.
+abbrev pub RequestsStayAsked : Type 0
+RequestsStayAsked = (config : Config) (openings : ℕ → TenantStart) (events later : List WorldEvent) (state between last : State) (worker tenant : ℕ) (job : Job) → IsExecution config openings events state
+    → tenant < tenants_of config → step config state (Come worker tenant job) ≡ Some between → AreNoStarts later → run config between later ≡ Some last → IsAskedFor last tenant (state.tenant_states tenant).asked (entries_of job)
