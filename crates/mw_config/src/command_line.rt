@@ -122,7 +122,7 @@ pub enum ArgFault {
     #[error("{0}")]
     Refused(clap::Error),
     /// Its options break this rule.
-    #[error("mwserve: refused 1 command: {0}")]
+    #[error("mwserve: refused 1 command\nmwserve: {0}")]
     Mode(OptionRule),
     /// Memory was refused.
     #[error("mwserve: memory")]

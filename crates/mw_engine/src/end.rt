@@ -66,11 +66,7 @@ impl<J: EngineBrand, D: Disk + Drop, H: Drop> Engine<J, D, H> {
     /// # Errors
     ///
     /// As [`Engine::into_disks`]. The pass stays the engine's.
-    pub fn into_disks_with(
-        self,
-        alloc: Global,
-        pass: &mut Pass,
-    ) -> Result<Vec<Option<D>>, NoDisks>
+    pub fn into_disks_with(self, alloc: Global, pass: &mut Pass) -> Result<Vec<Option<D>>, NoDisks>
         requires own { IsPassOf J.identity pass.old }
         ensures own { IsPassOf J.identity pass.new }
         ensures stays { IsSamePass pass.old pass.new }

@@ -186,7 +186,7 @@ write script ADMIN;REPORT;
 serve --pool 33
 gives 0 OK ADMIN;t                   2  1  2  0 up;u                4096 32 64  0 up;free 33;|
 serve --pool 32
-gives 2 |mwserve: refused 9 pool: the quotas together are more than --pool;",
+gives 2 |mwserve: refused 9 pool;mwserve: the quotas together are more than --pool;",
     )
 }
 
@@ -200,19 +200,19 @@ mwinit DIR/t.mw 2 1
 write script TENANT t;
 write tenants
 serve
-gives 2 |mwserve: refused 8 none: there is no line;
+gives 2 |mwserve: refused 8 none;mwserve: there is no line;
 write tenants t 2 1 DIR/t.mw
 serve
-gives 2 |mwserve: refused 3 form line 1;
+gives 2 |mwserve: refused 3 form line 1;DIR/tenants: line 1 has no line feed at its end;
 write tenants t 4097 1 DIR/t.mw;
 serve
-gives 2 |mwserve: refused 4 words line 1: the words are 1 to 4096;
+gives 2 |mwserve: refused 4 words line 1;mwserve: the words are 1 to 4096;
 write tenants t 2 65 DIR/t.mw;
 serve
-gives 2 |mwserve: refused 5 quota line 1: the quota is 1 to 64;
+gives 2 |mwserve: refused 5 quota line 1;mwserve: the quota is 1 to 64;
 write tenants t 2 1 DIR/t.mw;t 2 1 DIR/u.mw;
 serve
-gives 2 |mwserve: refused 6 twice line 2: an earlier line has the name or the path;",
+gives 2 |mwserve: refused 6 twice line 2;mwserve: an earlier line has the name or the path;",
     )
 }
 
@@ -227,7 +227,7 @@ mwinit DIR/t.mw 2 1
 write script TENANT t;GET 0;
 write tenants t 2 65 DIR/t.mw;
 serve
-gives 2 |mwserve: refused 5 quota line 1: the quota is 1 to 64;
+gives 2 |mwserve: refused 5 quota line 1;mwserve: the quota is 1 to 64;
 new t.mw
 write tenants t 2 3 DIR/t.mw;
 serve

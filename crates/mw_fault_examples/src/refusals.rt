@@ -82,13 +82,13 @@ fn command_lines(rt: HostRuntime) -> Result<(), Fail> {
     play_table(
         &rt,
         path,
-        "CASE\nbegins 2 |mwserve: refused 1 command: ",
+        "CASE\nbegins 2 |mwserve: refused 1 command;mwserve: ",
         REFUSED_LINES,
     )?;
     play_table(
         &rt,
         path,
-        "CASE\ngives 2 |mwserve: refused 2 file;\nabsent s",
+        "CASE\ngives 2 |mwserve: refused 2 file;DIR/tenants: No such file or directory (os error 2);\nabsent s",
         RIGHT_LINES,
     )?;
     remove_folder(&rt, path)
@@ -119,29 +119,29 @@ where
 /// Tenants files, each with one fault.
 const ONE_FAULT: &str = "\
 t 2 1 a|3 form line 1;DIR/tenants: line 1 has no line feed at its end;
-t 0 1 a;|4 words line 1: the words are 1 to 4096;DIR/tenants;
-t 4097 1 a;|4 words line 1: the words are 1 to 4096;DIR/tenants;
-t 65537 1 a;|4 words line 1: the words are 1 to 4096;DIR/tenants;
-t 2 1 a;u 0 1 b;|4 words line 2: the words are 1 to 4096;DIR/tenants;
-t 2 0 a;|5 quota line 1: the quota is 1 to 64;DIR/tenants;
-t 2 65 a;|5 quota line 1: the quota is 1 to 64;DIR/tenants;
-t 2 257 a;|5 quota line 1: the quota is 1 to 64;DIR/tenants;
-t 2 65537 a;|5 quota line 1: the quota is 1 to 64;DIR/tenants;
-t 2 1 a;u 2 65 b;|5 quota line 2: the quota is 1 to 64;DIR/tenants;
-t 2 1 a;t 2 1 b;|6 twice line 2: an earlier line has the name or the path;DIR/tenants;
-t 2 1 a;u 2 1 a;|6 twice line 2: an earlier line has the name or the path;DIR/tenants;
-t 2 1 a;u 2 1 b;t 2 1 c;|6 twice line 3: an earlier line has the name or the path;DIR/tenants;
-|8 none: there is no line;DIR/tenants;
-t 2 64 a;u 2 64 b;v 2 64 c;w 2 64 d;x 2 1 e;|9 pool: the quotas together are more than --pool;DIR/tenants;";
+t 0 1 a;|4 words line 1;mwserve: the words are 1 to 4096;DIR/tenants;
+t 4097 1 a;|4 words line 1;mwserve: the words are 1 to 4096;DIR/tenants;
+t 65537 1 a;|4 words line 1;mwserve: the words are 1 to 4096;DIR/tenants;
+t 2 1 a;u 0 1 b;|4 words line 2;mwserve: the words are 1 to 4096;DIR/tenants;
+t 2 0 a;|5 quota line 1;mwserve: the quota is 1 to 64;DIR/tenants;
+t 2 65 a;|5 quota line 1;mwserve: the quota is 1 to 64;DIR/tenants;
+t 2 257 a;|5 quota line 1;mwserve: the quota is 1 to 64;DIR/tenants;
+t 2 65537 a;|5 quota line 1;mwserve: the quota is 1 to 64;DIR/tenants;
+t 2 1 a;u 2 65 b;|5 quota line 2;mwserve: the quota is 1 to 64;DIR/tenants;
+t 2 1 a;t 2 1 b;|6 twice line 2;mwserve: an earlier line has the name or the path;DIR/tenants;
+t 2 1 a;u 2 1 a;|6 twice line 2;mwserve: an earlier line has the name or the path;DIR/tenants;
+t 2 1 a;u 2 1 b;t 2 1 c;|6 twice line 3;mwserve: an earlier line has the name or the path;DIR/tenants;
+|8 none;mwserve: there is no line;DIR/tenants;
+t 2 64 a;u 2 64 b;v 2 64 c;w 2 64 d;x 2 1 e;|9 pool;mwserve: the quotas together are more than --pool;DIR/tenants;";
 
 /// Tenants files with two faults, of which the first is told.
 const TWO_FAULTS: &str = "\
-t 0 0 a;|4 words line 1: the words are 1 to 4096;DIR/tenants;
-t 2 1 a;t 0 1 b;|4 words line 2: the words are 1 to 4096;DIR/tenants;
-t 2 1 a;u 2 0 a;|5 quota line 2: the quota is 1 to 64;DIR/tenants;
-t 2 0 a;u 0 1 b;|5 quota line 1: the quota is 1 to 64;DIR/tenants;
-t 2 1 a;u 2 1 a;v 0 1 b;|6 twice line 2: an earlier line has the name or the path;DIR/tenants;
-t 2 1 a;u 2 1 a;v|6 twice line 2: an earlier line has the name or the path;DIR/tenants;
+t 0 0 a;|4 words line 1;mwserve: the words are 1 to 4096;DIR/tenants;
+t 2 1 a;t 0 1 b;|4 words line 2;mwserve: the words are 1 to 4096;DIR/tenants;
+t 2 1 a;u 2 0 a;|5 quota line 2;mwserve: the quota is 1 to 64;DIR/tenants;
+t 2 0 a;u 0 1 b;|5 quota line 1;mwserve: the quota is 1 to 64;DIR/tenants;
+t 2 1 a;u 2 1 a;v 0 1 b;|6 twice line 2;mwserve: an earlier line has the name or the path;DIR/tenants;
+t 2 1 a;u 2 1 a;v|6 twice line 2;mwserve: an earlier line has the name or the path;DIR/tenants;
 t 2 64 a;u 2 64 b;v 2 64 c;w 2 64 d;x 2 1 e;y|3 form line 6;DIR/tenants: line 6 has no line feed at its end;";
 
 #[test]
@@ -185,7 +185,7 @@ fn numbers_of_tenants(rt: HostRuntime) -> Result<(), Fail> {
     play_in(&rt, folder.as_str(), story.as_str())?;
     let lines = lines_of(&rt, NAMES)?;
     let story = format!(in rt.alloc();
-        "write tenants {lines}\nserve\ngives 2 |mwserve: refused 7 many line 17: at most 16 lines;"
+        "write tenants {lines}\nserve\ngives 2 |mwserve: refused 7 many line 17;mwserve: at most 16 lines;"
     )?;
     play_in(&rt, folder.as_str(), story.as_str())?;
     remove_folder(&rt, folder.as_str())

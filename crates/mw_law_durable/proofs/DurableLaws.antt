@@ -222,7 +222,7 @@ module _ {D : Type 0} (facts : D → Facts) where
   whole_at : (config : Config) (begun : (ℕ → TenantStart) → List WorldEvent → Type 0) (s : Table ActorState View) (id other : ℕ) (view : View) (file_pass : FilePass) (more : List Entry) (first last : Option D)
       → TableInvariant config begun s → get_elem? s.views id ≡ some view → IsLive view → get_elem? s.views other ≡ some file_pass.seat.me.0
       → ((openings : ℕ → TenantStart) (events : List WorldEvent) (state : State) (played : IsExecution config openings events state) → (file_kept file_pass).tenant < tenants_of config
-        → TellsFile (state.tenant_states (file_kept file_pass).tenant).quota config.pool (file_kept file_pass) (state.tenant_states (file_kept file_pass).tenant).file → IsWholeChange state (file_kept file_pass).tenant more)
+      → TellsFile (state.tenant_states (file_kept file_pass).tenant).quota config.pool (file_kept file_pass) (state.tenant_states (file_kept file_pass).tenant).file → IsWholeChange state (file_kept file_pass).tenant more)
       → OnDisk facts (LeavesEither (file_kept file_pass).contents more) first last → LeavesWholeChanges facts view file_pass.tenant more first last
   whole_at config begun s id other view file_pass more first last rule at live held stakes leaves =
       elim (rule.fits other file_pass.seat.me.0 held) [

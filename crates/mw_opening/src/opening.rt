@@ -69,14 +69,15 @@ impl Cause {
         }
     }
 
-    /// Writes the cause to the notes, with the path of the tenants file.
+    /// Writes the cause to the notes, with the path of the tenants file: as a warning if it is known, else the path alone
+    /// if they are verbose.
     pub fn tell<L: Log>(&self, notes: &L, path: &str) {
         match self {
-            Cause::Reading(fault) => note_cause(notes, path, fault),
-            Cause::Size => info!(notes; "{path}: more than {MAX_TENANTS_FILE} bytes"),
+            Cause::Reading(fault) => warn!(notes; "{path}: {fault}"),
+            Cause::Size => warn!(notes; "{path}: more than {MAX_TENANTS_FILE} bytes"),
             Cause::Form(number, rule) => {
                 let how = rule.broken();
-                info!(notes; "{path}: line {number} {how}")
+                warn!(notes; "{path}: line {number} {how}")
             }
             Cause::Unknown => note_place(notes, path),
         }

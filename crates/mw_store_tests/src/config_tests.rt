@@ -251,24 +251,27 @@ const REFUSALS: [(Refusal, &str); 8] = [
     (Refusal::Form(1), "mwserve: refused 3 form line 1"),
     (
         Refusal::Words(2),
-        "mwserve: refused 4 words line 2: the words are 1 to 4096",
+        "mwserve: refused 4 words line 2\nmwserve: the words are 1 to 4096",
     ),
     (
         Refusal::Quota(16),
-        "mwserve: refused 5 quota line 16: the quota is 1 to 64",
+        "mwserve: refused 5 quota line 16\nmwserve: the quota is 1 to 64",
     ),
     (
         Refusal::Twice(2),
-        "mwserve: refused 6 twice line 2: an earlier line has the name or the path",
+        "mwserve: refused 6 twice line 2\nmwserve: an earlier line has the name or the path",
     ),
     (
         Refusal::Many(17),
-        "mwserve: refused 7 many line 17: at most 16 lines",
+        "mwserve: refused 7 many line 17\nmwserve: at most 16 lines",
     ),
-    (Refusal::None, "mwserve: refused 8 none: there is no line"),
+    (
+        Refusal::None,
+        "mwserve: refused 8 none\nmwserve: there is no line",
+    ),
     (
         Refusal::Pool,
-        "mwserve: refused 9 pool: the quotas together are more than --pool",
+        "mwserve: refused 9 pool\nmwserve: the quotas together are more than --pool",
     ),
 ];
 
@@ -404,7 +407,9 @@ mwserve --tenants t --listen a --mode 8 --readers 1",
 #[test]
 fn command_lines_that_break_a_rule(rt: HostRuntime) {
     for (rule, lines) in LINES_THAT_BREAK {
-        let text = format!(in rt.alloc(); "mwserve: refused 1 command: {rule}").expect(&rt, MEMORY);
+        let text = format!(in rt.alloc(); "mwserve: refused 1 command\nmwserve: {rule}").expect(
+            &rt, MEMORY,
+        );
         for line in lines.split('\n') {
             same_text(&rt, fault_of(&rt, line).as_str(), text.as_str());
         }

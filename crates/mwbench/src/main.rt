@@ -10,7 +10,7 @@ use std::process::ExitCode;
 
 const PROGRAM: Program = Program {
     name: "mwbench",
-    no_text: "refused 1 command: an argument is no text",
+    no_text: "refused 1 command\nmwbench: an argument is no text",
     no_memory: "memory",
 };
 

@@ -11,7 +11,7 @@ use std::process::ExitCode;
 
 const PROGRAM: Program = Program {
     name: "mwserve",
-    no_text: "refused 1 command: an argument is no text",
+    no_text: "refused 1 command\nmwserve: an argument is no text",
     no_memory: "memory",
 };
 

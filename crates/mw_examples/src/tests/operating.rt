@@ -25,7 +25,7 @@ fn what_is_not_there(rt: HostRuntime) -> Result<(), Fail> {
         new_folder(&rt, "not-there")?.as_str(),
         "\
 serve
-gives 2 |mwserve: refused 2 file;
+gives 2 |mwserve: refused 2 file;DIR/tenants: No such file or directory (os error 2);
 serve --verbose
 gives 2 |mwserve: refused 2 file;DIR/tenants: No such file or directory (os error 2);
 write tenants t 2 1 DIR/t.mw;
@@ -112,7 +112,7 @@ serve --verbose
 gives 2 |mwserve: refused 3 form line 2;DIR/tenants: line 2 has a quota that isn't a number without a 0 in front;
 write tenants t 2 0 DIR/t.mw;
 serve --verbose
-gives 2 |mwserve: refused 5 quota line 1: the quota is 1 to 64;DIR/tenants;",
+gives 2 |mwserve: refused 5 quota line 1;mwserve: the quota is 1 to 64;DIR/tenants;",
     )
 }
 
