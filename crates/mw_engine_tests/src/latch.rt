@@ -2,7 +2,7 @@
 //!
 //! Used by: `cases`, `disks`, `held_tests`, `socket_tests`, `starts`, `talks`, `twins`, other modules. It may
 //! change freely as long as this crate checks and its tests pass.
-ghost use Rattle.mw_disk.specs.Memory.{memory_facts};
+ghost use Rattle.mw_disk.specs.Memory.{memory_facts, memory_made};
 
 use mw_disk::{Disk, DiskFault, MemDisk};
 use mw_engine::{Hold, Point};
@@ -136,6 +136,8 @@ pub(crate) struct LatchedDisk<'l> {
 
 impl Disk for LatchedDisk<'_> {
     ghost facts = { λ latched. memory_facts latched.disk };
+
+    ghost made = { λ call well old new. memory_made call well old.disk new.disk };
 
     fn read_at(&mut self, at: u64, out: &mut [u8]) -> Result<(), DiskFault> {
         self.disk.read_at(at, out)
