@@ -28,7 +28,7 @@ use Rattle.mw_world_file.specs.declared.outcomes.Outcome.TheVariants.{Good, Fail
 use Rattle.mw_world_file.specs.CallEffects.{failing}
 use Rattle.mw_world_file.specs.DeviceCalls.{prepare_into, call_list_at, call_list_on, call_list, cut_list, LedBy, CameExactly}
 use Rattle.mw_world_file.specs.Devices.{disk_under, IsReady}
-use Rattle.mw_world_file.specs.Recovery.{IsTornImage, IsCutDisk, IsCutImage, made_of, until}
+use Rattle.mw_world_file.specs.Recovery.{IsTornImage, IsCutDisk, IsCutImage, until}
 use Rattle.mw_world_file.proofs.WorkedFiles.{unfailed_open}
 
 -- ---- one disk and one image
@@ -43,17 +43,17 @@ pub one_disk : (old one other : SimulatedFile) (call : Call) (slot : ℕ) (entri
 one_disk old one other call slot entries Good this that = (same_led (call_list old call slot entries) true true _ _ _ this that).1
 one_disk old one other call slot entries (Fail number) this that = (same_led (call_list old call slot entries) false false _ _ _ this that).1
 
-one_stopped : (old : SimulatedFile) (cut : Option Cut) (one other : Memory) → IsCutDisk old cut one → IsCutDisk old cut other → one ≡ other
-one_stopped old cut one other this that = elim (cases_lt 0 (made_of cut)) [
-  | inl some ↦ (same_led (cut_list old cut) this.well that.well _ one other (this.led (omega arith)) (that.led (omega arith))).1
-  | inr none ↦ let e : made_of cut ≡ 0 = omega arith in this.same e ∙ sym (that.same e)
+one_stopped : (disk : Memory) (made : ℕ) (calls : List DeviceCall) (one other : Memory) → IsCutDisk disk made calls one → IsCutDisk disk made calls other → one ≡ other
+one_stopped disk made calls one other this that = elim (cases_lt 0 made) [
+  | inl some ↦ (same_led calls this.well that.well (until disk made) one other (this.led (omega arith)) (that.led (omega arith))).1
+  | inr none ↦ let e : made ≡ 0 = omega arith in this.same e ∙ sym (that.same e)
 ]
 
-pub one_image : (old : SimulatedFile) (cut : Option Cut) (torn one other : List ℕ) → IsCutImage old cut torn one → IsCutImage old cut torn other → one ≡ other
-one_image old cut torn one other this that =
+pub one_image : (disk : Memory) (made : ℕ) (calls : List DeviceCall) (torn one other : List ℕ) → IsCutImage disk made calls torn one → IsCutImage disk made calls torn other → one ≡ other
+one_image disk made calls torn one other this that =
     same_image (unsynced that.stopped.log) torn (length torn) (memory_facts that.stopped).reads one other
     (subst (λ (d : Memory). Tears (unsynced d.log) torn (length torn) (memory_facts d).reads one)
-    (one_stopped old cut this.stopped that.stopped this.is_stopped that.is_stopped) this.tears) that.tears
+    (one_stopped disk made calls this.stopped that.stopped this.is_stopped that.is_stopped) this.tears) that.tears
 
 -- ---- the device calls of a copy of the file
 
@@ -158,9 +158,9 @@ exactly_as old call other slot entries outcome r same came = subst (λ (k : Call
 
 -- ---- what a stop leaves
 
-pub whole_image : (old : SimulatedFile) (cut : Option Cut) (torn image : List ℕ) → made_of cut ≡ 0 → IsTornImage (disk_under old.device) torn image → IsCutImage old cut torn image
-whole_image old cut torn image none is = record {
-  stopped = disk_under old.device;
+pub whole_image : (disk : Memory) (made : ℕ) (calls : List DeviceCall) (torn image : List ℕ) → made ≡ 0 → IsTornImage disk torn image → IsCutImage disk made calls torn image
+whole_image disk made calls torn image none is = record {
+  stopped = disk;
   is_stopped = record { same = λ zero. refl; well = true; led = λ some. absurd (let e : ⊥ = omega arith in e) };
   tears = is.tears;
 }
@@ -169,7 +169,7 @@ pub cut_image : {T : Type 0} (old : SimulatedFile) (cut : Cut) (call : Call) (he
     → old.device ≡ Open held → old.has_failed ≡ false → 1 ≤ cut.made → disk_of before ≡ until (disk_of held) cut.made → at_of before ≡ at_of held → words_of before ≡ words_of held
     → states_of before ≡ states_of held → has_failed before ≡ has_failed held → Ends memory_facts count before now r → (disk_of now).refused ≡ (disk_of held).refused
     → MadeCalls memory_made (call_list_at (at_of before) (words_of before) (states_of before) call (get_or old.place_of cut.slot 0) cut.entries.items) before now r
-    → IsTornImage (disk_of now) torn image → IsCutImage old (Some cut) torn image
+    → IsTornImage (disk_of now) torn image → IsCutImage (disk_under old.device) cut.made (cut_list old (Some cut)) torn image
 cut_image old cut call held before now count torn image r is_call device sound some stops at words states failed ends granted made is =
     let ready = subst (λ (d : Device). IsReady (disk_under d)) device (old.ready sound) in
     let same = ap (λ (m : Memory). m.refused) stops in

@@ -8,6 +8,8 @@ use Rattle.mw_world_file.specs.declared.book.SimulatedFile.{SimulatedFile}
 use Rattle.mw_world_file.specs.declared.cut.Cut.{Cut}
 use Rattle.mw_world_file.specs.declared.faults.BookFault.TheVariants.{NotEnabled}
 use Rattle.mw_world_file.specs.Books.{Represents, quota_of}
+use Rattle.mw_world_file.specs.DeviceCalls.{cut_list}
+use Rattle.mw_world_file.specs.Devices.{disk_under}
 use Rattle.mw_world_file.specs.Files.{File}
 use Rattle.mw_world_file.specs.Recovery.{Restarts, doubt_left}
 use Rattle.mw_world_file.specs.Restarts.{takes, may_fail, opened_file}
@@ -32,7 +34,7 @@ pub same_end : (old : SimulatedFile) (file : File) (cut : Option Cut) (torn : Li
 same_end old file cut torn fails_at quota one other took also shows this that =
     let a = this file shows in
     let b = that file shows in
-    let image = one_image old cut torn a.image b.image a.left.exact b.left.exact in
+    let image = one_image (disk_under old.device) (made_of cut) (cut_list old cut) torn a.image b.image a.left.exact b.left.exact in
     let words = one_words a.image b.image a.words b.words image a.left.has b.left.has in
     let left = sym a.shows.same_contents ∙ opened_contents a.words fails_at in
     let right = sym b.shows.same_contents ∙ opened_contents b.words fails_at in (
@@ -47,6 +49,6 @@ never_refused old file cut torn fails_at quota one took shows this that =
     elim (that file shows) [
       | inl fewer ↦ false≢true (sym fewer ∙ a.left.made)
       | inr cannot ↦
-          let image = one_image old cut torn a.image cannot.image a.left.exact cannot.left.exact in
+          let image = one_image (disk_under old.device) (made_of cut) (cut_list old cut) torn a.image cannot.image a.left.exact cannot.left.exact in
           false≢true (sym cannot.fails ∙ (sym (ap (λ (l : List ℕ). may_fail (open_calls l) fails_at) image) ∙ a.fails))
     ]

@@ -30,6 +30,7 @@ use Rattle.mw_world_file.specs.declared.cut.Left.{Left}
 use Rattle.mw_world_file.specs.Files.{File, entries_at}
 use Rattle.mw_world_file.specs.Calls.{place_for, suits, fails_on, device_calls}
 use Rattle.mw_world_file.specs.Restarts.{takes, may_find, doubt_if, is_whole_seal}
+use Rattle.mw_world_file.specs.DeviceCalls.{cut_list}
 use Rattle.mw_world_file.specs.Devices.{disk_under, IsReady, DeviceRecoversTo}
 use Rattle.mw_world_file.specs.Books.{Represents, quota_of, places_of_file}
 use Rattle.mw_world_file.specs.Recovery.{IsLeftOf, IsTornImage, IsCutImage, RanJust, until, calls_at, cut_place, cut_calls, made_of, may_be_made, doubt_left, is_sealed_left}
@@ -98,7 +99,7 @@ untouched disk made torn image none is = record {
 -- what is left, if the change in doubt is known
 is_left : (old : SimulatedFile) (file : File) → Represents old file → (cut : Option Cut) (torn : List ℕ) (left : Left) (sealed : Bool) → may_be_made file (quota_of old) cut ≡ true → left.doubt.items ≡ doubt_left file (quota_of old) cut
     → is_sealed_left file (quota_of old) cut ≡ sealed → Finds (places_of_file old) sealed old.contents.items left.doubt.items left.image.items
-    → IsLeftOf (disk_under old.device) (made_of cut) torn left.image.items → IsCutImage old cut torn left.image.items → IsStopped old file cut torn left
+    → IsLeftOf (disk_under old.device) (made_of cut) torn left.image.items → IsCutImage (disk_under old.device) (made_of cut) (cut_list old cut) torn left.image.items → IsStopped old file cut torn left
 is_left old file shows cut torn left sealed made doubt is_sealed finds of_disk exact = record {
   words = finds.words;
   is_left = record {
@@ -132,7 +133,7 @@ pub left_whole : (old : SimulatedFile) (torn : List ℕ) (left : Left) → left.
 left_whole old torn left same is file shows =
     is_left old file shows None torn left false refl (ap (λ d. d.items) same ∙ sym shows.same_doubt) refl
     (subst (λ d. Finds (places_of_file old) false old.contents.items d left.image.items) (sym (ap (λ d. d.items) same)) (finds_whole old file shows left.image.items is.may))
-    (untouched (disk_under old.device) 0 torn left.image.items refl is) (whole_image old None torn left.image.items refl is)
+    (untouched (disk_under old.device) 0 torn left.image.items refl is) (whole_image (disk_under old.device) 0 [] torn left.image.items refl is)
 
 pub left_before : (old : SimulatedFile) (cut : Cut) (torn : List ℕ) (left : Left) → cut.made ≡ 0 → left.doubt ≡ old.doubt → IsTornImage (disk_under old.device) torn left.image.items → (file : File)
     → Represents old file → IsStopped old file (Some cut) torn left
@@ -141,7 +142,7 @@ left_before old cut torn left none same is file shows =
     (ap (λ d. d.items) same ∙ sym shows.same_doubt ∙ sym (doubt_stays cut.call file.doubt cut.made (entries_at file (cut_place file (quota_of old) cut)) none))
     (none_sealed cut.call cut.made (cut_calls file (quota_of old) cut) none)
     (subst (λ d. Finds (places_of_file old) false old.contents.items d left.image.items) (sym (ap (λ d. d.items) same)) (finds_whole old file shows left.image.items is.may))
-    (untouched (disk_under old.device) cut.made torn left.image.items none is) (whole_image old (Some cut) torn left.image.items none is)
+    (untouched (disk_under old.device) cut.made torn left.image.items none is) (whole_image (disk_under old.device) cut.made (cut_list old (Some cut)) torn left.image.items none is)
 
 -- A call was under way, with at least one device call made.
 module _ (old : SimulatedFile) (cut : Cut) (call : Call) (is : cut.call ≡ call) (some : 1 ≤ cut.made) (file : File) (shows : Represents old file) where
@@ -177,7 +178,7 @@ module _ (old : SimulatedFile) (cut : Cut) (call : Call) (is : cut.call ≡ call
     -- what is left, by the change in doubt and whether it was sealed to the end
     pub left_cut : (torn : List ℕ) (left : Left) (sealed : Bool) → cut.made ≤ device_calls call (entries_at file place) → left.doubt.items ≡ doubt_if call file.doubt cut.made (entries_at file place)
         → is_whole_seal call cut.made (device_calls call (entries_at file place)) ≡ sealed → Finds (places_of_file old) sealed old.contents.items left.doubt.items left.image.items
-        → IsLeftOf (disk_under old.device) cut.made torn left.image.items → IsCutImage old (Some cut) torn left.image.items → IsStopped old file (Some cut) torn left
+        → IsLeftOf (disk_under old.device) cut.made torn left.image.items → IsCutImage (disk_under old.device) cut.made (cut_list old (Some cut)) torn left.image.items → IsStopped old file (Some cut) torn left
     left_cut torn left sealed few doubt whole finds of_disk exact =
         let e = as_many_calls in
         is_left old file shows (Some cut) torn left sealed (le-leb cut.made (cut_calls file (quota_of old) cut) (omega (arith, e, few)))

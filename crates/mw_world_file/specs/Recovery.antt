@@ -3,6 +3,7 @@
 -- these contracts say.
 use Rattle.std.specs.Prelude.{◌≡◌, ◌≤◌, ◌⊎◌, ◌&&◌, ℕ, Bool, true, false, not, if◌then◌else◌, List, length, nat_le, Option, Some, None, Result, Ok, Err, IsTrue}
 use Rattle.mw_disk.specs.Crash.{Tears, unsynced}
+use Rattle.mw_disk.specs.DeviceCalls.{DeviceCall}
 use Rattle.mw_disk.specs.Facts.{Facts, MayLeave}
 use Rattle.mw_disk.specs.Memory.{Memory as Disk, memory_facts, sooner}
 use Rattle.mw_disk.specs.Runs.{Later, Good, Bad}
@@ -71,17 +72,17 @@ pub record IsTornImage (disk : Disk) (torn image : List ℕ) : Type 0 where
 abbrev pub until : Disk → ℕ → Disk
 until disk made = record disk { stop = Some (sooner disk.stop made) }
 
--- The disk of a book when all stopped. It is the book's disk if no device call was under way. Else the call under way led to it,
--- from the book's disk with a stop after just as many device calls as the cut says.
-pub record IsCutDisk (old : SimulatedFile) (cut : Option Cut) (stopped : Disk) : Type 0 where
-  pub same : made_of cut ≡ 0 → stopped ≡ disk_under old.device
+-- The disk when all stopped. It is this disk if no device call was under way. Else the device calls of the call under way led to
+-- it, from this disk with a stop after just as many of them as were made.
+pub record IsCutDisk (disk : Disk) (made : ℕ) (calls : List DeviceCall) (stopped : Disk) : Type 0 where
+  pub same : made ≡ 0 → stopped ≡ disk
   pub well : Bool
-  pub led : 1 ≤ made_of cut → LedBy (cut_list old cut) well (until (disk_under old.device) (made_of cut)) stopped
+  pub led : 1 ≤ made → LedBy calls well (until disk made) stopped
 
 -- A crash leaves this image of that disk, with these torn bytes.
-pub record IsCutImage (old : SimulatedFile) (cut : Option Cut) (torn image : List ℕ) : Type 0 where
+pub record IsCutImage (disk : Disk) (made : ℕ) (calls : List DeviceCall) (torn image : List ℕ) : Type 0 where
   pub stopped : Disk
-  pub is_stopped : IsCutDisk old cut stopped
+  pub is_stopped : IsCutDisk disk made calls stopped
   pub tears : Tears (unsynced stopped.log) torn (length torn) (memory_facts stopped).reads image
 
 -- Exactly `made` device calls went well since. No other was made, or one more was made and failed.
@@ -104,7 +105,7 @@ pub record IsLeft (old : SimulatedFile) (file : File) (cut : Option Cut) (torn w
   pub has : file_words image ≡ Some words
   pub found : may_find (is_sealed_left file (quota_of old) cut) file.contents (doubt_left file (quota_of old) cut) words ≡ true
   pub left : IsLeftOf (disk_under old.device) (made_of cut) torn image
-  pub exact : IsCutImage old cut torn image
+  pub exact : IsCutImage (disk_under old.device) (made_of cut) (cut_list old cut) torn image
 
 -- The start found bytes that it may find, and opened them; one of the opening's device calls may fail so. The new book,
 -- with this quota, is that of the file after the opening, with as many places as before, on the disk that the opening

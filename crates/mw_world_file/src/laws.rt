@@ -2,6 +2,8 @@
 //!
 //! Nothing that runs calls them. They say that an event of the simulator has one end, unless memory is out.
 ghost use Rattle.std.specs.Prelude.{◌≡◌, ℕ, Bool, List, Option, Ok, Err};
+ghost use Rattle.mw_disk.specs.DeviceCalls.{DeviceCall};
+ghost use Rattle.mw_disk.specs.Memory.{Memory as Disk};
 ghost use Rattle.mw_words.specs.declared.jobs.Entry.{Entry};
 ghost use Rattle.mw_look.specs.declared.steps.Call.{Call};
 ghost use Rattle.mw_world_file.specs.declared.book.SimulatedFile.{SimulatedFile};
@@ -21,9 +23,11 @@ pub fn calls_lead_to_one_disk()
         → disk_under one.device ≡ disk_under other.device }
 {}
 
-/// A stop leaves one image of a book's file, for the same call under way and the same torn bytes.
+/// A stop leaves one image of a disk, for the same device calls under way, as many of them made, and the same torn
+/// bytes.
 pub fn stops_leave_one_image()
-    ensures { (old : SimulatedFile) (cut : Option Cut) (torn one other : List ℕ) → IsCutImage old cut torn one → IsCutImage old cut torn other → one ≡ other }
+    ensures { (disk : Disk) (made : ℕ) (calls : List DeviceCall) (torn one other : List ℕ)
+        → IsCutImage disk made calls torn one → IsCutImage disk made calls torn other → one ≡ other }
 {}
 
 /// Two starts of one book after the same stop and with the same torn bytes find the same words, and both take the
