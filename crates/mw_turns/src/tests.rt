@@ -1,0 +1,94 @@
+//! Tests what no contract says: that each wait ends, and that long waits are in turn.
+//!
+//! Nothing else uses it: it may change with what it tests.
+use crate::FairLock;
+use std::alloc::{AllocError, Global};
+use std::sync::Wait;
+use std::test::Fail;
+use std::thread::{self, Threads};
+use std::time::{Clock, Duration};
+
+/// More threads than there are words to sleep on, so that some share a word.
+const CROWD: usize = 100;
+
+/// How often each of the crowd takes the lock.
+const VISITS: u64 = 200;
+
+/// Adds to a count, under the lock each time.
+fn visit(rt: &impl Wait, count: &FairLock<u64>) {
+    for _ in 0..VISITS {
+        let mut guard = count.lock(rt);
+        *guard.value = guard.value.saturating_add(1);
+    }
+}
+
+/// Lets a crowd add to a count, and gives the count.
+fn count_of_crowd<R: Threads + Wait + Sync>(rt: &R, alloc: Global) -> Result<u64, AllocError> {
+    let count = FairLock::new(0);
+    let shared = &count;
+    thread::map_indices(rt, alloc, CROWD, &|_| visit(rt, shared))?;
+    Ok(count.into_inner())
+}
+
+#[test]
+fn every_wait_of_a_crowd_ends(rt: HostRuntime) -> Result<(), Fail> {
+    assert_eq!(rt; count_of_crowd(&rt, rt.alloc())?, 20_000);
+    Ok(())
+}
+
+/// How many threads hold the lock for long, each as often as it can.
+const HOLDERS: usize = 8;
+
+/// How many times they hold it, all together.
+const HOLDS: u32 = 80;
+
+/// Who held the lock last, and how often the same thread held it twice in a row.
+#[derive(Drop)]
+struct Turns {
+    last: usize,
+    holds: u32,
+    repeats: u32,
+}
+
+impl Turns {
+    /// Notes a hold. Says whether there may be more.
+    fn note(&mut self, holder: usize) -> bool {
+        if self.last == holder {
+            self.repeats = self.repeats.saturating_add(1);
+        }
+        self.last = holder;
+        self.holds = self.holds.saturating_add(1);
+        self.holds < HOLDS
+    }
+}
+
+/// Holds the lock for three milliseconds as often as it can.
+fn hold<R: Wait + Clock>(rt: &R, turns: &FairLock<Turns>, holder: usize) {
+    for _ in 0..HOLDS {
+        let mut guard = turns.lock(rt);
+        thread::sleep(rt, Duration::from_millis(3));
+        if !guard.value.note(holder) {
+            return;
+        }
+    }
+}
+
+/// How often a thread held the lock twice in a row though others waited.
+fn repeats<R: Threads + Wait + Clock + Sync>(rt: &R, alloc: Global) -> Result<u32, AllocError> {
+    let turns = FairLock::new(Turns {
+        last: HOLDERS,
+        holds: 0,
+        repeats: 0,
+    });
+    let shared = &turns;
+    thread::map_indices(rt, alloc, HOLDERS, &|holder| hold(rt, shared, holder))?;
+    Ok(turns.into_inner().repeats)
+}
+
+/// With a plain lock nearly all holds are by the thread that held it before.
+#[test]
+fn long_holds_are_in_turn(rt: HostRuntime) -> Result<(), Fail> {
+    let repeats = repeats(&rt, rt.alloc())?;
+    assert!(rt; repeats < HOLDS / 4);
+    Ok(())
+}
