@@ -101,9 +101,9 @@ impl<J: EngineBrand, D: Disk + Drop, H: Hold + Drop> Engine<J, D, H> {
             if index >= self.books.len() {
                 index = 0;
             }
-            let mut kept = self.books[index].lock(rt);
-            if kept.is_of(actor) {
-                kept.file(&self.words.core, pass, actor);
+            let mut guard = self.books[index].lock(rt);
+            if guard.value.is_of(actor) {
+                guard.value.file(&self.words.core, pass, actor);
                 return;
             }
             index += 1;

@@ -14,9 +14,9 @@ use crate::parts::EngineParts;
 use mw_book::Book;
 use mw_core::FilePass;
 use mw_disk::Disk;
+use mw_turns::FairLock;
 use std::alloc::{AllocError, Global};
 use std::marker::PhantomData;
-use std::sync::Mutex;
 
 impl<D: Disk + Drop, H: Drop> EngineParts<D, H> {
     /// Makes the engine of these parts. It serves from now on.
@@ -45,7 +45,7 @@ fn locked<J: EngineBrand, D: Disk + Drop>(
     alloc: Global,
     books: Vec<Book<D>>,
     file_passes: Vec<FilePass>,
-) -> Result<Vec<Mutex<GuardedFile<J, D>>>, AllocError>
+) -> Result<Vec<FairLock<GuardedFile<J, D>>>, AllocError>
     requires kept { AreKept D.facts J.identity books.items file_passes.items }
     requires even { length file_passes.items ≡ length books.items }
     ensures { IfOk result (λ made. length made.items ≡ length books.items) }
@@ -63,7 +63,7 @@ fn locked<J: EngineBrand, D: Disk + Drop>(
             tenant,
             brand: PhantomData,
         };
-        made.push(Mutex::new(kept))?;
+        made.push(FairLock::new(kept))?;
     }
     Ok(made)
 }
