@@ -11,7 +11,7 @@ use Rattle.mw_world_file.specs.Books.{Represents, quota_of}
 use Rattle.mw_world_file.specs.DeviceCalls.{cut_list}
 use Rattle.mw_world_file.specs.Devices.{disk_under}
 use Rattle.mw_world_file.specs.Files.{File}
-use Rattle.mw_world_file.specs.Recovery.{Restarts, doubt_left}
+use Rattle.mw_world_file.specs.Recovery.{Restarts, doubt_left, made_of}
 use Rattle.mw_world_file.specs.Restarts.{takes, may_fail, opened_file}
 use Rattle.mw_world_file.proofs.ExactDisks.{one_image}
 
