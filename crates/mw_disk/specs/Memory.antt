@@ -161,7 +161,7 @@ ended Goes well failed m = logged m well
 ended Fails well failed m = logged m failed
 ended Stopped well failed m = missed_once m
 
--- how a call that takes no memory ends: its turn alone says whether it goes well, and which disk it leaves
+-- how a call ends that is not refused memory: its turn alone says whether it goes well, and which disk it leaves
 pub record Ends (ok : Bool) (turn : Turn) (well failed : Call) (old new : Memory) : Type 0 where
   pub outcome : ok ≡ goes_well turn
   pub leaves : new ≡ ended turn well failed (begun old)
@@ -212,8 +212,8 @@ memory_made (WriteAt at bytes) ok old new =
 memory_made Sync ok old new = Ends ok (next_turn old) Synced (Quiet false) old new
 memory_made Length ok old new = Ends ok (next_turn old) (Quiet true) (Quiet false) old new
 
--- Calls led from one disk in memory to another, and none of them was refused memory: the count of those that were has not risen,
--- and is below its last value, so that it would have.
+-- Calls led from one disk in memory to another, and none of them was refused memory. The count of those that were has not risen. It is
+-- below its last value, so a refusal would have raised it.
 pub record NoneRefused (old new : Memory) : Type 0 where
   pub room : old.refused < most_counted
   pub none : new.refused ≡ old.refused

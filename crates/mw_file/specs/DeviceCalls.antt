@@ -1,6 +1,6 @@
--- Defines which device calls each call on a file makes, in order, and with which bytes.
--- Used by: mw_world_file, the contracts of calls.rt and roll.rt. docs/FILES has the same under "How a change goes through": change
--- them together.
+-- Defines which device calls prepare, seal and settle make, in order, and with which bytes.
+-- Used by: mw_world_file, the contracts of calls.rt and roll.rt. docs/FILES has the same under "How a change goes in": change them
+-- together.
 use Rattle.std.specs.Prelude.{ℕ, ◌+◌, true, false, List, [], ◌∷◌, ◌++◌, map, flat_map, Result, Ok, Err, ◌≡◌, Bool}
 use Rattle.mw_words.specs.declared.jobs.Entry.{Entry}
 use Rattle.mw_disk.specs.DeviceCalls.{DeviceCall, WriteAt, Sync, Makes}

@@ -1,6 +1,6 @@
 -- Defines the device calls of a call on a simulated file, and the one disk that they lead to.
--- Used by: Recovery, the contracts of src/calls.rt and src/laws.rt. By the laws of src/laws.rt a book and an event determine
--- the new disk and the image that a start finds. A new call on a file needs its list here.
+-- Used by: Recovery, the contracts of src/calls.rt and src/laws.rt. By the laws of src/laws.rt a book and a call
+-- determine the new disk, and a book and a stop the image that a start finds. A new call on a file needs its list here.
 use Rattle.std.specs.Prelude.{◌≤◌, ℕ, Bool, true, false, List, [], length, slice_index, Option, Some, None, Result, Ok, Err}
 use Rattle.mw_words.specs.declared.jobs.Entry.{Entry}
 use Rattle.mw_look.specs.declared.steps.Call.{Call}
@@ -49,8 +49,8 @@ pub record LedBy (calls : List DeviceCall) (well : Bool) (before after : Disk) :
   pub made : Makes memory_made calls well before after
   pub granted : 1 ≤ length calls → NoneRefused before after
 
--- The new book's disk came of the old book's by just the device calls of this call. They went well, or the one that must fail did.
--- Nothing is said of a call that made no new book.
+-- The new book's disk came of the old book's by just the device calls of this call. All went well, or the one that must
+-- fail failed. Nothing is said of a call that made no new book.
 abbrev pub CameExactly : SimulatedFile → Call → ℕ → List Entry → Outcome → Result SimulatedFile BookFault → Type 0
 CameExactly old call slot entries Good (Ok new) = LedBy (call_list old call slot entries) true (disk_under old.device) (disk_under new.device)
 CameExactly old call slot entries (Fail number) (Ok new) =

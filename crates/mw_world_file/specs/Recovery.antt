@@ -79,7 +79,7 @@ pub record IsCutDisk (disk : Disk) (made : ℕ) (calls : List DeviceCall) (stopp
   pub well : Bool
   pub led : 1 ≤ made → LedBy calls well (until disk made) stopped
 
--- A crash leaves this image of that disk, with these torn bytes.
+-- These torn bytes make this image of that disk.
 pub record IsCutImage (disk : Disk) (made : ℕ) (calls : List DeviceCall) (torn image : List ℕ) : Type 0 where
   pub stopped : Disk
   pub is_stopped : IsCutDisk disk made calls stopped
@@ -108,7 +108,7 @@ pub record IsLeft (old : SimulatedFile) (file : File) (cut : Option Cut) (torn w
   pub exact : IsCutImage (disk_under old.device) (made_of cut) (cut_list old cut) torn image
 
 -- The start found bytes that it may find, and opened them; one of the opening's device calls may fail so. The new book,
--- with this quota, is that of the file after the opening, with as many places as before, on the disk that the opening
+-- with this quota, is that of the file after the opening, with as many places as before, on a disk that the opening
 -- made of these bytes. The flag says whether the change in doubt was found.
 pub record IsRestarted (old : SimulatedFile) (file : File) (cut : Option Cut) (torn : List ℕ) (fails_at : Option ℕ) (quota : ℕ) (new : SimulatedFile) (took : Bool) : Type 0 where
   pub image : List ℕ

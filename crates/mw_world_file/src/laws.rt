@@ -1,6 +1,8 @@
-//! Laws of a simulated file: a book and an event determine what comes of them. Each is the contract of an empty function.
+//! Laws of a simulated file, unless memory is out: a book and a call determine the new disk, and a book and a stop which
+//! words a start finds, and whether it takes the change in doubt. Each is the contract of an empty function.
 //!
-//! Nothing that runs calls them. They say that an event of the simulator has one end, unless memory is out.
+//! Nothing that runs calls them. They don't determine the disk after a start: of an opening the contracts only count its
+//! device calls.
 ghost use Rattle.std.specs.Prelude.{◌≡◌, ℕ, Bool, List, Option, Ok, Err};
 ghost use Rattle.mw_disk.specs.DeviceCalls.{DeviceCall};
 ghost use Rattle.mw_disk.specs.Memory.{Memory as Disk};
