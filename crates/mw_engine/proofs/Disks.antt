@@ -104,7 +104,7 @@ module _ {D : Type 0} (facts : D → Facts) (identity : Identity) where
   -- a pass that sees more later has still seen it
   later : (first last now : View) (tenant : ℕ) (found : Option D) → SeesMore last now → GivenSeenAs facts identity first last tenant found → GivenSeenAs facts identity first now tenant found
   later first last now tenant None on is = is
-  later first last now tenant (Some disk) on is = record { given = is.given; then = is.then; from = is.from; until = sees_on is.then last now is.until on; stands = is.stands }
+  later first last now tenant (Some disk) on is = record { given = is.given; before = is.before; now = is.now; from = is.from; sees = is.sees; until = sees_on is.now last now is.until on; stands = is.stands }
 
   pub one_more_seen : (first last now : View) (old new : List (Option D)) (one : Option D) (tenant : ℕ) → new ≡ old ++ one ∷ [] → length old ≡ tenant → SeesMore first last → SeesMore last now
       → EachIsGivenSeen facts identity first last old → GivenSeenAs facts identity last now tenant one → EachIsGivenSeen facts identity first now new
@@ -115,7 +115,7 @@ module _ {D : Type 0} (facts : D → Facts) (identity : Identity) where
     where
       from_first : (found : Option D) → GivenSeenAs facts identity last now tenant found → GivenSeenAs facts identity first now tenant found
       from_first None is = is
-      from_first (Some disk) is = record { given = is.given; then = is.then; from = sees_on first last is.then before is.from; until = is.until; stands = is.stands }
+      from_first (Some disk) is = record { given = is.given; before = is.before; now = is.now; from = sees_on first last is.before before is.from; sees = is.sees; until = is.until; stands = is.stands }
 
   -- what the book that was kept for a tenant gives, after a pass has seen its file
   pub given_seen_as : (book : Book D) (file_pass : FilePass) (tenant : ℕ) (result : Option D) (first last : View) → result ≡ disk_in book.held → IsKept facts identity book file_pass → file_pass.tenant ≡ tenant
@@ -135,8 +135,10 @@ module _ {D : Type 0} (facts : D → Facts) (identity : Identity) where
           (agrees_of facts book (file_kept file_pass) (opening_at identity.openings file_pass.tenant).quota identity.config.pool kept.agrees).shows.stands in
           record {
             given = record { book = book; file_pass = file_pass; file = file; kept = kept; its = its; held = there; on = refl; so = here; stands = stands_so facts identity tenant file_pass here file stands };
-            then = last;
-            from = sees_by file_pass first last sees;
+            before = first;
+            now = last;
+            from = sees_all first;
+            sees = sees;
             until = sees_all last;
             stands = λ honest. subst (λ (words : List ℕ). RecoversTo facts file words (pairs_of (file_kept file_pass).doubt)) contents (stands honest);
           }

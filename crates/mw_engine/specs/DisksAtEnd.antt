@@ -8,7 +8,7 @@ use Rattle.mw_file.specs.declared.tenant_file.TenantFile.{TenantFile}
 use Rattle.mw_file.specs.File.{disk_of}
 use Rattle.mw_file.specs.RecoveryInvariant.{RecoversTo}
 use Rattle.mw_book.specs.declared.book.Book.{Book}
-use Rattle.mw_core.specs.FromTable.{ExtendsView, FilePass, IsSoOfWorld, View, file_kept, opening_at, put_sealed, seen_at, words_given}
+use Rattle.mw_core.specs.FromTable.{ExtendsView, FilePass, IsSoOfWorld, SeesFile, View, file_kept, opening_at, put_sealed, seen_at, words_given}
 use Rattle.mw_engine.specs.Brand.{Identity}
 use Rattle.mw_engine.specs.GuardedFile.{IsKept}
 
@@ -46,26 +46,28 @@ module _ {D : Type 0} (facts : D → Facts) (identity : Identity) where
     pub count : length disks ≡ length identity.lines
     pub each : EachIsGiven disks
 
-  -- This disk is given, and a thread saw all that was sealed in the file. At that moment (`then`) it knew no less than at first, and
-  -- by now it knows no less than then. If the disk is honest, the file represents the words that the latest start gave the tenant, with
-  -- all changes put over them that the thread had seen then, in order, and with the change in doubt.
+  -- This disk is given, and a thread saw all changes that were sealed in the file. `before` is what it knew just before, and `now` what
+  -- it knew just after. If the disk is honest, the file represents the words that the latest start gave the tenant, with the changes
+  -- put over them that the thread has seen in `now`, in order. The change in doubt may be there too.
   pub record IsGivenSeen (first last : View) (tenant : ℕ) (disk : D) : Type 0 where
     pub given : IsGiven tenant disk
-    pub then : View
-    pub from : SeesMore first then
-    pub until : SeesMore then last
-    pub stands : IsTrue (facts disk).honest → RecoversTo facts given.file (put_sealed (words_given then tenant) (seen_at then.seen tenant)) (pairs_of (file_kept given.file_pass).doubt)
+    pub before : View
+    pub now : View
+    pub from : SeesMore first before
+    pub sees : SeesFile given.file_pass before now
+    pub until : SeesMore now last
+    pub stands : IsTrue (facts disk).honest → RecoversTo facts given.file (put_sealed (words_given now tenant) (seen_at now.seen tenant)) (pairs_of (file_kept given.file_pass).doubt)
 
-  -- What is given for a tenant so: its disk, or none. None is given only if the tenant's file didn't open at the start.
+  -- What is given for a tenant: a disk as `IsGivenSeen` says, or none. None is given only if the tenant's file didn't open at the start.
   abbrev pub GivenSeenAs : View → View → ℕ → Option D → Type 0
   GivenSeenAs first last tenant None = (opening_at identity.openings tenant).is_up ≡ false
   GivenSeenAs first last tenant (Some disk) = IsGivenSeen first last tenant disk
 
-  -- each of these is given so for the tenant of its number
+  -- each of these is what is given for the tenant of its number
   abbrev pub EachIsGivenSeen : View → View → List (Option D) → Type 0
   EachIsGivenSeen first last disks = (tenant : ℕ) (found : Option D) → slice_get disks tenant ≡ Some found → GivenSeenAs first last tenant found
 
-  -- The disks are given so: one entry for each tenant, by number.
+  -- What is given for all tenants: one entry for each, by number.
   pub record AreGivenSeen (first last : View) (disks : List (Option D)) : Type 0 where
     pub count : length disks ≡ length identity.lines
     pub each : EachIsGivenSeen first last disks

@@ -59,13 +59,13 @@ impl<J: EngineBrand, D: Disk + Drop, H: Drop> Engine<J, D, H> {
 
     /// Ends the engine as [`Engine::into_disks`] does, and lets a pass see all changes that were sealed in the files. On
     /// each disk that keeps the model, the file represents the words of the latest start, with all changes put over them
-    /// that the pass had seen when it saw that file, in order, and with the change in doubt. Each change for which the
-    /// pass was answered YES is one of these changes. So no YES is lost, and none is made twice. If passes have met this
-    /// one before, that holds of the requests of all of them.
+    /// that the pass had seen when it saw that file, in order. The change in doubt may be there too. Each change for
+    /// which the pass was answered YES is one of these changes, at its place, and no request has two. If passes have met
+    /// this one before, that holds of the requests of all of them.
     ///
     /// # Errors
     ///
-    /// As [`Engine::into_disks`]. The pass stays the engine's.
+    /// As [`Engine::into_disks`]. The pass stays the engine's. No clause says that disks are given.
     pub fn into_disks_with(self, alloc: Global, pass: &mut Pass) -> Result<Vec<Option<D>>, NoDisks>
         requires own { IsPassOf J.identity pass.old }
         ensures own { IsPassOf J.identity pass.new }

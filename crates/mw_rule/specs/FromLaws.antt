@@ -5,4 +5,4 @@ pub use Rattle.mw_law_calls.specs.CallsByToken.{End, FindsFault, GoesWell, MayEn
 pub use Rattle.mw_law_calls.specs.CallEnds.{kind_of}
 pub use Rattle.mw_law_calls.specs.CallStarts.{HasWords}
 pub use Rattle.mw_law_calls.specs.FileTokens.{TellsFile, file_told, file_token_broken, file_token_filed, file_token_opened}
-pub use Rattle.mw_law_calls.specs.FromLaws.{FindsItsWay, IsSound, after_marks, first_abstract_state, is_as_named, put_sealed}
+pub use Rattle.mw_law_calls.specs.FromLaws.{FindsItsWay, IsSound, after_marks, first_abstract_state, is_as_named, put_sealed, sealed_of}

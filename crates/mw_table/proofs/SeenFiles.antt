@@ -1,12 +1,12 @@
 -- A pass that took a file and loaded a word has seen all changes that were sealed in the file.
 -- Used by: the proof of Shared::confirm_with. It may change freely as long as this crate checks.
-use Rattle.std.specs.Prelude.{ℕ, ◌≡◌, [], ◌∷◌, ◌++◌, List, None}
+use Rattle.std.specs.Prelude.{ℕ, ◌≡◌, ◌<◌, [], ◌∷◌, ◌++◌, List, None}
 use Rattle.std.proofs.Common.{sym, ap, subst, ◌∙◌}
 use Rattle.mw_world.specs.declared.config.Config.{Config}
-use Rattle.mw_world.specs.Definition.State.{TenantStart}
+use Rattle.mw_world.specs.Definition.State.{TenantStart, tenants_of}
 use Rattle.mw_rule.specs.declared.views.HeldFile.{HeldFile}
 use Rattle.mw_rule.specs.declared.views.View.{View}
-use Rattle.mw_rule.specs.FromLaws.{file_told, put_sealed}
+use Rattle.mw_rule.specs.FromLaws.{TellsFile, file_told, put_sealed}
 use Rattle.mw_rule.specs.Prefixes.{seen_at}
 use Rattle.mw_rule.specs.Rule.{Each, HoldsFile, words_given}
 use Rattle.mw_rule.specs.Splits.{takes_files, without_file}
@@ -27,15 +27,27 @@ module _ (view : View) (file_pass : FilePass) (bits : ℕ) (looked : View) (free
 
   pub sees_file : SeesFile file_pass view (without_file looked)
   sees_file =
-      let each = subst (Each (λ (one : HeldFile). (file_told one.file).contents ≡ put_sealed (words_given looked one.file.tenant) (seen_at looked.seen one.file.tenant))) (load.same_files ∙ took_is)
-      (files_are_of_seen looked 0 bits load.stood) in
+      let same = load.same_files ∙ took_is in
+      let words = subst (Each (λ (one : HeldFile). (file_told one.file).contents ≡ put_sealed (words_given looked one.file.tenant) (seen_at looked.seen one.file.tenant))) same (files_are_of_seen looked 0 bits load.stood) in
+      let holds = subst (Each (HoldsFile looked.config load.stood.state)) same load.stood.files in
+      let its = file_pass_its file_pass in
+      let there = subst (λ (tenant : ℕ). tenant < tenants_of looked.config) its holds.0.there in
+      let state = load.stood.state in
       record {
         keeps = record { same_config = load.goes_on.same_config; same_openings = load.goes_on.same_openings; seen = load.goes_on.seen; known_run = load.goes_on.known_run };
         follows = load.learned_run;
         same_token = load.same_token;
         same_mine = load.same_mine;
         right = record { changes = load.right.changes; mine = load.right.mine; once = load.right.once; own = load.right.own; alone = load.right.alone };
-        contents = subst (λ (tenant : ℕ). (file_kept file_pass).contents ≡ put_sealed (words_given looked tenant) (seen_at looked.seen tenant)) (file_pass_its file_pass) each.0;
+        openings = load.stood.openings;
+        events = load.stood.events;
+        state = state;
+        played = load.stood.played;
+        there = there;
+        tells = subst (λ (tenant : ℕ). TellsFile (state.tenant_states tenant).quota looked.config.pool (file_kept file_pass) (state.tenant_states tenant).file) its holds.0.tells;
+        gave = load.stood.gave file_pass.tenant there;
+        all = load.stood.seen file_pass.tenant there;
+        contents = subst (λ (tenant : ℕ). (file_kept file_pass).contents ≡ put_sealed (words_given looked tenant) (seen_at looked.seen tenant)) its words.0;
       }
 
   pub so_with : (config : Config) (given : List TenantStart) → view.config ≡ config → view.openings ≡ given → WentOn [] (takes_files view file_pass.seat.me.0) looked
