@@ -62,7 +62,7 @@ keeps_same (Some xs) = refl
 pub no_good_fault : (one : ReplayFault) → status_of one ≢ 0
 no_good_fault fault.CannotRead is = omega (arith, is)
 no_good_fault fault.Memory is = omega (arith, is)
-no_good_fault (fault.Wrong number) is = omega (arith, is)
+no_good_fault (fault.Wrong number reason) is = omega (arith, is)
 no_good_fault (fault.NotEnabled number) is = omega (arith, is)
 no_good_fault (fault.LastNumber number) is = omega (arith, is)
 no_good_fault (fault.DidNotArrive number) is = omega (arith, is)

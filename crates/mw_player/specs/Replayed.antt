@@ -24,7 +24,7 @@ use Rattle.mw_player.specs.Printed.{replies_among, text_of, told_in}
 abbrev pub status_of : ReplayFault → ℕ
 status_of CannotRead = 1
 status_of Memory = 1
-status_of (Wrong number) = 2
+status_of (Wrong number reason) = 2
 status_of (NotEnabled number) = 3
 status_of (LastNumber number) = 5
 status_of (DidNotArrive number) = 4

@@ -9,7 +9,7 @@ ghost use Rattle.mw_player.specs.Replayed.{MayPrint, PrintsAll, Replays, fault_a
 
 use crate::player::{PlayFault, Player};
 use mw_file_command::{AskedFile, FileCommand, FileFault, open_plain};
-use mw_schedule::{Schedule, ScheduleFault, ScheduleLine, read_schedule};
+use mw_schedule::{Schedule, ScheduleFault, ScheduleLine, read_schedule, wrong_line};
 use std::alloc::{AllocError, Global};
 use std::fs::File;
 use std::io::{self, Read, Write};
@@ -25,9 +25,9 @@ enum ReplayFault {
     /// Memory is out.
     #[error("mwreplay: memory")]
     Memory,
-    /// The line with this number is wrong, and none before it.
-    #[error("line {0} wrong")]
-    Wrong(u64),
+    /// The line with this number is wrong, and none before it. The second line of the text tells what is wrong with it.
+    #[error("line {0} wrong\nmwreplay: {1}")]
+    Wrong(u64, &'static str),
     /// What the line with this number says can't happen in this state of the world.
     #[error("line {0} not enabled")]
     NotEnabled(u64),
@@ -62,7 +62,7 @@ impl ReplayFault {
     {
         match self {
             ReplayFault::CannotRead | ReplayFault::Memory | ReplayFault::Output => 1,
-            ReplayFault::Wrong(_) => 2,
+            ReplayFault::Wrong(_, _) => 2,
             ReplayFault::NotEnabled(_) => 3,
             ReplayFault::DidNotArrive(_) => 4,
             ReplayFault::LastNumber(_) => 5,
@@ -73,15 +73,6 @@ impl ReplayFault {
 impl From<AllocError> for ReplayFault {
     fn from(_: AllocError) -> Self {
         ReplayFault::Memory
-    }
-}
-
-impl From<ScheduleFault> for ReplayFault {
-    fn from(fault: ScheduleFault) -> Self {
-        match fault {
-            ScheduleFault::Wrong(number) => ReplayFault::Wrong(number),
-            ScheduleFault::Memory => ReplayFault::Memory,
-        }
     }
 }
 
@@ -212,7 +203,13 @@ fn read<I: Read>(alloc: Global, input: &mut I) -> Result<Schedule, ReplayFault>
 {
     let mut text = Vec::new(alloc);
     input.read_to_end(&mut text)?;
-    Ok(read_schedule(alloc, &text)?)
+    match read_schedule(alloc, &text) {
+        Ok(schedule) => Ok(schedule),
+        Err(ScheduleFault::Wrong(number)) => {
+            Err(ReplayFault::Wrong(number, wrong_line(&text, number)))
+        }
+        Err(ScheduleFault::Memory) => Err(ReplayFault::Memory),
+    }
 }
 
 // Plays a schedule on a world of its own.

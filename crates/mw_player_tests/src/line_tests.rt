@@ -11,30 +11,84 @@ pub type Lines = (&'static str, &'static str);
 /// Lines that are wrong, or leave the schedule wrong.
 pub fn wrong_lines() -> [Lines; 9] {
     [
-        ("step 0\n\n", "line 6 wrong\n"),
-        ("come 0 t GET 0\nend 0\nend 0", "line 7 wrong\n"),
-        ("come 0 t GET 0\nend 0\nend 0 \nstep\n", "line 7 wrong\n"),
-        ("come 0 t GET 2\n", "line 5 wrong\n"),
-        ("come 0 t CAS 1:0:1 0:0:1\n", "line 5 wrong\n"),
-        ("end 64\n", "line 5 wrong\n"),
-        ("to 0 ready\n", "line 5 wrong\n"),
-        ("restart t=-,-, t=-,-,\n", "line 5 wrong\n"),
-        ("tenant t 1 1\n", "line 5 wrong\n"),
+        (
+            "step 0\n\n",
+            "line 6 wrong\nmwreplay: the line begins with no word of such a line\n",
+        ),
+        (
+            "come 0 t GET 0\nend 0\nend 0",
+            "line 7 wrong\nmwreplay: the line has no line feed at its end\n",
+        ),
+        (
+            "come 0 t GET 0\nend 0\nend 0 \nstep\n",
+            "line 7 wrong\nmwreplay: the line isn't `end W`, with W from 0 to 63\n",
+        ),
+        (
+            "come 0 t GET 2\n",
+            "line 5 wrong\nmwreplay: the line isn't `come W NAME JOB`, with W from 0 to 63 and a job that the tenant may ask\n",
+        ),
+        (
+            "come 0 t CAS 1:0:1 0:0:1\n",
+            "line 5 wrong\nmwreplay: the line isn't `come W NAME JOB`, with W from 0 to 63 and a job that the tenant may ask\n",
+        ),
+        (
+            "end 64\n",
+            "line 5 wrong\nmwreplay: the line isn't `end W`, with W from 0 to 63\n",
+        ),
+        (
+            "to 0 ready\n",
+            "line 5 wrong\nmwreplay: the line isn't `to W KIND`, with W from 0 to 63 and a kind of step\n",
+        ),
+        (
+            "restart t=-,-, t=-,-,\n",
+            "line 5 wrong\nmwreplay: the line isn't `restart ITEM ..`, each item NAME=W,K,HEX or NAME=W,K,HEX,F, perhaps with ,qN, and no tenant twice\n",
+        ),
+        (
+            "tenant t 1 1\n",
+            "line 5 wrong\nmwreplay: the line isn't `tenant NAME WORDS QUOTA` before all old files and commands, with a new name, 1 to 4096 words and a quota of 1 to 64, all quotas together at most the pool\n",
+        ),
     ]
 }
 
 /// Lines of old files that are wrong, or come at a wrong place.
 pub fn wrong_old_lines() -> [Lines; 9] {
     [
-        ("old v 0:1\n", "line 5 wrong\n"),
-        ("old t\n", "line 5 wrong\n"),
-        ("old t 0:1  1:1\n", "line 5 wrong\n"),
-        ("old t 1:1 0:1\n", "line 5 wrong\n"),
-        ("old u 1:1\n", "line 5 wrong\n"),
-        ("old t 0:281474976710656\n", "line 5 wrong\n"),
-        ("old t 0:0:1\n", "line 5 wrong\n"),
-        ("old u 0:1\nold t 0:1\nold u 0:1\n", "line 7 wrong\n"),
-        ("restart\nold t 0:1\n", "line 6 wrong\n"),
+        (
+            "old v 0:1\n",
+            "line 5 wrong\nmwreplay: the line isn't `old NAME A:V ..` before all commands, of a tenant of quota 32 or less that has no such line yet, with 1 to 8 entries, rising addresses and values up to 281474976710655\n",
+        ),
+        (
+            "old t\n",
+            "line 5 wrong\nmwreplay: the line isn't `old NAME A:V ..` before all commands, of a tenant of quota 32 or less that has no such line yet, with 1 to 8 entries, rising addresses and values up to 281474976710655\n",
+        ),
+        (
+            "old t 0:1  1:1\n",
+            "line 5 wrong\nmwreplay: the line isn't `old NAME A:V ..` before all commands, of a tenant of quota 32 or less that has no such line yet, with 1 to 8 entries, rising addresses and values up to 281474976710655\n",
+        ),
+        (
+            "old t 1:1 0:1\n",
+            "line 5 wrong\nmwreplay: the line isn't `old NAME A:V ..` before all commands, of a tenant of quota 32 or less that has no such line yet, with 1 to 8 entries, rising addresses and values up to 281474976710655\n",
+        ),
+        (
+            "old u 1:1\n",
+            "line 5 wrong\nmwreplay: the line isn't `old NAME A:V ..` before all commands, of a tenant of quota 32 or less that has no such line yet, with 1 to 8 entries, rising addresses and values up to 281474976710655\n",
+        ),
+        (
+            "old t 0:281474976710656\n",
+            "line 5 wrong\nmwreplay: the line isn't `old NAME A:V ..` before all commands, of a tenant of quota 32 or less that has no such line yet, with 1 to 8 entries, rising addresses and values up to 281474976710655\n",
+        ),
+        (
+            "old t 0:0:1\n",
+            "line 5 wrong\nmwreplay: the line isn't `old NAME A:V ..` before all commands, of a tenant of quota 32 or less that has no such line yet, with 1 to 8 entries, rising addresses and values up to 281474976710655\n",
+        ),
+        (
+            "old u 0:1\nold t 0:1\nold u 0:1\n",
+            "line 7 wrong\nmwreplay: the line isn't `old NAME A:V ..` before all commands, of a tenant of quota 32 or less that has no such line yet, with 1 to 8 entries, rising addresses and values up to 281474976710655\n",
+        ),
+        (
+            "restart\nold t 0:1\n",
+            "line 6 wrong\nmwreplay: the line isn't `old NAME A:V ..` before all commands, of a tenant of quota 32 or less that has no such line yet, with 1 to 8 entries, rising addresses and values up to 281474976710655\n",
+        ),
     ]
 }
 

@@ -226,7 +226,7 @@ fn a_first_line_that_is_missing(rt: HostRuntime) -> Result<(), Fail> {
         "no tenant",
         &mut input,
         false,
-        (2, "", "line 3 wrong\n"),
+        (2, "", "line 3 wrong\nmwreplay: the line is missing\n"),
     )
 }
 

@@ -123,11 +123,15 @@ t=-,-,00,q2,1
 t=-,-,,q2 u=-,-,,q
 t=-,-,,q 2";
 
+/// What is said of a restart with such an item.
+const WRONG_RESTART: &str =
+    "line 5 wrong\nmwreplay: the line isn't `restart ITEM ..`, each item NAME=W,K,HEX or NAME=W,K,HEX,F, perhaps with ,qN, and no tenant twice\n";
+
 #[test]
 fn items_that_are_wrong(rt: HostRuntime) -> Result<(), Fail> {
     for item in WRONG_ITEMS.split('\n') {
         let line = format!(in rt.alloc(); "restart {item}\n")?;
-        play_behind_head(&rt, &line, (2, "", "line 5 wrong\n"))?;
+        play_behind_head(&rt, &line, (2, "", WRONG_RESTART))?;
     }
     Ok(())
 }
@@ -147,14 +151,14 @@ fn first_lines_at_a_limit(rt: HostRuntime) -> Result<(), Fail> {
 
 /// First lines past a limit, or at a wrong place.
 const WRONG_FIRST_LINES: &str = "\
-pool 33/workers 1/tenant t 1 33/old t 0:1/||line 4 wrong/
-pool 256/workers 1/tenant t 1 65/||line 3 wrong/
-pool 63/workers 1/tenant t 1 64/||line 3 wrong/
-pool 1/workers 1/tenant t 9 1/old t 0:1 1:2 2:3 3:4 4:5 5:6 6:7 7:8 8:9/||line 4 wrong/
-pool 1/workers 1/tenant t 1 1/old t 0:1/old t 0:1/||line 5 wrong/
-pool 1/workers 1/old t 0:1/tenant t 1 1/||line 3 wrong/
-pool 2/workers 1/tenant t 1 1/old t 0:1/tenant u 1 1/||line 5 wrong/
-pool 2/workers 1/tenant t 1 1/old u 0:1/tenant u 1 1/||line 4 wrong/";
+pool 33/workers 1/tenant t 1 33/old t 0:1/||line 4 wrong/mwreplay: the line isn't `old NAME A:V ..` before all commands, of a tenant of quota 32 or less that has no such line yet, with 1 to 8 entries, rising addresses and values up to 281474976710655/
+pool 256/workers 1/tenant t 1 65/||line 3 wrong/mwreplay: the line isn't `tenant NAME WORDS QUOTA` before all old files and commands, with a new name, 1 to 4096 words and a quota of 1 to 64, all quotas together at most the pool/
+pool 63/workers 1/tenant t 1 64/||line 3 wrong/mwreplay: the line isn't `tenant NAME WORDS QUOTA` before all old files and commands, with a new name, 1 to 4096 words and a quota of 1 to 64, all quotas together at most the pool/
+pool 1/workers 1/tenant t 9 1/old t 0:1 1:2 2:3 3:4 4:5 5:6 6:7 7:8 8:9/||line 4 wrong/mwreplay: the line isn't `old NAME A:V ..` before all commands, of a tenant of quota 32 or less that has no such line yet, with 1 to 8 entries, rising addresses and values up to 281474976710655/
+pool 1/workers 1/tenant t 1 1/old t 0:1/old t 0:1/||line 5 wrong/mwreplay: the line isn't `old NAME A:V ..` before all commands, of a tenant of quota 32 or less that has no such line yet, with 1 to 8 entries, rising addresses and values up to 281474976710655/
+pool 1/workers 1/old t 0:1/tenant t 1 1/||line 3 wrong/mwreplay: the line isn't `old NAME A:V ..` before all commands, of a tenant of quota 32 or less that has no such line yet, with 1 to 8 entries, rising addresses and values up to 281474976710655/
+pool 2/workers 1/tenant t 1 1/old t 0:1/tenant u 1 1/||line 5 wrong/mwreplay: the line isn't `tenant NAME WORDS QUOTA` before all old files and commands, with a new name, 1 to 4096 words and a quota of 1 to 64, all quotas together at most the pool/
+pool 2/workers 1/tenant t 1 1/old u 0:1/tenant u 1 1/||line 4 wrong/mwreplay: the line isn't `old NAME A:V ..` before all commands, of a tenant of quota 32 or less that has no such line yet, with 1 to 8 entries, rising addresses and values up to 281474976710655/";
 
 #[test]
 fn first_lines_that_are_wrong(rt: HostRuntime) -> Result<(), Fail> {

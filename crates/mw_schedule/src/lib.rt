@@ -7,6 +7,7 @@
 mod commands;
 mod config;
 mod fields;
+mod forms;
 mod lines;
 mod olds;
 mod reader;
@@ -15,6 +16,7 @@ mod restarts;
 mod schedule;
 mod steps;
 
+pub use forms::wrong_line;
 pub use reader::read_schedule;
 pub use schedule::{Command, Schedule, ScheduleFault, ScheduleLine};
 pub use steps::StepKind;
