@@ -89,6 +89,68 @@ fn repeats<R: Threads + Wait + Clock + Sync>(rt: &R, alloc: Global) -> Result<u3
 #[test]
 fn long_holds_are_in_turn(rt: HostRuntime) -> Result<(), Fail> {
     let repeats = repeats(&rt, rt.alloc())?;
-    assert!(rt; repeats < HOLDS / 4);
+    assert!(rt; repeats < HOLDS / 2);
+    Ok(())
+}
+
+/// How many threads come one after another.
+const COMERS: usize = 7;
+
+/// How many milliseconds one comes after another.
+const APART: u64 = 30;
+
+/// Who may hold the lock next, and whether all have held it in the order in which they came.
+#[derive(Drop)]
+struct Order {
+    next: usize,
+    is_kept: bool,
+}
+
+impl Order {
+    /// Notes a hold.
+    fn note(&mut self, comer: usize) {
+        self.is_kept = self.is_kept && comer == self.next;
+        self.next = comer.saturating_add(1);
+    }
+}
+
+/// Comes when it is its time, and holds the lock once. The first holds it until all have come.
+fn come<R: Wait + Clock>(rt: &R, order: &FairLock<Order>, comer: usize) {
+    thread::sleep(
+        rt,
+        Duration::from_millis(APART.saturating_mul(comer as u64)),
+    );
+    let mut guard = order.lock(rt);
+    let rest = if comer == 0 {
+        APART.saturating_mul(COMERS as u64)
+    } else {
+        3
+    };
+    thread::sleep(rt, Duration::from_millis(rest));
+    guard.value.note(comer);
+}
+
+/// Whether threads that come one after another hold the lock in that order.
+fn is_in_order<R: Threads + Wait + Clock + Sync>(
+    rt: &R,
+    alloc: Global,
+) -> Result<bool, AllocError> {
+    let order = FairLock::new(Order {
+        next: 0,
+        is_kept: true,
+    });
+    let shared = &order;
+    thread::map_indices(rt, alloc, COMERS, &|comer| come(rt, shared, comer))?;
+    Ok(order.into_inner().is_kept)
+}
+
+/// On a busy machine a thread may come too late. So it is tried several times.
+#[test]
+fn the_queue_is_in_order(rt: HostRuntime) -> Result<(), Fail> {
+    let mut is_kept = false;
+    for _ in 0..8u8 {
+        is_kept = is_kept || is_in_order(&rt, rt.alloc())?;
+    }
+    assert!(rt; is_kept);
     Ok(())
 }
