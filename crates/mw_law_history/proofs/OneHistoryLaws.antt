@@ -110,7 +110,7 @@ module _ (config : Config) (begun : (ℕ → TenantStart) → List WorldEvent �
   two : (id other index another : ℕ) (view its : View) (one that : Finished) → get_elem? s.views id ≡ some view → get_elem? s.views other ≡ some its → slice_get view.mine index ≡ Some one → slice_get its.mine another ≡ Some that
       → one.tenant ≡ that.tenant → ((id ≡ other) × (index ≡ another)) ⊎ AreTwo one that
   two id other index another view its one that at there mine also tenant = elim (cases_eq id other) [
-    | inl one_view ↦ elim (cases_eq index another) [ | inl one_index ↦ inl (one_view, one_index) | inr apart ↦ inr (are_two (λ same. apart same.1)) ]
+    | inl one_view ↦ elim (cases_eq index another) [ inl one_index ↦ inl (one_view, one_index) | inr apart ↦ inr (are_two (λ same. apart same.1)) ]
     | inr apart ↦ inr (are_two (λ same. apart same.0))
   ]
     where

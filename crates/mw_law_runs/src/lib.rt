@@ -20,7 +20,7 @@ pub use knowledge_laws::{
 pub use laws::{
     callers_status_stays, calls_keep_releasers, calls_keep_sound, comes_keep_sound,
     counts_have_rest, events_keep_sound, hands_keep_sound, last_pins_are_free,
-    pinned_gates_keep_their_numbers, places_are_there,
-    requests_release_their_words, runs_are_bit_exact, runs_are_sound, short_runs_have_numbers,
-    starts_are_sound, steps_keep_releasers, turns_keep_sound,
+    pinned_gates_keep_their_numbers, places_are_there, requests_release_their_words,
+    runs_are_bit_exact, runs_are_sound, short_runs_have_numbers, starts_are_sound,
+    steps_keep_releasers, turns_keep_sound,
 };

@@ -16,7 +16,6 @@ pub use laws::{
     attempts_are_numbers, changes_fit, every_run_is_durably_linearizable,
     labels_keep_history_match, late_marks_leave_replies, marks_are_own, quotas_are_told,
     reads_turn_back_for_three_reasons, replies_are_linearized, replies_have_places,
-    requests_have_begun, runs_are_not_worn, runs_are_simulated,
-    runs_have_world_facts, sealed_changes_go_on, sealed_come_in_order, seals_are_held,
-    words_are_of_marks,
+    requests_have_begun, runs_are_not_worn, runs_are_simulated, runs_have_world_facts,
+    sealed_changes_go_on, sealed_come_in_order, seals_are_held, words_are_of_marks,
 };

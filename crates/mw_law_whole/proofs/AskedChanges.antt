@@ -86,10 +86,13 @@ came_now lines k n job now before = elim (cases_eq n k) [
 
     on : n ≢ k → AreOf lines n (now.entries n) → AreOf (more lines (Some (Ask k job))) n (now.entries n)
     on apart (inr asked) = inr (asked_on lines (Some (Ask k job)) n (now.entries n) asked)
-    on apart (inl none) = inl (none.0, λ at another came. elim (got_which lines (Some (Ask k job)) (Some (Ask n another)) at came) [
-      | inl earlier ↦ none.1 at another earlier
-      | inr last ↦ other apart another last.1
-    ])
+    on apart (inl none) = inl (
+      none.0,
+      λ at another came. elim (got_which lines (Some (Ask k job)) (Some (Ask n another)) at came) [
+        | inl earlier ↦ none.1 at another earlier
+        | inr last ↦ other apart another last.1
+      ],
+    )
 
 by_line : (lines : List (Option Mark)) (line : Option Mark) (now : AbstractState) → HasNoStart (line ∷ []) → Knows lines now → Knows (more lines line) (after_line now line)
 by_line lines None now none knows = stays lines None now now tt refl refl knows
