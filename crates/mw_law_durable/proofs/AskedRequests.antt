@@ -1,6 +1,6 @@
 -- A request that a pass was answered has asked for the change of its job, in every run that goes on from the one that the pass knew.
 -- Used by: DurableLaws. It may change freely as long as this crate checks.
-use Rattle.std.specs.Prelude.{ℕ, ◌≡◌, ◌<◌, ◌+◌, ◌++◌, List, [], ◌∷◌, map, Option, Some}
+use Rattle.std.specs.Prelude.{ℕ, ◌≡◌, ◌<◌, ◌++◌, List, [], ◌∷◌, map, Option, Some}
 use Rattle.std.specs.Option.{option_and_then}
 use Rattle.std.proofs.Common.{refl, sym, ap, subst, ◌∙◌, arith, append_assoc}
 use Rattle.std.proofs.lemmas.Option.{option_and_then_some}
@@ -74,7 +74,7 @@ module _ (config : Config) (openings : ℕ → TenantStart) (before events : Lis
   on : ExtendsRun arrival.known (known_run_of config openings before events)
   on = subst (λ (one : Option KnownRun). ExtendsKnownRun one (Some (known_run_of config openings before events))) arrival.is_known known
 
-  come : WorldEvent
+  abbrev come : WorldEvent
   come = Come worker tenant job
 
   split : Parts events arrival.until come
@@ -84,7 +84,7 @@ module _ (config : Config) (openings : ℕ → TenantStart) (before events : Lis
   parted : events ≡ split.left ++ come ∷ split.right
   parted = split.parted ∙ ap (λ (one : WorldEvent). split.left ++ one ∷ split.right) (plain_come split.here worker tenant job split.is_here)
 
-  until : List WorldEvent
+  abbrev until : List WorldEvent
   until = before ++ split.left
 
   whole : run config (world_at config openings) (until ++ come ∷ split.right) ≡ Some state

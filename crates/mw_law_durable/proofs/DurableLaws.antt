@@ -2,7 +2,7 @@
 -- change is one of these; if it was answered otherwise, its change is there wholly or not at all.
 -- Used by: the laws of src/laws.rt. It may change freely as long as this crate checks.
 use Rattle.std.specs.Prelude.{ℕ, zero, suc, ◌≡◌, ◌<◌, ◌++◌, List, [], ◌∷◌, map, slice_get, Option, Some}
-use Rattle.std.proofs.Common.{sym, ap, subst, ◌∙◌, inl, inr, append_assoc}
+use Rattle.std.proofs.Common.{refl, sym, ap, subst, ◌∙◌, inl, inr, append_assoc}
 use Rattle.std.proofs.lemmas.Option.{none-some}
 use Rattle.atomic_table.specs.Table.{State as Table}
 use Rattle.mw_actor.specs.ActorState.{ActorState}
@@ -19,7 +19,7 @@ use Rattle.mw_world.specs.Claim.Headline.{IsExecution}
 use Rattle.mw_world.specs.Definition.Events.{WorldEvent}
 use Rattle.mw_world.specs.Definition.State.{State, TenantStart, tenants_of}
 use Rattle.mw_law_store.specs.History.{IsNoStart}
-use Rattle.mw_law_whole.specs.WholeChanges.{IsAskedFor, IsWholeChange}
+use Rattle.mw_law_whole.specs.WholeChanges.{IsAskedChange, IsAskedFor, IsWholeChange}
 use Rattle.mw_law_whole.proofs.WholeChangeLaws.{requests_ask_for_one_change, sealed_changes_are_whole}
 use Rattle.mw_law_calls.specs.FileTokens.{TellsFile}
 use Rattle.mw_law_calls.specs.FromLaws.{AreNoStarts, IsBeginning, SealedChange, put_sealed, sealed_of}
@@ -35,17 +35,21 @@ use Rattle.mw_rule.proofs.KnownRunLaws.{on_again, stays}
 use Rattle.mw_rule.proofs.WholeCallLaws.{keeps_on, keeps_so}
 use Rattle.mw_rule.proofs.WorkerStretches.{no_starts_on}
 use Rattle.mw_table.specs.HeldFiles.{file_among, tenant_held}
+use Rattle.mw_book.specs.declared.book.Book.{Book}
 use Rattle.mw_book.specs.Crashes.{LeavesEither}
 use Rattle.mw_book.specs.OpenFile.{OnDisk, disk_in}
 use Rattle.mw_book.proofs.RepresentedFiles.{untouched}
-use Rattle.mw_core.specs.FromTable.{End, FilePass, FileToken, FindsFault, GoesWell, MeetsFault, Skips, file_kept}
-use Rattle.mw_core.specs.FileCalls.{event_of, stake_by}
+use Rattle.mw_core.specs.FromTable.{FilePass, FileToken, Pass, file_kept}
+use Rattle.mw_table.specs.FromRule.{End, FindsFault, GoesWell, MeetsFault, Skips}
+use Rattle.mw_core.specs.FileCalls.{FilesOnce, event_of, stake_by}
 use Rattle.mw_core.proofs.FromTable.{each_last}
+use Rattle.mw_engine.specs.Brand.{Identity}
+use Rattle.mw_engine.specs.GuardedFile.{IsKept}
 use Rattle.mw_engine.specs.History.{IsAnswered}
 use Rattle.mw_engine.proofs.AgreementForms.{agrees_of}
-use Rattle.mw_law_durable.specs.Durable.{AreSealed, AreSealedIn, CallsKeepChanges, CallsLeaveWholeChanges, CallsLeaveWhollyOrNot, LeavesWholeChanges, LeavesWhollyOrNot, LeavesWithChange, at_stake_in, MomentsKeepChanges, MomentsLeaveWholeChanges, MomentsLeaveWholeChangesInACall, MomentsLeaveWhollyOrNot}
+use Rattle.mw_law_durable.specs.Durable.{AreSealed, AreSealedIn, CallsKeepChanges, CallsLeaveWholeChanges, CallsLeaveWhollyOrNot, LeavesChangesOfRun, LeavesWholeChanges, LeavesWhollyOrNot, LeavesWithChange, at_stake_in, MomentsKeepChanges, MomentsLeaveWholeChanges, MomentsLeaveWholeChangesInACall, MomentsLeaveWhollyOrNot}
 use Rattle.mw_law_durable.proofs.AskedRequests.{request_asked}
-use Rattle.mw_law_durable.proofs.Stakes.{doubt_is_whole, stake_is_whole}
+use Rattle.mw_law_durable.proofs.Stakes.{doubt_is_asked, doubt_is_pending, stake_is_asked}
 
 -- Prefixes.
 
@@ -67,22 +71,24 @@ got_on first all place one begins at = ap (λ (ones : List SealedChange). slice_
 -- What a view that fits a run knows of a tenant's sealed changes.
 module _ (config : Config) (openings : ℕ → TenantStart) (before events : List WorldEvent) (state : State) (view : View) (tenant : ℕ) (played : IsExecution config openings (before ++ events) state)
     (known : ExtendsKnownRun view.known_run (Some (known_run_of config openings before events))) (fits : Fits config openings state events view) (there : tenant < tenants_of config) where
-  sealed_by : (more : List Entry) → AreNoStarts events → IsWholeChange state tenant more → AreSealedIn config view.openings view.known_run (seen_at view.seen tenant) tenant more (sealed_of openings state tenant)
-  sealed_by more none stake =
+  sealed_of_view : (more : List Entry) → AreNoStarts events → IsAskedChange state tenant more → AreSealed view tenant more (sealed_of openings state tenant)
+  sealed_of_view more none stake =
       let right = sealed_are_right config openings (before ++ events) state tenant played there in
       record {
         openings = openings;
         before = before;
         events = events;
         state = state;
-        played = played;
+        played = subst (λ (one : Config). IsExecution one openings (before ++ events) state) (sym fits.same_config) played;
         no_starts = none;
-        goes_on = known;
+        goes_on = subst (λ (one : Config). ExtendsKnownRun view.known_run (Some (known_run_of one openings before events))) (sym fits.same_config) known;
         gave = fits.gave tenant there;
         are = λ i. sealed_of openings state tenant;
         first = fits.seen tenant there;
         right = subst (λ (words : List ℕ). AreRight words (sealed_of openings state tenant)) (fits.gave tenant there).words (record { fit = right.fit; once = right.once });
         asked = sealed_changes_are_whole config openings (before ++ events) state tenant played there;
+        wholly = λ request place entries one its at same. requests_ask_for_one_change config openings (before ++ events) state tenant request one.entries entries played there
+            (subst (λ (n : ℕ). IsAskedFor state tenant n one.entries) same (sealed_changes_are_whole config openings (before ++ events) state tenant played there place one at)) its;
         at_stake = stake;
       }
 
@@ -90,10 +96,6 @@ module _ (config : Config) (openings : ℕ → TenantStart) (before events : Lis
   contents_by =
       let right = sealed_are_right config openings (before ++ events) state tenant played there in
       sym right.all ∙ ap (λ (words : List ℕ). put_sealed words (sealed_of openings state tenant)) (fits.gave tenant there).words
-
-  sealed_of_view : (more : List Entry) → AreNoStarts events → IsWholeChange state tenant more → AreSealed view tenant more (sealed_of openings state tenant)
-  sealed_of_view more none stake =
-      subst (λ (one : Config). AreSealedIn one view.openings view.known_run (seen_at view.seen tenant) tenant more (sealed_of openings state tenant)) (sym fits.same_config) (sealed_by more none stake)
 
 -- what a later view knows of the sealed changes, an earlier one does
 sealed_for : (old new : View) (tenant : ℕ) (more : List Entry) (sealed : List SealedChange) → ExtendsView old new → tenant < tenants_of old.config → AreSealed new tenant more sealed → AreSealed old tenant more sealed
@@ -112,6 +114,7 @@ sealed_for old new tenant more sealed goes there are =
       first = prefix_on (seen_at old.seen tenant) (seen_at new.seen tenant) sealed (goes.seen tenant there) are.first;
       right = are.right;
       asked = are.asked;
+      wholly = are.wholly;
       at_stake = are.at_stake;
     }))
 
@@ -163,7 +166,7 @@ module _ {D : Type 0} (facts : D → Facts) where
           let holds = subst (Each (HoldsFile view.config went.state)) event.has went.knew.files in
           let there = holds.0.there in
           let sealed = sealed_of went.openings went.state token.tenant in
-          let stake = stake_is_whole view.config went.openings (went.before ++ went.events) went.state token.tenant went.played there (went.state.tenant_states token.tenant).quota view.config.pool token holds.0.tells files.once.end files.once.called in
+          let stake = stake_is_asked view.config went.openings (went.before ++ went.events) went.state token.tenant went.played there (went.state.tenant_states token.tenant).quota view.config.pool token holds.0.tells files.once.end files.once.called in
           let are = sealed_of_view view.config went.openings went.before went.events went.state view token.tenant went.played went.follows.known went.knew there (at_stake_in facts files) went.no_starts stake in
           let words = contents_by view.config went.openings went.before went.events went.state view token.tenant went.played went.follows.known went.knew there in
           let same = sym holds.0.tells.contents ∙ (words ∙ ap (λ (given : List TenantStart). put_sealed (opening_at given token.tenant).words sealed) event.keeps.same_openings) in
@@ -188,7 +191,7 @@ module _ {D : Type 0} (facts : D → Facts) where
           let there = holds.0.there in
           let known = subst (λ (one : Option KnownRun). ExtendsKnownRun last.known_run one) went.known_run (stays last.known_run) in
           let more = event_of old.worker files.once.end ∷ [] in
-          let stake = doubt_is_whole config went.openings (went.before ++ (went.events ++ more)) went.next kept.tenant went.goes_on there (went.next.tenant_states kept.tenant).quota config.pool kept holds.0.tells in
+          let stake = doubt_is_asked config went.openings (went.before ++ (went.events ++ more)) went.next kept.tenant went.goes_on there (went.next.tenant_states kept.tenant).quota config.pool kept holds.0.tells in
           let none = no_starts_on went.events more went.no_starts (no_start old.worker files.once.end, tt) in
           let are = sealed_of_view config went.openings went.before (went.events ++ more) went.next last kept.tenant went.goes_on known went.knows there kept.doubt none stake in
           let words = contents_by config went.openings went.before (went.events ++ more) went.next last kept.tenant went.goes_on known went.knows there in
@@ -218,57 +221,67 @@ module _ {D : Type 0} (facts : D → Facts) where
     has = got_on (seen_at now.seen tenant) whole.sealed answered.answered.place _ (prefix_on (seen_at now.seen tenant) (seen_at view.seen tenant) whole.sealed seen whole.are.first) answered.answered.right;
   }
 
-  -- at a moment, whatever leaves the words that the file pass tells, or these with one change more, leaves whole changes
-  whole_at : (config : Config) (begun : (ℕ → TenantStart) → List WorldEvent → Type 0) (s : Table ActorState View) (id other : ℕ) (view : View) (file_pass : FilePass) (more : List Entry) (first last : Option D)
-      → TableInvariant config begun s → get_elem? s.views id ≡ some view → IsLive view → get_elem? s.views other ≡ some file_pass.seat.me.0
-      → ((openings : ℕ → TenantStart) (events : List WorldEvent) (state : State) (played : IsExecution config openings events state) → (file_kept file_pass).tenant < tenants_of config
-      → TellsFile (state.tenant_states (file_kept file_pass).tenant).quota config.pool (file_kept file_pass) (state.tenant_states (file_kept file_pass).tenant).file → IsWholeChange state (file_kept file_pass).tenant more)
-      → OnDisk facts (LeavesEither (file_kept file_pass).contents more) first last → LeavesWholeChanges facts view file_pass.tenant more first last
-  whole_at config begun s id other view file_pass more first last rule at live held stakes leaves =
-      elim (rule.fits other file_pass.seat.me.0 held) [
-        | inl spent ↦ absurd (let e = spent.flag in let alive = file_pass.live in cc)
-        | inr has ↦ elim (rule.fits id view at) [
-          | inl spent ↦ absurd (never spent live)
-          | inr fits ↦ subst (λ (n : ℕ). LeavesWholeChanges facts view n more first last) its (whole has fits)
-        ]
-      ]
-    where
-      token : FileToken
-      token = file_kept file_pass
+  module _ (config : Config) (begun : (ℕ → TenantStart) → List WorldEvent → Type 0) (s : Table ActorState View) (id other : ℕ) (view : View) (file_pass : FilePass) (tied : TableInvariant config begun s)
+      (at : get_elem? s.views id ≡ some view) (live : IsLive view) (held : get_elem? s.views other ≡ some file_pass.seat.me.0) where
+    abbrev token : FileToken
+    token = file_kept file_pass
 
-      its : token.tenant ≡ file_pass.tenant
-      its = same_tenant file_pass.seat.me.0.files file_pass.tenant file_pass.its
+    -- what the rule ties to the model
+    its : token.tenant ≡ file_pass.tenant
+    its = same_tenant file_pass.seat.me.0.files file_pass.tenant file_pass.its
 
-      never : IsSpent view → IsLive view → ⊥
-      never spent (inl alive) = let e = spent.flag in cc
-      never spent (inr (one, rest, are)) = let e = spent.no_tokens in cc
+    never : IsSpent view → IsLive view → ⊥
+    never spent (inl alive) = let e = spent.flag in cc
+    never spent (inr (one, rest, are)) = let e = spent.no_tokens in cc
 
-      whole : Fits config rule.past.openings rule.state rule.events file_pass.seat.me.0 → Fits config rule.past.openings rule.state rule.events view
-          → LeavesWholeChanges facts view token.tenant more first last
-      whole has fits =
-          let past = rule.past in
-          let one = holds_one config rule.state file_pass.seat.me.0.files file_pass.tenant file_pass.its has.files in
-          let known = (rule.known id view at).known in
-          let words = contents_by config past.openings past.before rule.events rule.state view token.tenant past.played known fits one.there in
-          record {
-            sealed = sealed_of past.openings rule.state token.tenant;
-            are = sealed_of_view config past.openings past.before rule.events rule.state view token.tenant past.played known fits one.there more past.no_starts
-                (stakes past.openings (past.before ++ rule.events) rule.state past.played one.there one.tells);
-            leaves = subst (λ (ones : List ℕ). OnDisk facts (LeavesEither ones more) first last) (sym one.contents ∙ words) leaves;
-          }
+    one : HoldsOne config tied.state file_pass.seat.me.0.files
+    one = elim (tied.fits other file_pass.seat.me.0 held) [
+      | inl spent ↦ absurd (let e = spent.flag in let alive = file_pass.live in cc)
+      | inr has ↦ holds_one config tied.state file_pass.seat.me.0.files file_pass.tenant file_pass.its has.files
+    ]
+
+    of_view : Fits config tied.past.openings tied.state tied.events view
+    of_view = elim (tied.fits id view at) [ inl spent ↦ absurd (never spent live) | inr so ↦ so ]
+
+    -- at a moment, whatever leaves the words that the file pass tells, or these with one change more, leaves whole changes
+    whole_at : (more : List Entry) (first last : Option D) → IsAskedChange tied.state token.tenant more → OnDisk facts (LeavesEither token.contents more) first last
+        → LeavesChangesOfRun facts config begun tied view file_pass.tenant more first last
+    unfolding sealed_of_view
+    whole_at more first last stake leaves =
+        let past = tied.past in
+        let known = (tied.known id view at).known in
+        let words = contents_by config past.openings past.before tied.events tied.state view token.tenant past.played known of_view one.there in
+        let here : LeavesWholeChanges facts view token.tenant more first last = record {
+          sealed = sealed_of past.openings tied.state token.tenant;
+          are = sealed_of_view config past.openings past.before tied.events tied.state view token.tenant past.played known of_view one.there more past.no_starts stake;
+          leaves = subst (λ (ones : List ℕ). OnDisk facts (LeavesEither ones more) first last) (sym one.contents ∙ words) leaves;
+        } in
+        subst (λ (n : ℕ). LeavesChangesOfRun facts config begun tied view n more first last) its (here, (refl, refl, refl, refl))
+
+    pending : IsWholeChange tied.past.openings tied.state file_pass.tenant token.doubt
+    pending = subst (λ (n : ℕ). IsWholeChange tied.past.openings tied.state n token.doubt) its
+        (doubt_is_pending config tied.past.openings (tied.past.before ++ tied.events) tied.state token.tenant tied.past.played one.there (tied.state.tenant_states token.tenant).quota config.pool token one.tells)
+
+    at_rest : (identity : Identity) (book : Book D) → IsKept facts identity book file_pass → LeavesChangesOfRun facts config begun tied view file_pass.tenant token.doubt (disk_in book.held) (disk_in book.held)
+    at_rest identity book kept =
+        whole_at token.doubt (disk_in book.held) (disk_in book.held)
+        (doubt_is_asked config tied.past.openings (tied.past.before ++ tied.events) tied.state token.tenant tied.past.played one.there (tied.state.tenant_states token.tenant).quota config.pool token one.tells)
+        (untouched facts book.held token.contents token.doubt (agrees_of facts book token (opening_at identity.openings file_pass.tenant).quota identity.config.pool kept.agrees).shows.stands)
+
+    in_a_call : (book after : Book D) (old new : Pass) (actor next : ActorState) (kept : FileToken) (once : FilesOnce facts old new actor next book after token kept)
+        → LeavesChangesOfRun facts config begun tied view file_pass.tenant (stake_by once.end once.called token) (disk_in book.held) (disk_in after.held)
+    in_a_call book after old new actor next kept once =
+        whole_at (stake_by once.end once.called token) (disk_in book.held) (disk_in after.held)
+        (stake_is_asked config tied.past.openings (tied.past.before ++ tied.events) tied.state token.tenant tied.past.played one.there (tied.state.tenant_states token.tenant).quota config.pool token one.tells once.end once.called)
+        once.safe
 
   pub moments_leave_whole_changes : (config : Config) (begun : (ℕ → TenantStart) → List WorldEvent → Type 0) → MomentsLeaveWholeChanges facts config begun
-  moments_leave_whole_changes config begun s id other view identity book file_pass rule at live held kept =
-      let token = file_kept file_pass in
-      whole_at config begun s id other view file_pass token.doubt (disk_in book.held) (disk_in book.held) rule at live held
-      (λ openings events state played there tells. doubt_is_whole config openings events state token.tenant played there (state.tenant_states token.tenant).quota config.pool token tells)
-      (untouched facts book.held token.contents token.doubt (agrees_of facts book token (opening_at identity.openings file_pass.tenant).quota identity.config.pool kept.agrees).shows.stands)
+  moments_leave_whole_changes config begun s id other view identity book file_pass tied at live held kept =
+      (at_rest config begun s id other view file_pass tied at live held identity book kept, pending config begun s id other view file_pass tied at live held)
 
   pub moments_leave_whole_changes_in_a_call : (config : Config) (begun : (ℕ → TenantStart) → List WorldEvent → Type 0) → MomentsLeaveWholeChangesInACall facts config begun
-  moments_leave_whole_changes_in_a_call config begun s id other view identity book file_pass rule at live held kept old new actor next after left once =
-      whole_at config begun s id other view file_pass (stake_by once.end once.called (file_kept file_pass)) (disk_in book.held) (disk_in after.held) rule at live held
-      (λ openings events state played there tells. stake_is_whole config openings events state (file_kept file_pass).tenant played there (state.tenant_states (file_kept file_pass).tenant).quota config.pool (file_kept file_pass) tells once.end once.called)
-      once.safe
+  moments_leave_whole_changes_in_a_call config begun s id other view identity book file_pass tied at live held kept old new actor next after left once =
+      in_a_call config begun s id other view file_pass tied at live held book after old new actor next left once
 
   pub calls_keep_changes : CallsKeepChanges facts
   calls_keep_changes identity first now job old new actor next answered goes files =
@@ -284,12 +297,14 @@ module _ {D : Type 0} (facts : D → Facts) where
       low = tenant_of first now actor.tenant job SaysYes answered
 
   pub moments_keep_changes : (config : Config) (begun : (ℕ → TenantStart) → List WorldEvent → Type 0) → MomentsKeepChanges facts config begun
-  moments_keep_changes config begun s id other first now view job identity book file_pass rule at live held kept answered goes =
-      let seen = goes.seen file_pass.tenant (tenant_of first now file_pass.tenant job SaysYes answered) in (
-        with_change first now view file_pass.tenant job (file_kept file_pass).doubt (disk_in book.held) (disk_in book.held) answered seen
-            (moments_leave_whole_changes config begun s id other view identity book file_pass rule at live held kept),
-        λ old new actor next after left once. with_change first now view file_pass.tenant job (stake_by once.end once.called (file_kept file_pass)) (disk_in book.held) (disk_in after.held) answered seen
-            (moments_leave_whole_changes_in_a_call config begun s id other view identity book file_pass rule at live held kept old new actor next after left once),
+  unfolding with_change at_rest in_a_call
+  moments_keep_changes config begun s id other first now view job identity book file_pass tied at live held kept answered goes =
+      let seen = goes.seen file_pass.tenant (tenant_of first now file_pass.tenant job SaysYes answered) in
+      let rest = at_rest config begun s id other view file_pass tied at live held identity book kept in (
+        (with_change first now view file_pass.tenant job (file_kept file_pass).doubt (disk_in book.held) (disk_in book.held) answered seen rest.0, rest.1),
+        λ old new actor next after left once.
+            let during = in_a_call config begun s id other view file_pass tied at live held book after old new actor next left once in
+            (with_change first now view file_pass.tenant job (stake_by once.end once.called (file_kept file_pass)) (disk_in book.held) (disk_in after.held) answered seen during.0, during.1),
       )
 
   -- the change of a request that was answered is among whole changes wholly or not at all
@@ -298,8 +313,11 @@ module _ {D : Type 0} (facts : D → Facts) where
   wholly first now view tenant job reply more old new answered goes whole = record {
     whole = whole;
     asked = asked;
-    sealed_wholly = λ place one at same. once one.entries (subst (λ (n : ℕ). IsAskedFor are.state tenant n one.entries) same (are.asked place one at));
-    at_stake_wholly = λ its. once more its;
+    sealed_wholly = λ place one at same. are.wholly answered.token.request place (entries_of job) one asked at same;
+    at_stake_wholly = elim are.at_stake [
+      | inl none ↦ inl none
+      | inr owned ↦ inr (owned.0, owned.1, λ same. once owned.0 same owned.1)
+    ];
   }
     where
       are : AreSealed view tenant more whole.sealed
@@ -314,8 +332,9 @@ module _ {D : Type 0} (facts : D → Facts) where
       asked : IsAskedFor are.state tenant answered.token.request (entries_of job)
       asked = request_asked view.config are.openings are.before are.events are.state are.played are.no_starts first now known answered.token.worker tenant answered.token.request job low answered.run.arrival
 
-      once : (others : List Entry) → IsAskedFor are.state tenant answered.token.request others → others ≡ entries_of job
-      once others its = requests_ask_for_one_change view.config are.openings (are.before ++ are.events) are.state tenant answered.token.request others (entries_of job) are.played low its asked
+      once : (owner : ℕ) → owner ≡ answered.token.request → IsAskedFor are.state tenant owner more → more ≡ entries_of job
+      once owner same its = requests_ask_for_one_change view.config are.openings (are.before ++ are.events) are.state tenant answered.token.request more (entries_of job) are.played low
+          (subst (λ (n : ℕ). IsAskedFor are.state tenant n more) same its) asked
 
   pub calls_leave_wholly_or_not : CallsLeaveWhollyOrNot facts
   calls_leave_wholly_or_not identity first now job reply old new actor next answered goes files =
@@ -326,9 +345,11 @@ module _ {D : Type 0} (facts : D → Facts) where
       )
 
   pub moments_leave_wholly_or_not : (config : Config) (begun : (ℕ → TenantStart) → List WorldEvent → Type 0) → MomentsLeaveWhollyOrNot facts config begun
-  moments_leave_wholly_or_not config begun s id other first now view job reply identity book file_pass rule at live held kept answered goes = (
-    wholly first now view file_pass.tenant job reply (file_kept file_pass).doubt (disk_in book.held) (disk_in book.held) answered goes
-        (moments_leave_whole_changes config begun s id other view identity book file_pass rule at live held kept),
-    λ old new actor next after left once. wholly first now view file_pass.tenant job reply (stake_by once.end once.called (file_kept file_pass)) (disk_in book.held) (disk_in after.held) answered goes
-        (moments_leave_whole_changes_in_a_call config begun s id other view identity book file_pass rule at live held kept old new actor next after left once),
-  )
+  unfolding wholly at_rest in_a_call
+  moments_leave_wholly_or_not config begun s id other first now view job reply identity book file_pass tied at live held kept answered goes =
+      let rest = at_rest config begun s id other view file_pass tied at live held identity book kept in (
+        (wholly first now view file_pass.tenant job reply (file_kept file_pass).doubt (disk_in book.held) (disk_in book.held) answered goes rest.0, rest.1),
+        λ old new actor next after left once.
+            let during = in_a_call config begun s id other view file_pass tied at live held book after old new actor next left once in
+            (wholly first now view file_pass.tenant job reply (stake_by once.end once.called (file_kept file_pass)) (disk_in book.held) (disk_in after.held) answered goes during.0, during.1),
+      )

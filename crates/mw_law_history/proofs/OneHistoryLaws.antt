@@ -19,7 +19,7 @@ use Rattle.mw_world.specs.Definition.State.{TenantStart, tenants_of, world_at}
 use Rattle.mw_law_calls.specs.FromLaws.{IsRightAt, SealedChange, sealed_of}
 use Rattle.mw_law_store.specs.ReplyPlaces.{words_at_start}
 use Rattle.mw_rule.specs.Prefixes.{seen_at}
-use Rattle.mw_rule.specs.Rule.{Each, Fits, IsFinished, IsHandedOut, IsRightAmong, IsSpent, TableInvariant, is_of, notes_of, quota_given, times_finished, weight, words_given}
+use Rattle.mw_rule.specs.Rule.{Each, Fits, IsFinished, IsHandedOut, IsLive, IsRightAmong, IsSpent, TableInvariant, is_of, notes_of, quota_given, times_finished, weight, words_given}
 use Rattle.mw_rule.specs.declared.views.Finished.{Finished}
 use Rattle.mw_rule.specs.declared.views.View.{View}
 use Rattle.mw_rule.proofs.KnowledgeIsRight.{right_on}
@@ -119,15 +119,18 @@ module _ (config : Config) (begun : (ℕ → TenantStart) → List WorldEvent �
           let distinct = numbers id other index another view its one that at there mine also tenant apart in
           record { numbers = distinct; changes = own_changes one that (right id index view one at mine) (right other another its that there also) tenant distinct }
 
-  pub one_history : IsOneHistory config s
+  spent_or_live : (view : View) → IsSpent view → IsLive view → ⊥
+  spent_or_live view spent (inl alive) = let e = spent.flag in cc
+  spent_or_live view spent (inr (one, rest, are)) = let e = spent.no_tokens in cc
+
+  fits_live : (id : ℕ) (view : View) → get_elem? s.views id ≡ some view → IsLive view → Fits config rule.past.openings rule.state rule.events view
+  fits_live id view at live = elim (rule.fits id view at) [ inl spent ↦ absurd (spent_or_live view spent live) | inr fits ↦ fits ]
+
+  pub one_history : IsOneHistory config begun s rule
   one_history = record {
-    openings = rule.past.openings;
-    before = rule.past.before;
-    events = rule.events;
-    state = rule.state;
-    played = rule.past.played;
-    no_starts = rule.past.no_starts;
     known = λ id view at. (rule.known id view at).known;
+    gave = λ id tenant view at live low. (fits_live id view at live).gave tenant low;
+    seen = λ id tenant view at live low. (fits_live id view at live).seen tenant low;
     right = right;
     two = two;
   }

@@ -6,10 +6,13 @@ ghost use Rattle.mw_law_history.specs.OneHistory.{MomentsHaveOneHistory};
 use mw_rule::Begins;
 
 /// At every moment of the shared words one run of the model is behind what all passes know, whether they ever meet or
-/// not.
+/// not: the run by which the words are under their rule.
 ///
-/// - `history`: each reply that any pass has given is right at its position among its tenant's sealed changes in this
-///   run, and the run handed it out. No two replies are to one request, and each YES has a change of its own.
+/// `history`: each VAL, NO and YES that any pass has given is right at its position among its tenant's sealed changes in
+/// this run. The run handed out each reply. No two replies are to one request, and each YES has a change of its own. What
+/// a pass has seen are the first of these changes.
+///
+/// Not said: the order in time of replies that two passes have given.
 pub fn every_moment_has_one_history<B: Begins>()
     ensures history { (key : B) → MomentsHaveOneHistory (B.config key) (B.begun key) }
 {}

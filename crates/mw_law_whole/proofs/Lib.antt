@@ -1,2 +1,3 @@
 pub mod AskedChanges
+pub mod StoresInDoubt
 pub mod WholeChangeLaws

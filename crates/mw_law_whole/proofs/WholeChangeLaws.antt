@@ -1,17 +1,21 @@
 -- The changes in a tenant's file, its change in doubt and its sealed changes are just what requests asked for. The lines of its
 -- history say so of the entries of each request, and its store ties them to the file.
 -- Used by: the law changes_are_whole, mw_law_durable. Its statements may change with mw_law_durable; its proofs may change freely.
-use Rattle.std.specs.Prelude.{ℕ, ◌≡◌, ◌<◌, ◌++◌, List, [], ◌∷◌, length, slice_get, Option, Some}
+use Rattle.std.specs.Prelude.{ℕ, ◌≡◌, ◌≢◌, ◌<◌, ◌⊎◌, true, false, Bool, ◌++◌, List, [], ◌∷◌, length, slice_get, Option, Some, None}
 use Rattle.std.proofs.Common.{refl, sym, ap, subst, ◌∙◌, inl, inr}
-use Rattle.std.proofs.lemmas.Option.{same_Some}
+use Rattle.std.proofs.lemmas.Option.{same_Some, none-some}
 use Rattle.mw_words.specs.declared.jobs.Entry.{Entry}
 use Rattle.mw_words.specs.declared.jobs.Job.{Job}
+use Rattle.mw_words.specs.declared.replies.Reply.TheVariants.{Yes as SaysYes, No as SaysNo, Fault as SaysFault}
+use Rattle.mw_actor.specs.ActorState.{entry_at}
+use Rattle.mw_words.specs.Change.{fits}
 use Rattle.mw_words.specs.declared.statuses.Status.{Status}
 use Rattle.mw_words.specs.declared.statuses.Status.TheVariants.{Draft, Open, YesDirty, Yes, No, DoneYes, DoneNo}
 use Rattle.mw_lone.specs.declared.marks.Mark.{Mark}
 use Rattle.mw_lone.specs.declared.marks.Mark.TheVariants.{Ask}
-use Rattle.mw_lone.specs.Store.{entries_of}
-use Rattle.mw_world_file.specs.Files.{Place, Empty, Prepared, Sealed, entries_at, entries_in, is_empty}
+use Rattle.mw_lone.specs.Store.{Store, RequestState, entries_of, request}
+use Rattle.mw_world_file.specs.Files.{Place, Empty, Prepared, Sealed, entries_at, entries_in, is_empty, is_prepared}
+use Rattle.mw_world_file.specs.Restarts.{opened_file}
 use Rattle.mw_world.specs.declared.config.Config.{Config}
 use Rattle.mw_world.specs.Claim.Headline.{IsExecution}
 use Rattle.mw_world.specs.Claim.Invariant.{IsPlaceOf, placed}
@@ -31,11 +35,14 @@ use Rattle.mw_law_store.proofs.Histories as histories
 use Rattle.mw_law_store.proofs.MarksOfEvents.{come_comes}
 use Rattle.mw_law_store.proofs.RunSimulation.{events_are_simulated, runs_are_simulated}
 use Rattle.mw_law_store.proofs.SealedLists.{stands_at}
+use Rattle.mw_law_store.proofs.SimulationSteps.Started.{starts_simulated}
 use Rattle.mw_law_store.specs.AbstractStates.{AbstractState, SealedChange, abstract_state_at, abstract_state_of, after_marks, first_abstract_state}
 use Rattle.mw_law_store.specs.History.{IsNoStart, SealsStay}
 use Rattle.mw_law_store.specs.ReplyPlaces.{sealed_of}
-use Rattle.mw_law_store.specs.Simulation.{IsSimulated, start_of}
-use Rattle.mw_law_whole.specs.WholeChanges.{FilesHoldWholeChanges, IsAskedFor, IsWholeChange, RequestsAskForOneChange, RequestsStayAsked, SealedChangesAreWhole}
+use Rattle.mw_law_store.specs.Simulation.{IsSimulated, IsSimulatedBy, start_of}
+use Rattle.mw_law_store.specs.Due.{told}
+use Rattle.mw_law_whole.specs.WholeChanges.{DoubtIsWhole, IsAskedFor, IsOfOwner, IsUnsealed, IsWholeChange, PlacesHoldWholeChanges, RequestsAskForOneChange, RequestsStayAsked, SealedChangesAreWhole}
+use Rattle.mw_law_whole.proofs.StoresInDoubt.{HasFault, IsOfFault, fault_stays}
 use Rattle.mw_law_whole.proofs.AskedChanges.{IsFirst, Knows, knows_lines}
 
 seals_stay : SealsStay
@@ -87,40 +94,72 @@ module _ (config : Config) (openings : ℕ → TenantStart) (events : List World
   knows = knows_lines start lines (start_fresh config openings events state tenant played low).first simulated.simulated.history_match.since.no_start
 
   -- the entries of a request of the store
-  asked_whole : (n : ℕ) (entries : List Entry) → (abstract_state_of start lines).entries n ≡ entries → IsWholeChange state tenant entries
-  asked_whole n entries same = elim (knows.entries n) [
-    | inl none ↦ inl (sym same ∙ none.0)
-    | inr asked ↦ inr (n, subst (IsAskedFor state tenant n) same asked)
-  ]
+  asked_so : (by : IsSimulated openings state tenant) (n : ℕ) (found : RequestState) (entries : List Entry) → request by.store n ≡ Some found → entries_of found.job ≡ entries → (entries ≡ []) ⊎ IsAskedFor state tenant n entries
+  asked_so by n found entries at its =
+      let same = by.simulated.history_match.entries n found at ∙ its in
+      elim (knows.entries n) [
+        | inl none ↦ inl (sym same ∙ none.0)
+        | inr asked ↦ inr (subst (IsAskedFor state tenant n) same asked)
+      ]
 
-  in_place : (change : List Entry) (fate : Status) → IsWholeChange state tenant change → IsWholeChange state tenant (entries_in (placed fate change))
-  in_place change Draft whole = inl refl
-  in_place change Open whole = whole
-  in_place change YesDirty whole = whole
-  in_place change Yes whole = whole
-  in_place change (No entry value) whole = whole
-  in_place change DoneYes whole = inl refl
-  in_place change (DoneNo entry value) whole = inl refl
+  -- a request whose reply isn't YES has no sealed change
+  not_sealed : (by : IsSimulated openings state tenant) (n : ℕ) (found : RequestState) → request by.store n ≡ Some found → found.placed ≢ Some SaysYes → IsUnsealed openings state tenant n
+  not_sealed by n found at no_yes place one there same =
+      let history = by.simulated.history_match in
+      let stands = stands_at start lines place one (start_fresh config openings events state tenant played low).sealed history.since.no_start there in
+      let its = history.sealed stands.line one.request stands.is in
+      let is : its.found ≡ found = same_Some its.found found (sym its.is_asked ∙ ap (request by.store) same ∙ at) in
+      no_yes (ap (λ (it : RequestState). it.placed) (sym is) ∙ its.has_reply)
 
-  of_place : (place : ℕ) → IsPlaceOf state tenant place → IsWholeChange state tenant (entries_at (state.tenant_states tenant).file place)
+  -- the reply that is told for a change in a prepared place is none, NO or FAULT
+  not_told : (fault : Bool) (fate : Status) (change : List Entry) → is_prepared (placed fate change) ≡ true → told fault fate change ≢ Some SaysYes
+  not_told true fate change prepared says = let e : SaysFault ≡ SaysYes = same_Some SaysFault SaysYes says in absurd (cc)
+  not_told false Draft change prepared says = absurd (cc)
+  not_told false Open change prepared says = none-some SaysYes says
+  not_told false YesDirty change prepared says = none-some SaysYes says
+  not_told false Yes change prepared says = absurd (cc)
+  not_told false (No entry value) change prepared says = let e : SaysNo (entry_at change entry).addr value ≡ SaysYes = same_Some (SaysNo (entry_at change entry).addr value) SaysYes says in absurd (cc)
+  not_told false DoneYes change prepared says = absurd (cc)
+  not_told false (DoneNo entry value) change prepared says = absurd (cc)
+
+  in_place : (change : List Entry) (fate : Status) → (entries_in (placed fate change) ≡ []) ⊎ (entries_in (placed fate change) ≡ change)
+  in_place change Draft = inl refl
+  in_place change Open = inr refl
+  in_place change YesDirty = inr refl
+  in_place change Yes = inr refl
+  in_place change (No entry value) = inr refl
+  in_place change DoneYes = inl refl
+  in_place change (DoneNo entry value) = inl refl
+
+  of_place : (place : ℕ) → IsPlaceOf state tenant place → (entries_at (state.tenant_states tenant).file place ≡ []) ⊎ IsOfOwner openings state tenant place
   of_place place at =
       let files = runs_have_files config openings events state played in
       let seq = (state.cells.gates at.slot).seq in
+      let fate = state.history.fate at.slot seq in
+      let change = state.history.change at.slot seq in
       let sound = (runs_are_sound config openings events state played).0 in
       let claimed = sound.memory.claims.claimed at.slot at.in_file.taken in
       let of_change = simulated.simulated.refines.asks.changes.asked at.slot seq (claimed, at.in_file.same_tenant) in
-      let entries = simulated.simulated.history_match.entries _ of_change.found of_change.is_asked ∙ of_change.its_entries in
-      let whole = in_place (state.history.change at.slot seq) (state.history.fate at.slot seq) (asked_whole _ (state.history.change at.slot seq) entries) in
-      subst (λ (there : Place). IsWholeChange state tenant (entries_in there))
-      (sym (files.places.there tenant at.slot at.in_file) ∙ ap (state.tenant_states tenant).file.places at.is) whole
+      let there : (state.tenant_states tenant).file.places place ≡ placed fate change = ap (state.tenant_states tenant).file.places (sym at.is) ∙ files.places.there tenant at.slot at.in_file in
+      elim (in_place change fate) [
+        | inl none ↦ inl (ap entries_in there ∙ none)
+        | inr all ↦ elim (asked_so simulated (state.history.request at.slot seq) of_change.found (entries_at (state.tenant_states tenant).file place) of_change.is_asked (of_change.its_entries ∙ sym (ap entries_in there ∙ all))) [
+          | inl none ↦ inl none
+          | inr asked ↦ inr (record {
+            slot = at.slot;
+            in_file = at.in_file;
+            is_place = at.is;
+            asked = asked;
+            unsealed = λ prepared. not_sealed simulated (state.history.request at.slot seq) of_change.found of_change.is_asked
+                (λ yes_said. not_told (state.history.is_fault_decided at.slot seq) fate change (ap is_prepared (sym there) ∙ prepared) (sym of_change.is_placed ∙ yes_said));
+          })
+        ]
+      ]
 
-  by_place : (place : ℕ) (there : Place) → (state.tenant_states tenant).file.places place ≡ there → IsWholeChange state tenant (entries_at (state.tenant_states tenant).file place)
+  by_place : (place : ℕ) (there : Place) → (state.tenant_states tenant).file.places place ≡ there → (entries_at (state.tenant_states tenant).file place ≡ []) ⊎ IsOfOwner openings state tenant place
   by_place place Empty is = inl (ap entries_in is)
   by_place place (Prepared entries) is = of_place place ((runs_have_files config openings events state played).places.in_use tenant place low (ap is_empty is))
   by_place place (Sealed entries) is = of_place place ((runs_have_files config openings events state played).places.in_use tenant place low (ap is_empty is))
-
-  in_doubt : IsWholeChange state tenant (state.tenant_states tenant).file.doubt
-  in_doubt = subst (IsWholeChange state tenant) (simulated.simulated.history_match.doubt ∙ sym simulated.simulated.refines.holds.in_doubt) knows.doubt
 
   sealed_whole : (place : ℕ) (one : SealedChange) → slice_get (sealed_of openings state tenant) place ≡ Some one → IsAskedFor state tenant one.request one.entries
   sealed_whole place one at =
@@ -144,9 +183,8 @@ module _ (config : Config) (openings : ℕ → TenantStart) (events : List World
       same_job : (n : ℕ) (job another : Job) → Some (Some (Ask n job)) ≡ Some (Some (Ask n another)) → job ≡ another
       same_job n job another is = let e : Ask n job ≡ Ask n another = same_Some (Ask n job) (Ask n another) (same_Some (Some (Ask n job)) (Some (Ask n another)) is) in cc
 
-pub files_hold_whole_changes : FilesHoldWholeChanges
-files_hold_whole_changes config openings events state tenant played low =
-    (λ place. by_place config openings events state tenant played low place ((state.tenant_states tenant).file.places place) refl, in_doubt config openings events state tenant played low)
+pub places_hold_whole_changes : PlacesHoldWholeChanges
+places_hold_whole_changes config openings events state tenant place played low = by_place config openings events state tenant played low place ((state.tenant_states tenant).file.places place) refl
 
 pub sealed_changes_are_whole : SealedChangesAreWhole
 sealed_changes_are_whole config openings events state tenant played low place one at = sealed_whole config openings events state tenant played low place one at
@@ -173,3 +211,72 @@ requests_stay_asked config openings events later state between last worker tenan
       came = on.1.marks (length (state.tenant_states tenant).lines) (Ask (state.tenant_states tenant).asked job) (came_last config state between worker tenant job comes);
       its = refl;
     }
+
+-- Some store simulates the tenant, and its change in doubt is that of a request which was answered FAULT.
+record IsSimulatedInDoubt (openings : ℕ → TenantStart) (state : State) (tenant : ℕ) : Type 0 where
+  store : Store
+  simulated : IsSimulatedBy openings state tenant store
+  fault : HasFault store
+
+doubt_simulated : (config : Config) (openings : ℕ → TenantStart) (events : List WorldEvent) (state : State) (tenant : ℕ) → IsExecution config openings events state → tenant < tenants_of config
+    → IsSimulatedInDoubt openings state tenant
+doubt_simulated config openings events state tenant played low =
+    played_by_events config openings (λ before now. IsSimulatedInDoubt openings now tenant) (from_none (world_at config openings) (starts_simulated config openings tenant played.starts low) refl)
+    (λ before event now next so_far has is. by_event before event now next so_far has is) events state played
+  where
+    from_none : (now : State) → IsSimulated openings now tenant → (now.tenant_states tenant).file.doubt ≡ [] → IsSimulatedInDoubt openings now tenant
+    from_none now by none = record { store = by.store; simulated = by.simulated; fault = inl (sym by.simulated.refines.holds.in_doubt ∙ none) }
+
+    stays : (before : List WorldEvent) (event : WorldEvent) (now next : State) → IsExecution config openings before now → IsSimulatedInDoubt openings now tenant → IsNoStart event → step config now event ≡ Some next
+        → IsSimulatedInDoubt openings next tenant
+    stays before event now next so_far has no_start is =
+        let on = events_are_simulated config openings before now next event tenant has.store so_far low has.simulated no_start is in
+        record {
+          store = on.after;
+          simulated = on.simulated;
+          fault = fault_stays has.store on.after has.simulated.refines.holds.numbered (start_of openings now tenant) (now.tenant_states tenant).lines on.says on.may on.goes has.fault;
+        }
+
+    opened_none : (words : List ℕ) (fails_at : Option ℕ) → (opened_file words fails_at).doubt ≡ []
+    opened_none words None = refl
+    opened_none words (Some number) = refl
+
+    by_event : (before : List WorldEvent) (event : WorldEvent) (now next : State) → IsExecution config openings before now → IsSimulatedInDoubt openings now tenant → step config now event ≡ Some next
+        → IsSimulatedInDoubt openings next tenant
+    by_event before (Come worker other job) now next so_far has is = stays before (Come worker other job) now next so_far has tt is
+    by_event before (Step worker) now next so_far has is = stays before (Step worker) now next so_far has tt is
+    by_event before (File worker outcome) now next so_far has is = stays before (File worker outcome) now next so_far has tt is
+    by_event before (Hand worker) now next so_far has is = stays before (Hand worker) now next so_far has tt is
+    by_event before (Restart founds) now next so_far has is =
+        let after : IsExecution config openings (before ++ Restart founds ∷ []) next =
+        record { made = so_far.made; starts = so_far.starts; runs = run_last config (world_at config openings) now next before (Restart founds) so_far.runs is } in
+        from_none next (runs_are_simulated config openings (before ++ Restart founds ∷ []) next tenant after low)
+        (guarded (λ (one : State). (one.tenant_states tenant).file.doubt ≡ []) (may_start config now founds) (restarted config now founds) next (λ may. opened_none _ _) is)
+
+no_entries_fit : (words : List ℕ) (entries : List Entry) → entries ≡ [] → fits words entries ≡ true
+no_entries_fit words entries none = ap (fits words) none
+
+pub doubt_is_whole : DoubtIsWhole
+doubt_is_whole config openings events state tenant played low =
+    let by = doubt_simulated config openings events state tenant played low in
+    let in_doubt : (state.tenant_states tenant).file.doubt ≡ by.store.in_doubt = by.simulated.refines.holds.in_doubt in
+    let words : (state.tenant_states tenant).file.contents ≡ by.store.words = by.simulated.refines.holds.words in
+    elim by.fault [
+      | inl none ↦ (inl (in_doubt ∙ none), no_entries_fit (state.tenant_states tenant).file.contents (state.tenant_states tenant).file.doubt (in_doubt ∙ none))
+      | inr is ↦ (whole by is in_doubt, (λ i. fits (words i) (in_doubt i)) ∙ is.fit)
+    ]
+  where
+    whole : (by : IsSimulatedInDoubt openings state tenant) (is : IsOfFault by.store) → (state.tenant_states tenant).file.doubt ≡ by.store.in_doubt → IsWholeChange openings state tenant (state.tenant_states tenant).file.doubt
+    whole by is same =
+        let mine : IsSimulated openings state tenant = record { store = by.store; simulated = by.simulated } in
+        elim (asked_so config openings events state tenant played low mine is.owner is.found (state.tenant_states tenant).file.doubt is.is_asked (is.its ∙ sym same)) [
+          | inl none ↦ inl none
+          | inr asked ↦ inr (
+            is.owner,
+            record {
+              asked = asked;
+              unsealed = not_sealed config openings events state tenant played low mine is.owner is.found is.is_asked
+                  (λ said. let e : SaysFault ≡ SaysYes = same_Some SaysFault SaysYes (sym is.says ∙ said) in absurd (cc));
+            },
+          )
+        ]

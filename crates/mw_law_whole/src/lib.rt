@@ -1,7 +1,7 @@
-//! Proves that each change in a tenant's file is just what one request of that tenant asked for.
+//! Proves that each change in a tenant's file is just what one request of that tenant asked for: no part of it, and no more.
 //!
-//! So a request's change is in the file wholly or not at all, whatever the request was answered: also if it was answered
-//! FAULT or nothing. `specs/WholeChanges` defines what a request asked for.
+//! `specs/WholeChanges` defines what a request asked for, and whose a change is. It is so for each change that is sealed,
+//! in a place, or in doubt, whatever its request was answered.
 //!
 //! mw_law_durable says with these laws which files a crash may leave.
 #![tactic(auto)]
