@@ -1,0 +1,2 @@
+pub mod ReadHeads
+pub mod Widths

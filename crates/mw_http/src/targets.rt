@@ -1,0 +1,115 @@
+//! What a request's method and target ask for.
+ghost use Rattle.std.specs.Prelude.{◌≡◌, ◌≤◌, length, IsTrue};
+ghost use Rattle.std.specs.Option.{option_map};
+ghost use Rattle.mw_http.specs.Targets as spec;
+
+use http1::text::eq_ignore_case;
+use mw_words::{Name, is_name};
+
+/// What a client may ask for.
+#[derive(Debug, PartialEq, Eq, Drop)]
+pub enum Route {
+    /// The status page.
+    Page,
+    /// The figures.
+    Metrics,
+    /// Whether the server is well.
+    Health,
+    /// A copy of the file of the tenant with this name.
+    File(Name),
+}
+
+/// Gives what is at a target, if anything is.
+#[tactic(auto, unfolding(crate::specs::Targets::place_at))]
+pub(crate) fn route_at(target: &[u8]) -> Option<Route>
+    ensures { option_map spec.place_of result ≡ spec.place_at target.now }
+{
+    match path_of(target) {
+        None => None,
+        Some(path) => route_of(path),
+    }
+}
+
+/// Tells whether a target is a path, or an address of http.
+pub(crate) fn is_target(target: &[u8]) -> bool
+    ensures { result ≡ spec.is_target target.now }
+{
+    path_of(target).is_some()
+}
+
+fn route_of(path: &[u8]) -> Option<Route>
+    ensures { option_map spec.place_of result ≡ spec.place_of_path path.now }
+{
+    if path.is_empty() || path == b"/".as_slice() {
+        return Some(Route::Page);
+    }
+    if path == b"/metrics".as_slice() {
+        return Some(Route::Metrics);
+    }
+    if path == b"/healthz".as_slice() {
+        return Some(Route::Health);
+    }
+    file_of(path)
+}
+
+fn file_of(path: &[u8]) -> Option<Route>
+    ensures { option_map spec.place_of result ≡ spec.file_at path.now }
+{
+    if path.len() < 14 || !path.starts_with(b"/tenants/") || !path.ends_with(b"/file") {
+        return None;
+    }
+    let name = &path[9..path.len() - 5];
+    match Name::try_from(name) {
+        Ok(tenant) if is_name(name) => Some(Route::File(tenant)),
+        _ => None,
+    }
+}
+
+/// Gives a target's path, without its query.
+#[tactic(auto, unfolding(crate::specs::Targets::path_of))]
+fn path_of(target: &[u8]) -> Option<&[u8]>
+    ensures { option_map (λ p. p.now) result ≡ spec.path_of target.now }
+{
+    if target.starts_with(b"/") {
+        return Some(before_query(target));
+    }
+    if !has_scheme(target) {
+        return None;
+    }
+    let rest = &target[7..];
+    let authority = authority_len(rest);
+    if authority == 0 {
+        return None;
+    }
+    Some(before_query(&rest[authority..]))
+}
+
+fn has_scheme(target: &[u8]) -> bool
+    ensures scheme { result ≡ spec.has_scheme target.now }
+    ensures long { IsTrue result → 7 ≤ length target.now }
+{
+    target.len() >= 7 && eq_ignore_case(&target[..7], b"http://")
+}
+
+#[tactic(auto, unfolding(crate::specs::Targets::before_query))]
+fn before_query(target: &[u8]) -> &[u8]
+    ensures { result.now ≡ spec.before_query target.now }
+{
+    &target[..path_len(target)]
+}
+
+fn path_len(target: &[u8]) -> usize
+    ensures path { result ≡ spec.path_len target.now }
+    ensures within { result ≤ length target.now }
+{
+    target.iter().take_while(|byte| **byte != b'?').count()
+}
+
+fn authority_len(rest: &[u8]) -> usize
+    ensures authority { result ≡ spec.authority_len rest.now }
+    ensures within { result ≤ length rest.now }
+{
+    rest.iter()
+        .take_while(|byte| **byte != b'/' && **byte != b'?')
+        .count()
+}

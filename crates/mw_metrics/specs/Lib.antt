@@ -1,0 +1,3 @@
+pub mod Exposition
+pub mod Names
+pub mod Figures

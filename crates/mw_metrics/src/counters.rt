@@ -1,0 +1,302 @@
+//! Counters that the threads of a server share. A record is one or a few additions: it takes no lock and no memory, and
+//! waits for nobody.
+//!
+//! Each figure is what it was when it was read. Figures that are read together may be of different moments.
+
+ghost use Rattle.std.specs.Prelude.{◌≡◌};
+
+use crate::figures::{
+    CallFigures, ClosedCounts, ReplyCounts, RequestFigures, ServerMetrics, TenantCounts,
+};
+use crate::histogram::{BUCKETS, HistogramFigures, bucket_of};
+use crate::kinds::{CloseReason, DeviceCall, ReplyKind, RequestKind};
+use std::sync::atomic::{AtomicU64, Ordering};
+
+/// A number that threads add to. It stops at no bound: after `u64::MAX` comes 0.
+#[derive(Drop)]
+struct Counter {
+    word: AtomicU64,
+}
+
+impl Counter {
+    fn new() -> Counter {
+        Counter {
+            word: AtomicU64::new(0),
+        }
+    }
+
+    fn add(&self, amount: u64) {
+        self.word.fetch_add(amount, Ordering::Relaxed);
+    }
+
+    fn subtract(&self, amount: u64) {
+        self.word.fetch_sub(amount, Ordering::Relaxed);
+    }
+
+    fn get(&self) -> u64 {
+        self.word.load(Ordering::Relaxed)
+    }
+}
+
+/// Counts durations in the buckets of a histogram.
+#[derive(Drop)]
+struct Histogram {
+    counts: [Counter; BUCKETS],
+    sum_nanos: Counter,
+}
+
+impl Histogram {
+    fn new() -> Histogram {
+        Histogram {
+            counts: std::array::from_fn(|_| Counter::new()),
+            sum_nanos: Counter::new(),
+        }
+    }
+
+    fn record(&self, nanos: u64) {
+        self.counts[bucket_of(nanos)].add(1);
+        self.sum_nanos.add(nanos);
+    }
+
+    fn figures(&self) -> HistogramFigures {
+        let mut counts = [0; BUCKETS];
+        for (count, counter) in counts.iter_mut().zip(self.counts.iter()) {
+            *count = counter.get();
+        }
+        HistogramFigures {
+            counts,
+            sum_nanos: self.sum_nanos.get(),
+        }
+    }
+}
+
+/// Counts the requests of one kind.
+#[derive(Drop)]
+struct RequestCounters {
+    replies: [Counter; 7],
+    time: Histogram,
+}
+
+impl RequestCounters {
+    fn new() -> RequestCounters {
+        RequestCounters {
+            replies: std::array::from_fn(|_| Counter::new()),
+            time: Histogram::new(),
+        }
+    }
+
+    fn record(&self, reply: ReplyKind, nanos: u64) {
+        self.replies[reply as usize].add(1);
+        self.time.record(nanos);
+    }
+
+    fn replies(&self, reply: ReplyKind) -> u64 {
+        self.replies[reply as usize].get()
+    }
+
+    fn figures(&self) -> RequestFigures {
+        RequestFigures {
+            replies: ReplyCounts {
+                val: self.replies(ReplyKind::Val),
+                yes: self.replies(ReplyKind::Yes),
+                no: self.replies(ReplyKind::No),
+                busy: self.replies(ReplyKind::Busy),
+                fault: self.replies(ReplyKind::Fault),
+                worn: self.replies(ReplyKind::Worn),
+                err: self.replies(ReplyKind::Err),
+            },
+            time: self.time.figures(),
+        }
+    }
+}
+
+/// Counts one call of a device.
+#[derive(Drop)]
+struct CallCounters {
+    failures: Counter,
+    time: Histogram,
+}
+
+impl CallCounters {
+    fn new() -> CallCounters {
+        CallCounters {
+            failures: Counter::new(),
+            time: Histogram::new(),
+        }
+    }
+
+    fn figures(&self) -> CallFigures {
+        CallFigures {
+            failures: self.failures.get(),
+            time: self.time.figures(),
+        }
+    }
+}
+
+/// Counts what is done for one tenant. Threads share it by `&`.
+#[derive(Drop)]
+pub struct TenantCounters {
+    get: RequestCounters,
+    cas: RequestCounters,
+    other: RequestCounters,
+    read: CallCounters,
+    write: CallCounters,
+    sync: CallCounters,
+}
+
+impl TenantCounters {
+    /// Makes counters that have counted nothing.
+    pub fn new() -> TenantCounters {
+        TenantCounters {
+            get: RequestCounters::new(),
+            cas: RequestCounters::new(),
+            other: RequestCounters::new(),
+            read: CallCounters::new(),
+            write: CallCounters::new(),
+            sync: CallCounters::new(),
+        }
+    }
+
+    /// Counts a request that was answered so, in so many nanoseconds from its line to its reply.
+    pub fn record_request(&self, kind: RequestKind, reply: ReplyKind, nanos: u64) {
+        match kind {
+            RequestKind::Get => self.get.record(reply, nanos),
+            RequestKind::Cas => self.cas.record(reply, nanos),
+            RequestKind::Other => self.other.record(reply, nanos),
+        }
+    }
+
+    /// Counts a call of the device that holds the tenant's file, which took so many nanoseconds.
+    pub fn record_call(&self, call: DeviceCall, nanos: u64, failed: bool) {
+        let counters = match call {
+            DeviceCall::Read => &self.read,
+            DeviceCall::Write => &self.write,
+            DeviceCall::Sync => &self.sync,
+        };
+        counters.time.record(nanos);
+        if failed {
+            counters.failures.add(1);
+        }
+    }
+
+    /// Gives what was counted.
+    pub fn counts(&self) -> TenantCounts {
+        TenantCounts {
+            get: self.get.figures(),
+            cas: self.cas.figures(),
+            other: self.other.figures(),
+            read: self.read.figures(),
+            write: self.write.figures(),
+            sync: self.sync.figures(),
+        }
+    }
+}
+
+/// Counts what is done for all tenants. Threads share it by `&`.
+#[derive(Drop)]
+pub struct ServerCounters {
+    served: Counter,
+    waiting: Counter,
+    accepted: Counter,
+    closed: [Counter; 7],
+    passes_in_use: Counter,
+    pass_waits: Counter,
+    received: Counter,
+    sent: Counter,
+}
+
+impl ServerCounters {
+    /// Makes counters that have counted nothing.
+    pub fn new() -> ServerCounters {
+        ServerCounters {
+            served: Counter::new(),
+            waiting: Counter::new(),
+            accepted: Counter::new(),
+            closed: std::array::from_fn(|_| Counter::new()),
+            passes_in_use: Counter::new(),
+            pass_waits: Counter::new(),
+            received: Counter::new(),
+            sent: Counter::new(),
+        }
+    }
+
+    /// Counts a connection that was accepted, and waits for a session from now on.
+    pub fn record_accepted(&self) {
+        self.accepted.add(1);
+        self.waiting.add(1);
+    }
+
+    /// Counts a connection that a session serves from now on, and that waits no more.
+    pub fn record_served(&self) {
+        self.waiting.subtract(1);
+        self.served.add(1);
+    }
+
+    /// Counts a connection that was closed. Its session has ended, or it waited until then.
+    pub fn record_closed(&self, reason: CloseReason) {
+        self.closed[reason as usize].add(1);
+        match reason {
+            CloseReason::Unserved => self.waiting.subtract(1),
+            _ => self.served.subtract(1),
+        }
+    }
+
+    /// Counts a pass that is in use from now on. The request has waited for it, or not.
+    pub fn record_pass_taken(&self, waited: bool) {
+        self.passes_in_use.add(1);
+        if waited {
+            self.pass_waits.add(1);
+        }
+    }
+
+    /// Counts a pass that is in use no more.
+    pub fn record_pass_left(&self) {
+        self.passes_in_use.subtract(1);
+    }
+
+    /// Counts bytes that a client sent.
+    pub fn record_received(&self, bytes: u64) {
+        self.received.add(bytes);
+    }
+
+    /// Counts bytes that a client was sent.
+    pub fn record_sent(&self, bytes: u64) {
+        self.sent.add(bytes);
+    }
+
+    /// Gives the figures of the server, with these of the moment: the time since its start, in nanoseconds, and how many
+    /// slots of the pool are free.
+    pub fn figures(&self, uptime_nanos: u64, pool_free: u64) -> ServerMetrics
+        ensures uptime { result.uptime_nanos ≡ uptime_nanos }
+        ensures pool { result.pool_free ≡ pool_free }
+    {
+        ServerMetrics {
+            uptime_nanos,
+            pool_free,
+            served: self.served.get(),
+            waiting: self.waiting.get(),
+            accepted: self.accepted.get(),
+            closed: self.closed_counts(),
+            passes_in_use: self.passes_in_use.get(),
+            pass_waits: self.pass_waits.get(),
+            received: self.received.get(),
+            sent: self.sent.get(),
+        }
+    }
+
+    fn closed_counts(&self) -> ClosedCounts {
+        ClosedCounts {
+            quit: self.closed_for(CloseReason::Quit),
+            peer_end: self.closed_for(CloseReason::PeerEnd),
+            too_long: self.closed_for(CloseReason::TooLong),
+            read_fault: self.closed_for(CloseReason::ReadFault),
+            write_fault: self.closed_for(CloseReason::WriteFault),
+            memory: self.closed_for(CloseReason::Memory),
+            unserved: self.closed_for(CloseReason::Unserved),
+        }
+    }
+
+    fn closed_for(&self, reason: CloseReason) -> u64 {
+        self.closed[reason as usize].get()
+    }
+}

@@ -1,0 +1,91 @@
+//! The figures of a server: those that are counted, and those of the moment.
+
+use crate::histogram::HistogramFigures;
+use mw_report::TenantFigures;
+
+/// How many requests of one kind had each reply.
+#[derive(Clone, Copy, Debug, Default, PartialEq, Eq)]
+pub struct ReplyCounts {
+    pub val: u64,
+    pub yes: u64,
+    pub no: u64,
+    pub busy: u64,
+    pub fault: u64,
+    pub worn: u64,
+    pub err: u64,
+}
+
+/// The figures of one kind of request.
+#[derive(Clone, Copy, Debug, Default, PartialEq, Eq)]
+pub struct RequestFigures {
+    /// How many were answered.
+    pub replies: ReplyCounts,
+    /// How long they took, from the line to the reply.
+    pub time: HistogramFigures,
+}
+
+/// The figures of one call of a device.
+#[derive(Clone, Copy, Debug, Default, PartialEq, Eq)]
+pub struct CallFigures {
+    /// How many failed.
+    pub failures: u64,
+    /// How long each took.
+    pub time: HistogramFigures,
+}
+
+/// What was counted for one tenant.
+#[derive(Clone, Copy, Debug, Default, PartialEq, Eq)]
+pub struct TenantCounts {
+    pub get: RequestFigures,
+    pub cas: RequestFigures,
+    pub other: RequestFigures,
+    pub read: CallFigures,
+    pub write: CallFigures,
+    pub sync: CallFigures,
+}
+
+/// The figures of one tenant.
+#[derive(Debug, Default, PartialEq, Eq, Drop)]
+pub struct TenantMetrics {
+    /// Those of the moment.
+    pub figures: TenantFigures,
+    /// Those that were counted since the start.
+    pub counts: TenantCounts,
+}
+
+/// How many connections were closed, by the reason.
+#[derive(Clone, Copy, Debug, Default, PartialEq, Eq)]
+pub struct ClosedCounts {
+    pub quit: u64,
+    pub peer_end: u64,
+    pub too_long: u64,
+    pub read_fault: u64,
+    pub write_fault: u64,
+    pub memory: u64,
+    pub unserved: u64,
+}
+
+/// The figures of the whole server.
+#[derive(Clone, Copy, Debug, Default, PartialEq, Eq)]
+pub struct ServerMetrics {
+    /// The time since the start, in nanoseconds.
+    pub uptime_nanos: u64,
+    /// How many slots of the pool are free.
+    pub pool_free: u64,
+    /// How many connections a session serves.
+    pub served: u64,
+    /// How many connections wait for a session.
+    pub waiting: u64,
+    /// How many connections were accepted.
+    pub accepted: u64,
+    /// How many were closed.
+    pub closed: ClosedCounts,
+    /// How many passes of the engine are in use.
+    pub passes_in_use: u64,
+    /// How many requests waited for a pass.
+    pub pass_waits: u64,
+    /// How many bytes clients sent.
+    pub received: u64,
+    /// How many bytes clients were sent.
+    pub sent: u64,
+}

@@ -1,0 +1,267 @@
+//! Writes the families of metrics that have a sample of each tenant.
+ghost use Rattle.std.specs.Prelude.{◌≡◌, ◌+◌, ◌*◌, ◌≤◌, [], ◌∷◌, ◌++◌, length, codes, flat_map};
+ghost use Rattle.mw_words.specs.declared.limits.TheConstants.{MAX_TENANTS};
+ghost use Rattle.mw_metrics.specs.Figures as spec;
+
+use crate::families::{Family, TENANT_GAUGES, TenantGauge};
+use crate::figures::{CallFigures, ReplyCounts, RequestFigures, TenantCounts, TenantMetrics};
+use crate::histogram_lines::{MAX_HISTOGRAM, put_histogram};
+use crate::kinds::{DEVICE_CALLS, DeviceCall, REPLY_KINDS, REQUEST_KINDS, ReplyKind, RequestKind};
+use crate::samples::{MAX_SAMPLE, one_label, one_more_label, put_number};
+use crate::server_lines::{MAX_HEADER, put_header};
+use crate::text::{MAX_METRICS, Text};
+use mw_report::TenantFigures;
+use mw_words::MAX_TENANTS;
+
+/// The most bytes of the families that have a sample of each tenant: 9 headers and 119 samples of each tenant.
+pub(crate) const MAX_TENANT_FAMILIES: usize = 405_700;
+
+/// The most bytes of a tenant's requests by their kind and reply.
+const MAX_REQUESTS: usize = 21 * MAX_SAMPLE;
+
+/// The most bytes of three histograms.
+const MAX_TIMES: usize = 3 * MAX_HISTOGRAM;
+
+/// Puts the families that have a sample of each tenant.
+#[tactic(auto, unfolding(crate::specs::Figures::of_tenants))]
+pub(crate) fn put_tenants(text: &mut Text, tenants: &[TenantMetrics])
+    requires few { length tenants.now ≤ MAX_TENANTS }
+    requires room { length text.old.bytes.items + MAX_TENANT_FAMILIES ≤ MAX_METRICS }
+    ensures families { text.new.bytes.items ≡ text.old.bytes.items ++ spec.of_tenants tenants.now }
+    ensures room { length text.new.bytes.items ≤ length text.old.bytes.items + MAX_TENANT_FAMILIES }
+{
+    put_gauges(text, tenants);
+    put_requests(text, tenants);
+    put_failures(text, tenants);
+    put_request_times(text, tenants);
+    put_call_times(text, tenants);
+}
+
+/// Puts each figure of each tenant at the moment.
+#[tactic(auto, unfolding(crate::specs::Figures::gauge_families))]
+fn put_gauges(text: &mut Text, tenants: &[TenantMetrics])
+    requires few { length tenants.now ≤ MAX_TENANTS }
+    requires room { length text.old.bytes.items + 5 * (MAX_HEADER + MAX_TENANTS * MAX_SAMPLE) ≤ MAX_METRICS }
+    ensures families { text.new.bytes.items ≡ text.old.bytes.items ++ spec.gauge_families tenants.now }
+    ensures room { length text.new.bytes.items ≤ length text.old.bytes.items + 5 * (MAX_HEADER + MAX_TENANTS * MAX_SAMPLE) }
+{
+    for gauge in TENANT_GAUGES {
+        put_gauge(text, gauge, tenants);
+    }
+}
+
+/// Puts one figure of each tenant at the moment.
+#[tactic(auto, unfolding(crate::specs::Figures::gauge_family))]
+fn put_gauge(text: &mut Text, gauge: TenantGauge, tenants: &[TenantMetrics])
+    requires few { length tenants.now ≤ MAX_TENANTS }
+    requires room { length text.old.bytes.items + (MAX_HEADER + MAX_TENANTS * MAX_SAMPLE) ≤ MAX_METRICS }
+    ensures family { text.new.bytes.items ≡ text.old.bytes.items ++ spec.gauge_family tenants.now gauge }
+    ensures room { length text.new.bytes.items ≤ length text.old.bytes.items + (MAX_HEADER + MAX_TENANTS * MAX_SAMPLE) }
+{
+    put_header(text, Family::Tenant(gauge));
+    for tenant in tenants {
+        put_gauge_line(text, gauge, tenant);
+    }
+}
+
+fn put_gauge_line(text: &mut Text, gauge: TenantGauge, tenant: &TenantMetrics)
+    requires room { length text.old.bytes.items + MAX_SAMPLE ≤ MAX_METRICS }
+    ensures line { text.new.bytes.items ≡ text.old.bytes.items ++ spec.gauge_line gauge tenant.now }
+    ensures room { length text.new.bytes.items ≤ length text.old.bytes.items + MAX_SAMPLE }
+{
+    let labels = one_label(b"tenant", &tenant.figures.name);
+    put_number(
+        text,
+        Family::Tenant(gauge),
+        &labels,
+        gauge_of(&tenant.figures, gauge),
+    );
+}
+
+fn gauge_of(tenant: &TenantFigures, gauge: TenantGauge) -> u64
+    ensures { result ≡ spec.gauge_of tenant.now gauge }
+{
+    match gauge {
+        TenantGauge::Words => u64::from(tenant.words),
+        TenantGauge::Quota => u64::from(tenant.quota),
+        TenantGauge::RecordPlaces => u64::from(tenant.places),
+        TenantGauge::ChangesUnderWay => u64::from(tenant.used),
+        TenantGauge::Up => u64::from(tenant.up),
+    }
+}
+
+/// Puts how many requests were answered, by their kind and their reply.
+#[tactic(auto, unfolding(crate::specs::Figures::tenant_family))]
+fn put_requests(text: &mut Text, tenants: &[TenantMetrics])
+    requires few { length tenants.now ≤ MAX_TENANTS }
+    requires room { length text.old.bytes.items + (MAX_HEADER + MAX_TENANTS * MAX_REQUESTS) ≤ MAX_METRICS }
+    ensures family { text.new.bytes.items ≡ text.old.bytes.items ++ spec.tenant_family Family.Requests spec.request_lines tenants.now }
+    ensures room { length text.new.bytes.items ≤ length text.old.bytes.items + (MAX_HEADER + MAX_TENANTS * MAX_REQUESTS) }
+{
+    put_header(text, Family::Requests);
+    for tenant in tenants {
+        put_tenant_requests(text, tenant);
+    }
+}
+
+#[tactic(auto, unfolding(crate::specs::Figures::request_lines))]
+fn put_tenant_requests(text: &mut Text, tenant: &TenantMetrics)
+    requires room { length text.old.bytes.items + MAX_REQUESTS ≤ MAX_METRICS }
+    ensures lines { text.new.bytes.items ≡ text.old.bytes.items ++ spec.request_lines tenant.now }
+    ensures room { length text.new.bytes.items ≤ length text.old.bytes.items + MAX_REQUESTS }
+{
+    for kind in REQUEST_KINDS {
+        put_kind(text, tenant, kind);
+    }
+}
+
+#[tactic(auto, unfolding(crate::specs::Figures::kind_lines))]
+fn put_kind(text: &mut Text, tenant: &TenantMetrics, kind: RequestKind)
+    requires room { length text.old.bytes.items + 7 * MAX_SAMPLE ≤ MAX_METRICS }
+    ensures lines { text.new.bytes.items ≡ text.old.bytes.items ++ spec.kind_lines tenant.now kind }
+    ensures room { length text.new.bytes.items ≤ length text.old.bytes.items + 7 * MAX_SAMPLE }
+{
+    for reply in REPLY_KINDS {
+        put_reply_line(text, tenant, kind, reply);
+    }
+}
+
+fn put_reply_line(text: &mut Text, tenant: &TenantMetrics, kind: RequestKind, reply: ReplyKind)
+    requires room { length text.old.bytes.items + MAX_SAMPLE ≤ MAX_METRICS }
+    ensures line { text.new.bytes.items ≡ text.old.bytes.items ++ spec.reply_line tenant.now kind reply }
+    ensures room { length text.new.bytes.items ≤ length text.old.bytes.items + MAX_SAMPLE }
+{
+    let labels = one_label(b"tenant", &tenant.figures.name);
+    let labels = one_more_label(&labels, b"kind", kind.text());
+    let labels = one_more_label(&labels, b"reply", reply.text());
+    let count = replies_of(&requests_of(&tenant.counts, kind).replies, reply);
+    put_number(text, Family::Requests, &labels, count);
+}
+
+fn requests_of(counts: &TenantCounts, kind: RequestKind) -> &RequestFigures
+    ensures { result.now ≡ spec.requests_of counts.now kind }
+{
+    match kind {
+        RequestKind::Get => &counts.get,
+        RequestKind::Cas => &counts.cas,
+        RequestKind::Other => &counts.other,
+    }
+}
+
+fn replies_of(counts: &ReplyCounts, reply: ReplyKind) -> u64
+    ensures { result ≡ spec.replies_of counts.now reply }
+{
+    match reply {
+        ReplyKind::Val => counts.val,
+        ReplyKind::Yes => counts.yes,
+        ReplyKind::No => counts.no,
+        ReplyKind::Busy => counts.busy,
+        ReplyKind::Fault => counts.fault,
+        ReplyKind::Worn => counts.worn,
+        ReplyKind::Err => counts.err,
+    }
+}
+
+fn calls_of(counts: &TenantCounts, call: DeviceCall) -> &CallFigures
+    ensures { result.now ≡ spec.calls_of counts.now call }
+{
+    match call {
+        DeviceCall::Read => &counts.read,
+        DeviceCall::Write => &counts.write,
+        DeviceCall::Sync => &counts.sync,
+    }
+}
+
+/// Puts how many calls of the devices failed.
+#[tactic(auto, unfolding(crate::specs::Figures::tenant_family))]
+fn put_failures(text: &mut Text, tenants: &[TenantMetrics])
+    requires few { length tenants.now ≤ MAX_TENANTS }
+    requires room { length text.old.bytes.items + (MAX_HEADER + MAX_TENANTS * (3 * MAX_SAMPLE)) ≤ MAX_METRICS }
+    ensures family { text.new.bytes.items ≡ text.old.bytes.items ++ spec.tenant_family Family.DeviceFailures spec.failure_lines tenants.now }
+    ensures room { length text.new.bytes.items ≤ length text.old.bytes.items + (MAX_HEADER + MAX_TENANTS * (3 * MAX_SAMPLE)) }
+{
+    put_header(text, Family::DeviceFailures);
+    for tenant in tenants {
+        put_tenant_failures(text, tenant);
+    }
+}
+
+#[tactic(auto, unfolding(crate::specs::Figures::failure_lines))]
+fn put_tenant_failures(text: &mut Text, tenant: &TenantMetrics)
+    requires room { length text.old.bytes.items + 3 * MAX_SAMPLE ≤ MAX_METRICS }
+    ensures lines { text.new.bytes.items ≡ text.old.bytes.items ++ spec.failure_lines tenant.now }
+    ensures room { length text.new.bytes.items ≤ length text.old.bytes.items + 3 * MAX_SAMPLE }
+{
+    for call in DEVICE_CALLS {
+        put_failure_line(text, tenant, call);
+    }
+}
+
+fn put_failure_line(text: &mut Text, tenant: &TenantMetrics, call: DeviceCall)
+    requires room { length text.old.bytes.items + MAX_SAMPLE ≤ MAX_METRICS }
+    ensures line { text.new.bytes.items ≡ text.old.bytes.items ++ spec.failure_line tenant.now call }
+    ensures room { length text.new.bytes.items ≤ length text.old.bytes.items + MAX_SAMPLE }
+{
+    let labels = one_label(b"tenant", &tenant.figures.name);
+    let labels = one_more_label(&labels, b"call", call.text());
+    put_number(
+        text,
+        Family::DeviceFailures,
+        &labels,
+        calls_of(&tenant.counts, call).failures,
+    );
+}
+
+/// Puts how long requests took.
+#[tactic(auto, unfolding(crate::specs::Figures::tenant_family))]
+fn put_request_times(text: &mut Text, tenants: &[TenantMetrics])
+    requires few { length tenants.now ≤ MAX_TENANTS }
+    requires room { length text.old.bytes.items + (MAX_HEADER + MAX_TENANTS * MAX_TIMES) ≤ MAX_METRICS }
+    ensures family { text.new.bytes.items ≡ text.old.bytes.items ++ spec.tenant_family Family.RequestTime spec.request_times tenants.now }
+    ensures room { length text.new.bytes.items ≤ length text.old.bytes.items + (MAX_HEADER + MAX_TENANTS * MAX_TIMES) }
+{
+    put_header(text, Family::RequestTime);
+    for tenant in tenants {
+        put_tenant_request_times(text, tenant);
+    }
+}
+
+#[tactic(auto, unfolding(crate::specs::Figures::request_times))]
+fn put_tenant_request_times(text: &mut Text, tenant: &TenantMetrics)
+    requires room { length text.old.bytes.items + MAX_TIMES ≤ MAX_METRICS }
+    ensures lines { text.new.bytes.items ≡ text.old.bytes.items ++ spec.request_times tenant.now }
+    ensures room { length text.new.bytes.items ≤ length text.old.bytes.items + MAX_TIMES }
+{
+    for kind in REQUEST_KINDS {
+        let name = &tenant.figures.name;
+        let time = &requests_of(&tenant.counts, kind).time;
+        put_histogram(text, Family::RequestTime, name, b"kind", kind.text(), time);
+    }
+}
+
+/// Puts how long the calls of the devices took.
+#[tactic(auto, unfolding(crate::specs::Figures::tenant_family))]
+fn put_call_times(text: &mut Text, tenants: &[TenantMetrics])
+    requires few { length tenants.now ≤ MAX_TENANTS }
+    requires room { length text.old.bytes.items + (MAX_HEADER + MAX_TENANTS * MAX_TIMES) ≤ MAX_METRICS }
+    ensures family { text.new.bytes.items ≡ text.old.bytes.items ++ spec.tenant_family Family.DeviceTime spec.call_times tenants.now }
+    ensures room { length text.new.bytes.items ≤ length text.old.bytes.items + (MAX_HEADER + MAX_TENANTS * MAX_TIMES) }
+{
+    put_header(text, Family::DeviceTime);
+    for tenant in tenants {
+        put_tenant_call_times(text, tenant);
+    }
+}
+
+#[tactic(auto, unfolding(crate::specs::Figures::call_times))]
+fn put_tenant_call_times(text: &mut Text, tenant: &TenantMetrics)
+    requires room { length text.old.bytes.items + MAX_TIMES ≤ MAX_METRICS }
+    ensures lines { text.new.bytes.items ≡ text.old.bytes.items ++ spec.call_times tenant.now }
+    ensures room { length text.new.bytes.items ≤ length text.old.bytes.items + MAX_TIMES }
+{
+    for call in DEVICE_CALLS {
+        let name = &tenant.figures.name;
+        let time = &calls_of(&tenant.counts, call).time;
+        put_histogram(text, Family::DeviceTime, name, b"call", call.text(), time);
+    }
+}

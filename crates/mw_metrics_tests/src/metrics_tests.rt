@@ -1,0 +1,99 @@
+//! Tests counters and the text of all figures.
+
+use mw_metrics::{
+    CloseReason, DeviceCall, ReplyKind, RequestKind, ServerCounters, TenantCounters, TenantMetrics,
+    bucket_of, metrics_text,
+};
+use mw_report::TenantFigures;
+use mw_words::Name;
+use std::test::Fail;
+
+/// Lines that a scraper reads after `record_all`.
+const LINES: [&str; 22] = [
+    "# HELP mondlexi_build_info The version of the server. The value is always 1.",
+    "# TYPE mondlexi_build_info gauge",
+    "mondlexi_build_info{version=\"1.\\\"2\\\\\"} 1",
+    "mondlexi_uptime_seconds 61.000000005",
+    "mondlexi_pool_free_slots 30",
+    "mondlexi_connections_total 2",
+    "mondlexi_connections_served 1",
+    "mondlexi_connections_waiting 0",
+    "mondlexi_connections_closed_total{reason=\"quit\"} 1",
+    "mondlexi_received_bytes_total 7",
+    "mondlexi_sent_bytes_total 9",
+    "mondlexi_words{tenant=\"t\"} 1000",
+    "mondlexi_up{tenant=\"t\"} 1",
+    "mondlexi_requests_total{tenant=\"t\",kind=\"GET\",reply=\"VAL\"} 2",
+    "mondlexi_requests_total{tenant=\"t\",kind=\"CAS\",reply=\"BUSY\"} 1",
+    "mondlexi_device_failures_total{tenant=\"t\",call=\"sync\"} 1",
+    "mondlexi_request_seconds_bucket{tenant=\"t\",kind=\"GET\",le=\"0.000001000\"} 1",
+    "mondlexi_request_seconds_bucket{tenant=\"t\",kind=\"GET\",le=\"0.000005000\"} 2",
+    "mondlexi_request_seconds_bucket{tenant=\"t\",kind=\"CAS\",le=\"5.000000000\"} 0",
+    "mondlexi_request_seconds_bucket{tenant=\"t\",kind=\"CAS\",le=\"+Inf\"} 1",
+    "mondlexi_request_seconds_sum{tenant=\"t\",kind=\"GET\"} 0.000002001",
+    "mondlexi_device_seconds_count{tenant=\"t\",call=\"sync\"} 1",
+];
+
+fn has_line(text: &[u8], line: &[u8]) -> bool {
+    text.split(|byte| *byte == b'\n').any(|part| part == line)
+}
+
+fn record_all(tenant: &TenantCounters, server: &ServerCounters) {
+    tenant.record_request(RequestKind::Get, ReplyKind::Val, 1_000);
+    tenant.record_request(RequestKind::Get, ReplyKind::Val, 1_001);
+    tenant.record_request(RequestKind::Cas, ReplyKind::Busy, 6_000_000_000);
+    tenant.record_call(DeviceCall::Sync, 300_000, true);
+    tenant.record_call(DeviceCall::Write, 300_000, false);
+    server.record_accepted();
+    server.record_accepted();
+    server.record_served();
+    server.record_served();
+    server.record_closed(CloseReason::Quit);
+    server.record_pass_taken(true);
+    server.record_pass_left();
+    server.record_received(7);
+    server.record_sent(9);
+}
+
+fn figures() -> TenantFigures {
+    let mut name = Name::new();
+    name.push(b't');
+    TenantFigures {
+        name,
+        words: 1000,
+        quota: 4,
+        places: 4,
+        used: 1,
+        up: true,
+    }
+}
+
+#[test]
+fn figures_are_written(rt: HostRuntime) -> Result<(), Fail> {
+    let tenant = TenantCounters::new();
+    let server = ServerCounters::new();
+    record_all(&tenant, &server);
+    let tenants = [TenantMetrics {
+        figures: figures(),
+        counts: tenant.counts(),
+    }];
+    let text = metrics_text(
+        rt.alloc(),
+        b"1.\"2\\",
+        &server.figures(61_000_000_005, 30),
+        &tenants,
+    )?;
+    for line in LINES {
+        assert!(rt; has_line(&text, line.as_bytes()), "{line}");
+    }
+    Ok(())
+}
+
+#[test]
+fn durations_have_buckets(rt: HostRuntime) {
+    assert_eq!(rt; bucket_of(0), 0);
+    assert_eq!(rt; bucket_of(1_000), 0);
+    assert_eq!(rt; bucket_of(1_001), 1);
+    assert_eq!(rt; bucket_of(5_000_000_000), 11);
+    assert_eq!(rt; bucket_of(5_000_000_001), 12);
+}
