@@ -1,8 +1,7 @@
 //! Clients over loopback for the tests, and how they learn where the server listens. What they wait for
 //! comes within a limit.
 //!
-//! Used by: `servers`, mw_examples, mw_fault_examples. It may change freely as long as these check and their tests pass.
-use std::alloc::Global;
+//! Used by: `outputs`, `servers`, mw_examples, mw_fault_examples. It may change freely as long as these check and their tests pass.
 use std::io::{ErrorKind, Read, Write};
 use std::net::{Net, TcpListener, TcpStream};
 use std::sync::atomic::{AtomicU16, Ordering};
@@ -34,35 +33,13 @@ impl Ports {
             ready: AtomicU16::new(0),
         }
     }
-}
 
-/// An output of a server, which learns its ports from what it writes.
-#[derive(Drop)]
-pub struct Notice<'a> {
-    text: Vec<u8>,
-    ports: &'a Ports,
-}
-
-impl<'a> Notice<'a> {
-    pub fn new(alloc: Global, ports: &'a Ports) -> Self {
-        Notice {
-            text: Vec::new(alloc),
-            ports,
-        }
-    }
-}
-
-impl Write for Notice<'_> {
-    fn write(&mut self, buf: &[u8]) -> io::Result<usize> {
-        self.text.write(buf)
-    }
-
-    fn flush(&mut self) -> io::Result<()> {
-        let admin = port_in(&self.text, "admin ").unwrap_or(0);
-        let ready = port_in(&self.text, "ready ").unwrap_or(0);
-        self.ports.admin.store(admin, Ordering::SeqCst);
-        self.ports.ready.store(ready, Ordering::SeqCst);
-        Ok(())
+    /// Learns the ports from what a server has written.
+    pub(crate) fn learn(&self, text: &[u8]) {
+        let admin = port_in(text, "admin ").unwrap_or(0);
+        let ready = port_in(text, "ready ").unwrap_or(0);
+        self.admin.store(admin, Ordering::SeqCst);
+        self.ready.store(ready, Ordering::SeqCst);
     }
 }
 
@@ -71,41 +48,6 @@ fn port_in(text: &[u8], word: &str) -> Option<u16> {
     let (_, told) = str::from_utf8(text).ok()?.split_once(word)?;
     let (port, _) = told.split_once('\n')?;
     port.parse().ok()
-}
-
-/// An error output of a server. It counts the lines that were told.
-#[derive(Drop)]
-pub struct Told<'a> {
-    text: Vec<u8>,
-    lines: &'a AtomicU16,
-}
-
-impl<'a> Told<'a> {
-    pub fn new(alloc: Global, lines: &'a AtomicU16) -> Self {
-        Told {
-            text: Vec::new(alloc),
-            lines,
-        }
-    }
-
-    /// Gives what was told.
-    pub fn into_text(self) -> Vec<u8> {
-        self.text
-    }
-}
-
-impl Write for Told<'_> {
-    fn write(&mut self, buf: &[u8]) -> io::Result<usize> {
-        let written = self.text.write(buf)?;
-        if buf.ends_with(b"\n") {
-            self.lines.fetch_add(1, Ordering::SeqCst);
-        }
-        Ok(written)
-    }
-
-    fn flush(&mut self) -> io::Result<()> {
-        Ok(())
-    }
 }
 
 /// Waits until so many lines were told.

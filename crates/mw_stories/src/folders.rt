@@ -2,6 +2,7 @@
 //!
 //! Used by: `servers`, `stories`, mw_examples, mw_fault_examples. It may change freely as long as these check and their
 //! tests pass.
+use crate::outputs::Output;
 use mw_init::init;
 use mw_programs::{SeesPaths, serve};
 use std::alloc::{AllocError, Global};
@@ -115,10 +116,10 @@ where
     R: Files<File = File> + AllocGlobal,
 {
     let args = command_line(rt.alloc(), folder, line)?;
-    let mut out = Vec::new(rt.alloc());
-    let mut err = Vec::new(rt.alloc());
+    let mut out = Output::new(rt.alloc());
+    let mut err = Output::new(rt.alloc());
     let status = init(rt, &args, &mut out, &mut err);
-    Outcome::new(status, out, err)
+    Outcome::new(status, out.into_text(), err.into_text())
 }
 
 /// Runs `mwserve` with a command line.
@@ -134,8 +135,8 @@ where
         + SeesPaths,
 {
     let args = command_line(rt.alloc(), folder, line)?;
-    let mut out = Vec::new(rt.alloc());
-    let mut err = Vec::new(rt.alloc());
+    let mut out = Output::new(rt.alloc());
+    let mut err = Output::new(rt.alloc());
     let status = serve(rt, &args, &mut out, &mut err);
-    Outcome::new(status, out, err)
+    Outcome::new(status, out.into_text(), err.into_text())
 }

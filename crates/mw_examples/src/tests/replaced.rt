@@ -2,8 +2,9 @@
 //!
 //! Nothing else uses it: it may change with what it tests.
 use mw_programs::{SeesPaths, serve};
-use mw_stories::clients::{Caller, Notice, Ports, Told, come_and_go, port_of_server, waits_for};
+use mw_stories::clients::{Caller, Ports, come_and_go, port_of_server, waits_for};
 use mw_stories::folders::{command_line, new_folder, path_in, remove_folder};
+use mw_stories::outputs::Output;
 use mw_stories::stories::play_in;
 use std::fs::{self, File, OpenOptions};
 use std::net::{Net, TcpListener, TcpStream};
@@ -50,10 +51,10 @@ where
         "mwserve --tenants DIR/tenants --listen 127.0.0.1:0 --workers 2 --connections 2 {options}"
     )?;
     let args = command_line(rt.alloc(), folder, line.as_str())?;
-    let mut notice = Notice::new(rt.alloc(), ports);
-    let mut told = Told::new(rt.alloc(), lines);
-    let status = serve(rt, &args, &mut notice, &mut told);
-    Ok((status, String::from_utf8(told.into_text())?))
+    let mut out = Output::of_ports(rt.alloc(), ports);
+    let mut err = Output::of_lines(rt.alloc(), lines);
+    let status = serve(rt, &args, &mut out, &mut err);
+    Ok((status, String::from_utf8(err.into_text())?))
 }
 
 /// The names of files in a folder.

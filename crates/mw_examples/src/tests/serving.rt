@@ -3,9 +3,9 @@
 //! Nothing else uses it: it may change with what it tests.
 use mw_init::init;
 use mw_programs::{SeesPaths, serve};
-use mw_stories::clients::{Caller, Notice, Ports, come_and_go, port_of_server};
+use mw_stories::clients::{Caller, Ports, come_and_go, port_of_server};
 use mw_stories::folders::{command_line, new_folder, path_in, remove_folder};
-use mw_stories::locks::LockWatch;
+use mw_stories::outputs::{LockWatch, Output};
 use mw_stories::stories::play_in;
 use std::fs::File;
 use std::net::{Net, TcpListener, TcpStream};
@@ -28,15 +28,15 @@ write tenants t 2 1 DIR/t.mw;
 write script TENANT t;CAS 0:0:1;";
 
 /// Gives true if `mwinit` makes a file, and has it locked when it says so.
-fn is_locked_when_made(rt: &HostRuntime, folder: &str, path: &str) -> Result<bool, Fail> {
+fn is_locked_when_made(rt: &HostRuntime, folder: &str, lock: &LockWatch<'_>) -> Result<bool, Fail> {
     let args = command_line(rt.alloc(), folder, MAKING)?;
-    let mut out = LockWatch::new(rt, path);
-    let mut err = Vec::new(rt.alloc());
-    Ok(init(rt, &args, &mut out, &mut err) == 0 && out.was_locked())
+    let mut out = Output::of_lock(rt.alloc(), lock);
+    let mut err = Output::new(rt.alloc());
+    Ok(init(rt, &args, &mut out, &mut err) == 0 && lock.was_locked())
 }
 
 /// Gives true if `mwserve` serves a script, and has the tenant's file locked when it answers.
-fn is_locked_when_served<R>(rt: &R, folder: &str, path: &str) -> Result<bool, Fail>
+fn is_locked_when_served<R>(rt: &R, folder: &str, lock: &LockWatch<'_>) -> Result<bool, Fail>
 where
     R: Files<File = File>
         + AllocGlobal
@@ -48,19 +48,21 @@ where
         + SeesPaths,
 {
     let args = command_line(rt.alloc(), folder, SERVING)?;
-    let mut out = LockWatch::new(rt, path);
-    let mut err = Vec::new(rt.alloc());
-    Ok(serve(rt, &args, &mut out, &mut err) == 0 && out.was_locked())
+    let mut out = Output::of_lock(rt.alloc(), lock);
+    let mut err = Output::new(rt.alloc());
+    Ok(serve(rt, &args, &mut out, &mut err) == 0 && lock.was_locked())
 }
 
 #[test]
 fn files_stay_locked(rt: HostRuntime) -> Result<(), Fail> {
     let folder = new_folder(&rt, "files-stay-locked")?;
     let path = path_in(rt.alloc(), folder.as_str(), "t.mw")?;
-    let made = is_locked_when_made(&rt, folder.as_str(), path.as_str())?;
+    let lock = LockWatch::new(&rt, path.as_str());
+    let made = is_locked_when_made(&rt, folder.as_str(), &lock)?;
     assert!(rt; made, "mwinit");
     play_in(&rt, folder.as_str(), ONE_CHANGE)?;
-    let served = is_locked_when_served(&rt, folder.as_str(), path.as_str())?;
+    let lock = LockWatch::new(&rt, path.as_str());
+    let served = is_locked_when_served(&rt, folder.as_str(), &lock)?;
     assert!(rt; served, "mwserve");
     remove_folder(&rt, folder.as_str())
 }
@@ -81,9 +83,9 @@ where
         "mwserve --tenants DIR/tenants --listen 127.0.0.1:0 {options}"
     )?;
     let args = command_line(rt.alloc(), folder, line.as_str())?;
-    let mut notice = Notice::new(rt.alloc(), ports);
-    let mut err = Vec::new(rt.alloc());
-    Ok(serve(rt, &args, &mut notice, &mut err))
+    let mut out = Output::of_ports(rt.alloc(), ports);
+    let mut err = Output::new(rt.alloc());
+    Ok(serve(rt, &args, &mut out, &mut err))
 }
 
 /// Two clients of the server, of which the second begins after the first has ended. Gives true if they hear

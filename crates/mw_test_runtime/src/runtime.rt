@@ -1,12 +1,15 @@
 //! A runtime for the tests, under which some files can't be read or written, and some addresses give no connection.
 //!
-//! Used by: `file_faults` and `room` of mw_fault_examples. It may change freely as long as that checks and its tests pass.
+//! Used by: mw_fault_examples. It may change freely as long as that checks and its tests pass.
 use std::alloc::{Allocator, Global};
 use std::fs::{File, Metadata, OpenOptions, Permissions};
 use std::io;
+use std::io::{PipeReader, PipeWriter};
 use std::net::{Net, SocketAddr, TcpListener, TcpStream, UdpSocket};
-use std::os::fd::BorrowedFd;
+use std::os::fd::{BorrowedFd, OwnedFd};
 use std::os::unix::net;
+use std::os::unix::net::UnixStream;
+use std::path::PathBuf;
 use std::rt::Files;
 use std::sync::Wait;
 use std::thread::Threads;
@@ -15,19 +18,33 @@ use std::time::{Clock, Duration};
 /// The address at which a listener waits for nobody.
 pub const NO_ROOM: [u8; 4] = [127, 0, 0, 2];
 
-/// A runtime that does what another one does, but for this:
+/// A runtime that does what another one does. If it was made faulty, it does all but this:
 /// - It opens a file whose path ends with `.read-only` for reading alone, so that each write fails.
 /// - It opens a file whose path ends with `.write-only` for writing alone, so that each read fails.
 /// - At [`NO_ROOM`] it gives a listener that waits for nobody: an accept fails if no client is there.
+///
+/// A program is compiled once for both, since they are of one type.
 #[derive(Drop)]
 pub struct FaultyRuntime<'a, R> {
     rt: &'a R,
+    is_faulty: bool,
 }
 
 impl<'a, R> FaultyRuntime<'a, R> {
-    /// Makes a runtime over this one.
+    /// Makes a runtime over this one, with the faults.
     pub fn new(rt: &'a R) -> Self {
-        FaultyRuntime { rt }
+        FaultyRuntime {
+            rt,
+            is_faulty: true,
+        }
+    }
+
+    /// Makes a runtime that does just what this one does.
+    pub fn sound(rt: &'a R) -> Self {
+        FaultyRuntime {
+            rt,
+            is_faulty: false,
+        }
     }
 }
 
@@ -38,11 +55,11 @@ impl<R: Files<File = File>> Files for FaultyRuntime<'_, R> {
 
     fn open_file(&self, how: &OpenOptions, path: &str) -> io::Result<File> {
         let mut options = OpenOptions::new();
-        if path.ends_with(".read-only") {
+        if self.is_faulty && path.ends_with(".read-only") {
             options.read(true);
             return self.rt.open_file(&options, path);
         }
-        if path.ends_with(".write-only") {
+        if self.is_faulty && path.ends_with(".write-only") {
             options.write(true);
             return self.rt.open_file(&options, path);
         }
@@ -85,8 +102,40 @@ impl<R: Files<File = File>> Files for FaultyRuntime<'_, R> {
         self.rt.remove_dir_all(alloc, path)
     }
 
+    fn canonicalize<B: Allocator>(&self, alloc: B, path: &str) -> io::Result<PathBuf<B>> {
+        self.rt.canonicalize(alloc, path)
+    }
+
+    fn read_link<B: Allocator>(&self, alloc: B, path: &str) -> io::Result<PathBuf<B>> {
+        self.rt.read_link(alloc, path)
+    }
+
+    fn hard_link(&self, original: &str, link: &str) -> io::Result<()> {
+        self.rt.hard_link(original, link)
+    }
+
     fn set_permissions(&self, path: &str, perm: Permissions) -> io::Result<()> {
         self.rt.set_permissions(path, perm)
+    }
+
+    fn symlink(&self, original: &str, link: &str) -> io::Result<()> {
+        self.rt.symlink(original, link)
+    }
+
+    fn pipe(&self) -> io::Result<(PipeReader, PipeWriter)> {
+        self.rt.pipe()
+    }
+
+    fn chown(&self, path: &str, uid: Option<u32>, gid: Option<u32>) -> io::Result<()> {
+        self.rt.chown(path, uid, gid)
+    }
+
+    fn lchown(&self, path: &str, uid: Option<u32>, gid: Option<u32>) -> io::Result<()> {
+        self.rt.lchown(path, uid, gid)
+    }
+
+    fn create_dir_with_mode(&self, path: &str, mode: u32) -> io::Result<()> {
+        self.rt.create_dir_with_mode(path, mode)
     }
 
     fn bind_unix(&self, socket: BorrowedFd<'_>, addr: &net::SocketAddr) -> io::Result<()> {
@@ -101,7 +150,7 @@ impl<R: Net<Listener = TcpListener, Stream = TcpStream>> Net for FaultyRuntime<'
 
     fn bind(&self, addr: SocketAddr) -> io::Result<TcpListener> {
         let listener = self.rt.bind(addr)?;
-        if addr == SocketAddr::from((NO_ROOM, addr.port())) {
+        if self.is_faulty && addr == SocketAddr::from((NO_ROOM, addr.port())) {
             listener.set_nonblocking(true)?;
         }
         Ok(listener)
@@ -111,8 +160,28 @@ impl<R: Net<Listener = TcpListener, Stream = TcpStream>> Net for FaultyRuntime<'
         self.rt.connect(addr)
     }
 
+    fn connect_timeout(&self, addr: SocketAddr, timeout: Duration) -> io::Result<TcpStream> {
+        self.rt.connect_timeout(addr, timeout)
+    }
+
     fn bind_udp(&self, addr: SocketAddr) -> io::Result<UdpSocket> {
         self.rt.bind_udp(addr)
+    }
+
+    fn lookup_host(&self, host: &str, port: u16, found: &mut [SocketAddr]) -> io::Result<usize> {
+        self.rt.lookup_host(host, port, found)
+    }
+
+    fn connect_unix(&self, addr: &net::SocketAddr) -> io::Result<UnixStream> {
+        self.rt.connect_unix(addr)
+    }
+
+    fn unix_pair(&self) -> io::Result<(UnixStream, UnixStream)> {
+        self.rt.unix_pair()
+    }
+
+    fn unix_socket(&self) -> io::Result<OwnedFd> {
+        self.rt.unix_socket()
     }
 }
 
