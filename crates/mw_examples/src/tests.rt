@@ -5,7 +5,7 @@ mod operating;
 mod replaced;
 mod serving;
 
-use mw_stories::folders::{new_folder, path_in, remove_folder};
+use mw_stories::folders::{new_folder, path_in};
 use mw_stories::stories::{new_file, play, play_in};
 use std::fs;
 use std::fs::File;
@@ -296,8 +296,7 @@ fn files_that_are_damaged(rt: HostRuntime) -> Result<(), Fail> {
     let folder = new_folder(&rt, "files-that-are-damaged")?;
     let path = path_in(rt.alloc(), folder.as_str(), "t.mw")?;
     fs::write(&rt, path.as_str(), file_of_nine_entries().as_slice())?;
-    play_in(&rt, folder.as_str(), FILES_THAT_ARE_DAMAGED)?;
-    remove_folder(&rt, folder.as_str())
+    play(&rt, folder.as_str(), FILES_THAT_ARE_DAMAGED)
 }
 
 #[test]
@@ -348,8 +347,7 @@ fn one_file_serves_one_tenant(rt: HostRuntime) -> Result<(), Fail> {
     let folder = new_folder(&rt, "one-file")?;
     play_in(&rt, folder.as_str(), "mwinit DIR/t.mw 2 1")?;
     make_links(&rt, folder.as_str())?;
-    play_in(&rt, folder.as_str(), ONE_FILE)?;
-    remove_folder(&rt, folder.as_str())
+    play(&rt, folder.as_str(), ONE_FILE)
 }
 
 /// A tenant whose file is locked by another program.
@@ -374,8 +372,7 @@ fn a_file_that_is_locked(rt: HostRuntime) -> Result<(), Fail> {
     assert!(rt; file.try_lock().is_ok());
     play_in(&rt, folder.as_str(), LOCKED)?;
     file.unlock()?;
-    play_in(&rt, folder.as_str(), UNLOCKED)?;
-    remove_folder(&rt, folder.as_str())
+    play(&rt, folder.as_str(), UNLOCKED)
 }
 
 #[test]

@@ -3,10 +3,11 @@
 //!
 //! Nothing else uses it: it may change with what it tests.
 use mw_stories::clients::{Ports, come_and_go, port_of_server};
-use mw_stories::folders::{new_folder, remove_folder};
-use mw_stories::runtimes::FaultyRuntime;
+use mw_stories::folders::new_folder;
+use mw_stories::outputs::Output;
 use mw_stories::servers::{ask_alone, serve_loopback};
 use mw_stories::stories::{play, play_in};
+use mw_test_runtime::FaultyRuntime;
 use std::net::{Net, TcpListener, TcpStream};
 use std::test::Fail;
 use std::time::Clock;
@@ -16,7 +17,7 @@ use std::{io, str, thread};
 #[test]
 fn files_that_fail_at_the_start(rt: HostRuntime) -> Result<(), Fail> {
     play(
-        &rt,
+        &FaultyRuntime::sound(&rt),
         new_folder(&rt, "faults-at-the-start")?.as_str(),
         "\
 mwinit DIR/s.mw 2 1
@@ -99,10 +100,11 @@ gives 0 OK 2;VAL 1;|";
 #[test]
 fn files_that_fail_while_served(rt: HostRuntime) -> Result<(), Fail> {
     let folder = new_folder(&rt, "faults-while-served")?;
-    play_in(&rt, folder.as_str(), THREE_TENANTS)?;
+    let sound = FaultyRuntime::sound(&rt);
+    play_in(&sound, folder.as_str(), THREE_TENANTS)?;
     let ports = Ports::new();
     let faulty = FaultyRuntime::new(&rt);
-    let mut err = Vec::new(rt.alloc());
+    let mut err = Output::new(rt.alloc());
     let options = "--listen 127.0.0.1:0 --workers 1 --connections 3 --verbose";
     let (heard, status) = thread::join(
         &faulty,
@@ -112,9 +114,8 @@ fn files_that_fail_while_served(rt: HostRuntime) -> Result<(), Fail> {
     assert!(rt; heard?, "a client heard something else");
     assert_eq!(rt; status?, 0);
     let notes = TWO_NOTES.replace(rt.alloc(), "DIR", folder.as_str())?;
-    assert_eq!(rt; str::from_utf8(&err), Ok(notes.as_str()));
-    play_in(&rt, folder.as_str(), AFTER_THREE_CLIENTS)?;
-    remove_folder(&rt, folder.as_str())
+    assert_eq!(rt; str::from_utf8(&err.into_text()), Ok(notes.as_str()));
+    play(&sound, folder.as_str(), AFTER_THREE_CLIENTS)
 }
 
 /// A tenant with its file, and a script that will open and can't be read.
@@ -137,7 +138,8 @@ gives 0 OK 2;VAL 0;|";
 #[test]
 fn a_script_that_can_not_be_read(rt: HostRuntime) -> Result<(), Fail> {
     let folder = new_folder(&rt, "unread-script")?;
-    play_in(&rt, folder.as_str(), UNREAD_SCRIPT)?;
+    let sound = FaultyRuntime::sound(&rt);
+    play_in(&sound, folder.as_str(), UNREAD_SCRIPT)?;
     play_in(&FaultyRuntime::new(&rt), folder.as_str(), UNREAD)?;
-    play(&rt, folder.as_str(), AFTER_UNREAD)
+    play(&sound, folder.as_str(), AFTER_UNREAD)
 }

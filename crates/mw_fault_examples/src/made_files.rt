@@ -3,16 +3,19 @@
 //! Nothing else uses it: it may change with what it tests.
 use mw_init::init;
 use mw_stories::folders::{command_line, new_folder, path_in, remove_folder};
-use mw_stories::outputs::FailingOutput;
+use mw_stories::outputs::Output;
 use mw_stories::stories::{play, play_in};
+use mw_test_runtime::FaultyRuntime;
+use std::fs::File;
 use std::os::unix::fs::symlink;
+use std::rt::Files;
 use std::test::Fail;
 
 /// A file of W words and P places has 32 + 8 W + 136 P bytes.
 #[test]
 fn sizes_of_new_files(rt: HostRuntime) -> Result<(), Fail> {
     play(
-        &rt,
+        &FaultyRuntime::sound(&rt),
         new_folder(&rt, "sizes-of-new-files")?.as_str(),
         "\
 mwinit DIR/least 1 1
@@ -49,9 +52,10 @@ mwinit --words 2 DIR/t.mw 2 1";
 #[test]
 fn command_lines_that_make_nothing(rt: HostRuntime) -> Result<(), Fail> {
     let folder = new_folder(&rt, "lines-that-make-nothing")?;
+    let sound = FaultyRuntime::sound(&rt);
     for line in WRONG_LINES.split('\n') {
         let story = format!(in rt.alloc(); "{line}\nbegins 2 |error:\nabsent t.mw")?;
-        play_in(&rt, folder.as_str(), story.as_str())?;
+        play_in(&sound, folder.as_str(), story.as_str())?;
     }
     remove_folder(&rt, folder.as_str())
 }
@@ -83,8 +87,7 @@ fn files_that_have_no_place(rt: HostRuntime) -> Result<(), Fail> {
     let folder = new_folder(&rt, "files-that-have-no-place")?;
     let link = path_in(rt.alloc(), folder.as_str(), "link.mw")?;
     symlink(&rt, "nowhere", link.as_str())?;
-    play_in(&rt, folder.as_str(), NO_PLACE)?;
-    remove_folder(&rt, folder.as_str())
+    play(&FaultyRuntime::sound(&rt), folder.as_str(), NO_PLACE)
 }
 
 /// The bytes of the line `made 184`.
@@ -92,24 +95,28 @@ const MADE: usize = 9;
 
 /// Makes a file, of which the output takes so many bytes of the line `made 184`. Gives true if `mwinit` says that
 /// it could not make it.
-fn is_told_in_vain(rt: &HostRuntime, folder: &str, room: usize) -> Result<bool, Fail> {
+fn is_told_in_vain<R>(rt: &R, folder: &str, room: usize) -> Result<bool, Fail>
+where
+    R: Files<File = File> + AllocGlobal,
+{
     let line = format!(in rt.alloc(); "mwinit DIR/{room}.mw 2 1")?;
     let args = command_line(rt.alloc(), folder, line.as_str())?;
-    let mut out = FailingOutput::new(rt.alloc(), room);
-    let mut err = Vec::new(rt.alloc());
+    let mut out = Output::with_room(rt.alloc(), room);
+    let mut err = Output::new(rt.alloc());
     let status = init(rt, &args, &mut out, &mut err);
-    Ok(status == 1 && err.as_slice() == b"mwinit: cannot make\n".as_slice())
+    Ok(status == 1 && err.into_text().as_slice() == b"mwinit: cannot make\n".as_slice())
 }
 
 /// The whole file stays if the output fails.
 #[test]
 fn files_that_are_told_in_vain(rt: HostRuntime) -> Result<(), Fail> {
     let folder = new_folder(&rt, "told-in-vain")?;
+    let sound = FaultyRuntime::sound(&rt);
     for room in 0..MADE {
-        let told = is_told_in_vain(&rt, folder.as_str(), room)?;
+        let told = is_told_in_vain(&sound, folder.as_str(), room)?;
         assert!(rt; told, "{room}");
         let story = format!(in rt.alloc(); "new {room}.mw")?;
-        play_in(&rt, folder.as_str(), story.as_str())?;
+        play_in(&sound, folder.as_str(), story.as_str())?;
     }
     remove_folder(&rt, folder.as_str())
 }

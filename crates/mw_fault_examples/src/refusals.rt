@@ -4,7 +4,8 @@
 //! Nothing else uses it: it may change with what it tests.
 use mw_programs::SeesPaths;
 use mw_stories::folders::{new_folder, remove_folder};
-use mw_stories::stories::play_in;
+use mw_stories::stories::{play, play_in};
+use mw_test_runtime::FaultyRuntime;
 use std::fs::File;
 use std::net::{Net, TcpListener, TcpStream};
 use std::rt::Files;
@@ -77,16 +78,17 @@ mwserve --tenants DIR/tenants --listen unix:DIR/s --connections 1000000 --idle 8
 #[test]
 fn command_lines(rt: HostRuntime) -> Result<(), Fail> {
     let folder = new_folder(&rt, "command-lines")?;
+    let sound = FaultyRuntime::sound(&rt);
     let path = folder.as_str();
-    play_table(&rt, path, "CASE\nbegins 2 |error:", WRONG_LINES)?;
+    play_table(&sound, path, "CASE\nbegins 2 |error:", WRONG_LINES)?;
     play_table(
-        &rt,
+        &sound,
         path,
         "CASE\nbegins 2 |mwserve: refused 1 command;mwserve: ",
         REFUSED_LINES,
     )?;
     play_table(
-        &rt,
+        &sound,
         path,
         "CASE\ngives 2 |mwserve: refused 2 file;DIR/tenants: No such file or directory (os error 2);\nabsent s",
         RIGHT_LINES,
@@ -147,8 +149,9 @@ t 2 64 a;u 2 64 b;v 2 64 c;w 2 64 d;x 2 1 e;y|3 form line 6;DIR/tenants: line 6 
 #[test]
 fn tenants_files(rt: HostRuntime) -> Result<(), Fail> {
     let folder = new_folder(&rt, "tenants-files")?;
-    refuse_tenants(&rt, folder.as_str(), ONE_FAULT)?;
-    refuse_tenants(&rt, folder.as_str(), TWO_FAULTS)?;
+    let sound = FaultyRuntime::sound(&rt);
+    refuse_tenants(&sound, folder.as_str(), ONE_FAULT)?;
+    refuse_tenants(&sound, folder.as_str(), TWO_FAULTS)?;
     remove_folder(&rt, folder.as_str())
 }
 
@@ -173,22 +176,33 @@ fn notes_on(rt: &HostRuntime, names: &str) -> Result<String, Fail> {
     Ok(notes)
 }
 
+/// Gives the story of 16 tenants, which are served.
+fn story_of_most(rt: &HostRuntime) -> Result<String, Fail> {
+    let (most, _) = NAMES.split_once('q').unwrap_or((NAMES, ""));
+    let lines = lines_of(rt, most)?;
+    let notes = notes_on(rt, most)?;
+    let story = format!(in rt.alloc();
+        "write tenants {lines}\nwrite script ADMIN;\nserve\ngives 0 OK ADMIN;|{notes}"
+    )?;
+    Ok(story)
+}
+
+/// Gives the story of 17 tenants, which are refused.
+fn story_of_too_many(rt: &HostRuntime) -> Result<String, Fail> {
+    let lines = lines_of(rt, NAMES)?;
+    let story = format!(in rt.alloc();
+        "write tenants {lines}\nserve\ngives 2 |mwserve: refused 7 many line 17;mwserve: at most 16 lines;"
+    )?;
+    Ok(story)
+}
+
 /// 16 tenants are served, and 17 are refused.
 #[test]
 fn numbers_of_tenants(rt: HostRuntime) -> Result<(), Fail> {
     let folder = new_folder(&rt, "numbers-of-tenants")?;
-    let (most, _) = NAMES.split_once('q').unwrap_or((NAMES, ""));
-    let (lines, notes) = (lines_of(&rt, most)?, notes_on(&rt, most)?);
-    let story = format!(in rt.alloc();
-        "write tenants {lines}\nwrite script ADMIN;\nserve\ngives 0 OK ADMIN;|{notes}"
-    )?;
-    play_in(&rt, folder.as_str(), story.as_str())?;
-    let lines = lines_of(&rt, NAMES)?;
-    let story = format!(in rt.alloc();
-        "write tenants {lines}\nserve\ngives 2 |mwserve: refused 7 many line 17;mwserve: at most 16 lines;"
-    )?;
-    play_in(&rt, folder.as_str(), story.as_str())?;
-    remove_folder(&rt, folder.as_str())
+    let sound = FaultyRuntime::sound(&rt);
+    play_in(&sound, folder.as_str(), story_of_most(&rt)?.as_str())?;
+    play(&sound, folder.as_str(), story_of_too_many(&rt)?.as_str())
 }
 
 /// Plays this story, with a text of so many bytes in the place of `LONG`.
@@ -224,10 +238,11 @@ const LONG_FILE: &str =
 #[test]
 fn long_tenants_files(rt: HostRuntime) -> Result<(), Fail> {
     let folder = new_folder(&rt, "long-tenants-files")?;
-    play_long(&rt, folder.as_str(), 200, PATH)?;
-    play_long(&rt, folder.as_str(), 201, LONG_PATH)?;
-    play_long(&rt, folder.as_str(), 8192, FILE)?;
-    play_long(&rt, folder.as_str(), 8193, LONG_FILE)?;
+    let sound = FaultyRuntime::sound(&rt);
+    play_long(&sound, folder.as_str(), 200, PATH)?;
+    play_long(&sound, folder.as_str(), 201, LONG_PATH)?;
+    play_long(&sound, folder.as_str(), 8192, FILE)?;
+    play_long(&sound, folder.as_str(), 8193, LONG_FILE)?;
     remove_folder(&rt, folder.as_str())
 }
 
@@ -244,9 +259,11 @@ gives 1 |mwserve: cannot read;DIR/tenants/script: Not a directory (os error 20);
 
 #[test]
 fn files_that_are_not_plain(rt: HostRuntime) -> Result<(), Fail> {
-    let folder = new_folder(&rt, "not-plain")?;
-    play_in(&rt, folder.as_str(), FOLDERS)?;
-    remove_folder(&rt, folder.as_str())
+    play(
+        &FaultyRuntime::sound(&rt),
+        new_folder(&rt, "not-plain")?.as_str(),
+        FOLDERS,
+    )
 }
 
 /// Texts that are no address. The server says at no other address that it is ready.
@@ -266,14 +283,15 @@ const NO_ADDRESSES: &str = "\
 #[test]
 fn texts_that_are_no_address(rt: HostRuntime) -> Result<(), Fail> {
     let folder = new_folder(&rt, "no-address")?;
+    let sound = FaultyRuntime::sound(&rt);
     let path = folder.as_str();
     play_in(
-        &rt,
+        &sound,
         path,
         "mwinit DIR/t.mw 2 1\nwrite tenants t 2 1 DIR/t.mw;",
     )?;
     play_table(
-        &rt,
+        &sound,
         path,
         "mwserve --tenants DIR/tenants --connections 1 CASE\ngives 1 |mwserve: cannot listen;",
         NO_ADDRESSES,
@@ -293,12 +311,12 @@ gives 1 |mwserve: cannot listen;127.0.0.1:PORT: Address already in use (os error
 #[test]
 fn a_port_that_is_taken(rt: HostRuntime) -> Result<(), Fail> {
     let folder = new_folder(&rt, "a-port-that-is-taken")?;
+    let sound = FaultyRuntime::sound(&rt);
     let listener = TcpListener::bind(&rt, ("127.0.0.1", 0))?;
     let port = listener.local_addr()?.port();
     let port = format!(in rt.alloc(); "{port}")?;
     let story = TAKEN.replace(rt.alloc(), "PORT", port.as_str())?;
-    play_in(&rt, folder.as_str(), story.as_str())?;
-    remove_folder(&rt, folder.as_str())
+    play(&sound, folder.as_str(), story.as_str())
 }
 
 /// With `--strict` nothing is served if a tenant's file doesn't open. The server doesn't come to the script, which
@@ -329,7 +347,9 @@ gives 1 |mwserve: cannot read;";
 
 #[test]
 fn strict_servers(rt: HostRuntime) -> Result<(), Fail> {
-    let folder = new_folder(&rt, "strict")?;
-    play_in(&rt, folder.as_str(), STRICT)?;
-    remove_folder(&rt, folder.as_str())
+    play(
+        &FaultyRuntime::sound(&rt),
+        new_folder(&rt, "strict")?.as_str(),
+        STRICT,
+    )
 }

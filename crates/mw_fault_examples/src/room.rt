@@ -4,10 +4,10 @@
 use mw_programs::SeesPaths;
 use mw_stories::clients::{Ports, come_and_go, port_of_server};
 use mw_stories::folders::{new_folder, remove_folder};
-use mw_stories::outputs::NoteWatch;
-use mw_stories::runtimes::FaultyRuntime;
+use mw_stories::outputs::Output;
 use mw_stories::servers::{ask_alone, serve_loopback};
 use mw_stories::stories::play_in;
+use mw_test_runtime::FaultyRuntime;
 use std::fs::File;
 use std::net::{Net, TcpListener, TcpStream};
 use std::rt::Files;
@@ -16,14 +16,14 @@ use std::sync::atomic::AtomicU16;
 use std::test::Fail;
 use std::thread::Threads;
 use std::time::Clock;
-use std::{io, mem, str, thread};
+use std::{io, str, thread};
 
 /// A tenant with its file.
 const ONE_TENANT: &str = "\
 mwinit DIR/t.mw 2 1
 write tenants t 2 1 DIR/t.mw;";
 
-/// The note, with the address of [`mw_stories::runtimes::NO_ROOM`].
+/// The note, with the address of [`mw_test_runtime::NO_ROOM`].
 const NO_ROOM: &str =
     "mwserve: no room for connections\n127.0.0.2:0: Resource temporarily unavailable (os error 11)\n";
 
@@ -31,14 +31,14 @@ const NO_ROOM: &str =
 #[test]
 fn no_room_for_clients(rt: HostRuntime) -> Result<(), Fail> {
     let folder = new_folder(&rt, "no-room-for-clients")?;
-    play_in(&rt, folder.as_str(), ONE_TENANT)?;
+    play_in(&FaultyRuntime::sound(&rt), folder.as_str(), ONE_TENANT)?;
     let ports = Ports::new();
-    let mut err = Vec::new(rt.alloc());
+    let mut err = Output::new(rt.alloc());
     let faulty = FaultyRuntime::new(&rt);
     let options = "--listen 127.0.0.2:0 --connections 3 --verbose";
     let status = serve_loopback(&faulty, folder.as_str(), options, &ports, &mut err)?;
     assert_eq!(rt; status, 0);
-    assert_eq!(rt; str::from_utf8(&err), Ok(NO_ROOM));
+    assert_eq!(rt; str::from_utf8(&err.into_text()), Ok(NO_ROOM));
     remove_folder(&rt, folder.as_str())
 }
 
@@ -75,17 +75,16 @@ where
         + Sync
         + SeesPaths,
 {
-    let mut err = NoteWatch::new(rt.alloc(), noted);
+    let mut err = Output::of_note(rt.alloc(), noted);
     let status = serve_loopback(rt, folder, options, ports, &mut err)?;
-    let notes = mem::replace(&mut err.text, Vec::new(rt.alloc()));
-    Ok((status, notes))
+    Ok((status, err.into_text()))
 }
 
 /// The system gives no connection at the administrator's address. The note comes once, and clients are served.
 #[test]
 fn no_room_for_the_administrator(rt: HostRuntime) -> Result<(), Fail> {
     let folder = new_folder(&rt, "no-room-for-the-administrator")?;
-    play_in(&rt, folder.as_str(), ONE_TENANT)?;
+    play_in(&FaultyRuntime::sound(&rt), folder.as_str(), ONE_TENANT)?;
     let (ports, noted) = (Ports::new(), AtomicU16::new(0));
     let faulty = FaultyRuntime::new(&rt);
     let options = "--listen 127.0.0.1:0 --admin 127.0.0.2:0 --workers 1 --connections 1 --verbose";

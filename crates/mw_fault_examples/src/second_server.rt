@@ -3,9 +3,11 @@
 //! Nothing else uses it: it may change with what it tests.
 use mw_programs::SeesPaths;
 use mw_stories::clients::{Ports, come_and_go, port_of_server};
-use mw_stories::folders::{new_folder, remove_folder};
+use mw_stories::folders::new_folder;
+use mw_stories::outputs::Output;
 use mw_stories::servers::{ask_alone, serve_loopback};
-use mw_stories::stories::play_in;
+use mw_stories::stories::{play, play_in};
+use mw_test_runtime::FaultyRuntime;
 use std::fs::File;
 use std::net::{Net, TcpListener, TcpStream};
 use std::rt::Files;
@@ -65,17 +67,17 @@ where
 #[test]
 fn a_second_server(rt: HostRuntime) -> Result<(), Fail> {
     let folder = new_folder(&rt, "a-second-server")?;
-    play_in(&rt, folder.as_str(), ONE_TENANT)?;
+    let sound = FaultyRuntime::sound(&rt);
+    play_in(&sound, folder.as_str(), ONE_TENANT)?;
     let ports = Ports::new();
-    let mut err = Vec::new(rt.alloc());
+    let mut err = Output::new(rt.alloc());
     let options = "--listen 127.0.0.1:0 --connections 1";
     let (status, heard) = thread::join(
-        &rt,
-        || serve_loopback(&rt, folder.as_str(), options, &ports, &mut err),
-        || play_beside(&rt, folder.as_str(), &ports),
+        &sound,
+        || serve_loopback(&sound, folder.as_str(), options, &ports, &mut err),
+        || play_beside(&sound, folder.as_str(), &ports),
     );
     assert!(rt; heard?, "the client heard something else");
-    assert_eq!(rt; (status?, err.len()), (0, 0));
-    play_in(&rt, folder.as_str(), AFTER)?;
-    remove_folder(&rt, folder.as_str())
+    assert_eq!(rt; (status?, err.into_text().len()), (0, 0));
+    play(&sound, folder.as_str(), AFTER)
 }

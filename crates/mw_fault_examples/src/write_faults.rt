@@ -3,13 +3,13 @@
 //! Nothing else uses it: it may change with what it tests.
 use mw_programs::SeesPaths;
 use mw_stories::folders::{new_folder, path_in, remove_folder};
-use mw_stories::outputs::FailingOutput;
+use mw_stories::outputs::Output;
 use mw_stories::servers::serve_to;
 use mw_stories::stories::play_in;
+use mw_test_runtime::FaultyRuntime;
 use std::fs;
 use std::fs::File;
 use std::net::{Net, TcpListener, TcpStream};
-use std::process::Abort;
 use std::rt::Files;
 use std::sync::Wait;
 use std::test::Fail;
@@ -46,9 +46,9 @@ fn word_after(taken: usize) -> u8 {
 /// The command line of the session.
 const SESSION: &str = "mwserve --tenants DIR/tenants --script DIR/session --verbose";
 
-/// Serves the session to an output that takes so many bytes. It must give this status, no note, and so many bytes
-/// of the answers.
-fn serve_session<R>(rt: &R, folder: &str, room: usize, wanted: u8) -> Result<(), Fail>
+/// Serves the session to an output that takes so many bytes. Gives true if it gives this status, no note, and so many
+/// bytes of the answers.
+fn serve_session<R>(rt: &R, folder: &str, room: usize, wanted: u8) -> Result<bool, Fail>
 where
     R: Files<File = File>
         + AllocGlobal
@@ -57,18 +57,12 @@ where
         + Wait
         + Clock
         + Sync
-        + Abort
         + SeesPaths,
 {
-    let mut out = FailingOutput::new(rt.alloc(), room);
-    let (status, err) = serve_to(rt, folder, SESSION, &mut out)?;
-    assert_eq!(rt;
-        (status, err.len(), out.text.len()),
-        (wanted, 0, room),
-        "{room}"
-    );
-    assert!(rt; ANSWERS.starts_with(&out.text), "{room}");
-    Ok(())
+    let mut out = Output::with_room(rt.alloc(), room);
+    let (status, notes) = serve_to(rt, folder, SESSION, &mut out)?;
+    let text = out.into_text();
+    Ok((status, notes.len()) == (wanted, 0) && ANSWERS.get(..room) == Some(text.as_slice()))
 }
 
 /// The next server must find the words, which an output that took so many bytes has left.
@@ -91,13 +85,15 @@ where
 #[test]
 fn a_session_whose_output_fails(rt: HostRuntime) -> Result<(), Fail> {
     let folder = new_folder(&rt, "output-fails")?;
-    play_in(&rt, folder.as_str(), TWO_CHANGES)?;
+    let sound = FaultyRuntime::sound(&rt);
+    play_in(&sound, folder.as_str(), TWO_CHANGES)?;
     let path = path_in(rt.alloc(), folder.as_str(), "t.mw")?;
     let unchanged = fs::read(&rt, path.as_str())?;
     for room in 0..ANSWERS.len() {
         fs::write(&rt, path.as_str(), unchanged.as_slice())?;
-        serve_session(&rt, folder.as_str(), room, 1)?;
-        look_after(&rt, folder.as_str(), room)?;
+        let served = serve_session(&sound, folder.as_str(), room, 1)?;
+        assert!(rt; served, "{room}");
+        look_after(&sound, folder.as_str(), room)?;
     }
     remove_folder(&rt, folder.as_str())
 }
@@ -106,9 +102,11 @@ fn a_session_whose_output_fails(rt: HostRuntime) -> Result<(), Fail> {
 #[test]
 fn a_session_whose_output_has_room(rt: HostRuntime) -> Result<(), Fail> {
     let folder = new_folder(&rt, "output-has-room")?;
-    play_in(&rt, folder.as_str(), TWO_CHANGES)?;
-    serve_session(&rt, folder.as_str(), ANSWERS.len(), 0)?;
-    look_after(&rt, folder.as_str(), ANSWERS.len())?;
+    let sound = FaultyRuntime::sound(&rt);
+    play_in(&sound, folder.as_str(), TWO_CHANGES)?;
+    let served = serve_session(&sound, folder.as_str(), ANSWERS.len(), 0)?;
+    assert!(rt; served);
+    look_after(&sound, folder.as_str(), ANSWERS.len())?;
     remove_folder(&rt, folder.as_str())
 }
 
@@ -120,16 +118,33 @@ const LINES: [&str; 4] = [
     "mwserve --tenants DIR/tenants --listen 127.0.0.1:0 --admin 127.0.0.1:0 --connections 1",
 ];
 
+/// Runs a command line whose first output takes so many bytes. Gives true if the server ends with status 1 and no note.
+fn ends_at_once<R>(rt: &R, folder: &str, line: &str, room: usize) -> Result<bool, Fail>
+where
+    R: Files<File = File>
+        + AllocGlobal
+        + Net<Listener = TcpListener, Stream = TcpStream>
+        + Threads
+        + Wait
+        + Clock
+        + Sync
+        + SeesPaths,
+{
+    let mut out = Output::with_room(rt.alloc(), room);
+    let (status, notes) = serve_to(rt, folder, line, &mut out)?;
+    Ok((status, notes.len()) == (1, 0))
+}
+
 /// The server ends if nobody can learn where it listens.
 #[test]
 fn first_outputs_that_fail(rt: HostRuntime) -> Result<(), Fail> {
     let folder = new_folder(&rt, "first-outputs")?;
-    play_in(&rt, folder.as_str(), TWO_CHANGES)?;
+    let sound = FaultyRuntime::sound(&rt);
+    play_in(&sound, folder.as_str(), TWO_CHANGES)?;
     for line in LINES {
         for room in [0, 3] {
-            let mut out = FailingOutput::new(rt.alloc(), room);
-            let (status, err) = serve_to(&rt, folder.as_str(), line, &mut out)?;
-            assert_eq!(rt; (status, err.len()), (1, 0), "{line}, {room}");
+            let ended = ends_at_once(&sound, folder.as_str(), line, room)?;
+            assert!(rt; ended, "{line}, {room}");
         }
     }
     remove_folder(&rt, folder.as_str())

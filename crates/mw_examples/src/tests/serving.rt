@@ -6,7 +6,8 @@ use mw_programs::{SeesPaths, serve};
 use mw_stories::clients::{Caller, Ports, come_and_go, port_of_server};
 use mw_stories::folders::{command_line, new_folder, path_in, remove_folder};
 use mw_stories::outputs::{LockWatch, Output};
-use mw_stories::stories::play_in;
+use mw_stories::servers::serve_loopback;
+use mw_stories::stories::{play, play_in};
 use std::fs::File;
 use std::net::{Net, TcpListener, TcpStream};
 use std::rt::Files;
@@ -67,27 +68,6 @@ fn files_stay_locked(rt: HostRuntime) -> Result<(), Fail> {
     remove_folder(&rt, folder.as_str())
 }
 
-/// Serves the tenants of a folder's tenants file over loopback, with these options. Gives the exit status.
-fn serve_clients<R>(rt: &R, folder: &str, options: &str, ports: &Ports) -> io::Result<u8>
-where
-    R: Files<File = File>
-        + AllocGlobal
-        + Net<Listener = TcpListener, Stream = TcpStream>
-        + Threads
-        + Wait
-        + Clock
-        + Sync
-        + SeesPaths,
-{
-    let line = format!(in rt.alloc();
-        "mwserve --tenants DIR/tenants --listen 127.0.0.1:0 {options}"
-    )?;
-    let args = command_line(rt.alloc(), folder, line.as_str())?;
-    let mut out = Output::of_ports(rt.alloc(), ports);
-    let mut err = Output::new(rt.alloc());
-    Ok(serve(rt, &args, &mut out, &mut err))
-}
-
 /// Two clients of the server, of which the second begins after the first has ended. Gives true if they hear
 /// what they must.
 fn call_in_turn<R: Net<Listener = TcpListener, Stream = TcpStream> + Clock>(
@@ -127,20 +107,23 @@ write script TENANT t;GET 0;
 serve
 gives 0 OK 2;VAL 1;|";
 
+/// How they are served.
+const TWO_WORKERS: &str = "--listen 127.0.0.1:0 --workers 2 --connections 2";
+
 #[test]
 fn two_clients(rt: HostRuntime) -> Result<(), Fail> {
     let folder = new_folder(&rt, "two-clients")?;
     play_in(&rt, folder.as_str(), BEFORE_TWO_CLIENTS)?;
     let ports = Ports::new();
+    let mut err = Output::new(rt.alloc());
     let (heard, status) = thread::join(
         &rt,
         || call_once_ready(&rt, &ports),
-        || serve_clients(&rt, folder.as_str(), "--workers 2 --connections 2", &ports),
+        || serve_loopback(&rt, folder.as_str(), TWO_WORKERS, &ports, &mut err),
     );
     assert!(rt; heard?, "a client heard something else");
     assert_eq!(rt; status?, 0);
-    play_in(&rt, folder.as_str(), AFTER_TWO_CLIENTS)?;
-    remove_folder(&rt, folder.as_str())
+    play(&rt, folder.as_str(), AFTER_TWO_CLIENTS)
 }
 
 /// A client has the one worker and is silent. The administrator still gets the report, and then the client
@@ -166,17 +149,19 @@ mwinit DIR/t.mw 2 1
 write tenants t 2 1 DIR/t.mw;";
 
 /// How they are served.
-const ONE_WORKER: &str = "--admin 127.0.0.1:0 --workers 1 --connections 1 --idle 2";
+const ONE_WORKER: &str =
+    "--listen 127.0.0.1:0 --admin 127.0.0.1:0 --workers 1 --connections 1 --idle 2";
 
 #[test]
 fn the_administrator_waits_for_nobody(rt: HostRuntime) -> Result<(), Fail> {
     let folder = new_folder(&rt, "administrator")?;
     play_in(&rt, folder.as_str(), BEFORE_BOTH)?;
     let ports = Ports::new();
+    let mut err = Output::new(rt.alloc());
     let (heard, status) = thread::join(
         &rt,
         || call_both(&rt, &ports),
-        || serve_clients(&rt, folder.as_str(), ONE_WORKER, &ports),
+        || serve_loopback(&rt, folder.as_str(), ONE_WORKER, &ports, &mut err),
     );
     assert!(rt; heard?, "a client heard something else");
     assert_eq!(rt; status?, 0);
