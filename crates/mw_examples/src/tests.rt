@@ -6,7 +6,7 @@ mod replaced;
 mod serving;
 
 use mw_stories::folders::{new_folder, path_in};
-use mw_stories::stories::{new_file, play, play_in};
+use mw_stories::stories::{new_file, play, play_in, play_new};
 use std::fs;
 use std::fs::File;
 use std::os::unix::fs::symlink;
@@ -14,9 +14,10 @@ use std::test::Fail;
 
 #[test]
 fn fresh_file(rt: HostRuntime) -> Result<(), Fail> {
-    play(
+    play_new(
         &rt,
-        new_folder(&rt, "fresh-file")?.as_str(),
+        &rt,
+        "fresh-file",
         "\
 mwinit DIR/t.mw 2 1
 gives 0 made 184;|
@@ -26,9 +27,10 @@ new t.mw",
 
 #[test]
 fn a_file_that_is_there(rt: HostRuntime) -> Result<(), Fail> {
-    play(
+    play_new(
         &rt,
-        new_folder(&rt, "a-file-that-is-there")?.as_str(),
+        &rt,
+        "a-file-that-is-there",
         "\
 mwinit DIR/t.mw 2 1
 mwinit DIR/t.mw 3 1
@@ -39,9 +41,10 @@ new t.mw",
 
 #[test]
 fn first_run(rt: HostRuntime) -> Result<(), Fail> {
-    play(
+    play_new(
         &rt,
-        new_folder(&rt, "first-run")?.as_str(),
+        &rt,
+        "first-run",
         "\
 mwinit DIR/t.mw 2 1
 write tenants t 2 1 DIR/t.mw;
@@ -58,9 +61,10 @@ gives 0 OK 2;YES;VAL 2;|",
 
 #[test]
 fn empty_lines(rt: HostRuntime) -> Result<(), Fail> {
-    play(
+    play_new(
         &rt,
-        new_folder(&rt, "empty-lines")?.as_str(),
+        &rt,
+        "empty-lines",
         "\
 mwinit DIR/t.mw 2 1
 write tenants t 2 1 DIR/t.mw;
@@ -78,9 +82,10 @@ gives 0 |",
 
 #[test]
 fn changes_of_a_session(rt: HostRuntime) -> Result<(), Fail> {
-    play(
+    play_new(
         &rt,
-        new_folder(&rt, "changes")?.as_str(),
+        &rt,
+        "changes",
         "\
 mwinit DIR/t.mw 2 1
 write tenants t 2 1 DIR/t.mw;
@@ -113,9 +118,10 @@ gives 0 OK 4;ERR 7;ERR 7;NO 0 0;|",
 
 #[test]
 fn the_order_of_faults(rt: HostRuntime) -> Result<(), Fail> {
-    play(
+    play_new(
         &rt,
-        new_folder(&rt, "the-order-of-faults")?.as_str(),
+        &rt,
+        "the-order-of-faults",
         "\
 mwinit DIR/t.mw 2 1
 write tenants t 2 1 DIR/t.mw;
@@ -127,9 +133,10 @@ gives 0 ERR 3;ERR 6;ERR 5;OK 2;ERR 4;ERR 10;ERR 6;ERR 2;ERR 2;BYE;|",
 
 #[test]
 fn report_one_tenant(rt: HostRuntime) -> Result<(), Fail> {
-    play(
+    play_new(
         &rt,
-        new_folder(&rt, "report-one-tenant")?.as_str(),
+        &rt,
+        "report-one-tenant",
         "\
 mwinit DIR/t.mw 2 1
 write tenants t 2 1 DIR/t.mw;
@@ -151,16 +158,17 @@ write script {line};TENANT t;
 serve
 gives 0 {told}|"
         )?;
-        play(&rt, new_folder(&rt, "long-line")?.as_str(), story.as_str())?;
+        play_new(&rt, &rt, "long-line", story.as_str())?;
     }
     Ok(())
 }
 
 #[test]
 fn two_sessions(rt: HostRuntime) -> Result<(), Fail> {
-    play(
+    play_new(
         &rt,
-        new_folder(&rt, "two-sessions")?.as_str(),
+        &rt,
+        "two-sessions",
         "\
 mwinit DIR/t.mw 2 1
 write tenants t 2 1 DIR/t.mw;
@@ -175,9 +183,10 @@ gives 0 OK 2;VAL 2;|",
 
 #[test]
 fn report_two_tenants(rt: HostRuntime) -> Result<(), Fail> {
-    play(
+    play_new(
         &rt,
-        new_folder(&rt, "report-two-tenants")?.as_str(),
+        &rt,
+        "report-two-tenants",
         "\
 mwinit DIR/t.mw 2 1
 mwinit DIR/u.mw 4096 32
@@ -192,9 +201,10 @@ gives 2 |mwserve: refused 9 pool;mwserve: the quotas together are more than --po
 
 #[test]
 fn refused_tenants(rt: HostRuntime) -> Result<(), Fail> {
-    play(
+    play_new(
         &rt,
-        new_folder(&rt, "refused-tenants")?.as_str(),
+        &rt,
+        "refused-tenants",
         "\
 mwinit DIR/t.mw 2 1
 write script TENANT t;
@@ -219,9 +229,10 @@ gives 2 |mwserve: refused 6 twice line 2;mwserve: an earlier line has the name o
 /// A file that was made with one place has two, so its tenant's quota is 1 or 2.
 #[test]
 fn quota_limits(rt: HostRuntime) -> Result<(), Fail> {
-    play(
+    play_new(
         &rt,
-        new_folder(&rt, "quota-limits")?.as_str(),
+        &rt,
+        "quota-limits",
         "\
 mwinit DIR/t.mw 2 1
 write script TENANT t;GET 0;
@@ -246,9 +257,10 @@ gives 0 OK 4096;VAL 0;|",
 /// quotas.
 #[test]
 fn quotas_of_three_starts(rt: HostRuntime) -> Result<(), Fail> {
-    play(
+    play_new(
         &rt,
-        new_folder(&rt, "three-starts")?.as_str(),
+        &rt,
+        "three-starts",
         "\
 mwinit DIR/t.mw 2 1
 write tenants t 2 1 DIR/t.mw;
@@ -301,9 +313,10 @@ fn files_that_are_damaged(rt: HostRuntime) -> Result<(), Fail> {
 
 #[test]
 fn files_that_do_not_fit(rt: HostRuntime) -> Result<(), Fail> {
-    play(
+    play_new(
         &rt,
-        new_folder(&rt, "files-that-do-not-fit")?.as_str(),
+        &rt,
+        "files-that-do-not-fit",
         "\
 mwinit DIR/u.mw 2 1
 write script TENANT t;GET 0;GET 2;CAS 0:0:1;
@@ -377,9 +390,10 @@ fn a_file_that_is_locked(rt: HostRuntime) -> Result<(), Fail> {
 
 #[test]
 fn a_tenant_without_a_file(rt: HostRuntime) -> Result<(), Fail> {
-    play(
+    play_new(
         &rt,
-        new_folder(&rt, "a-tenant-without-a-file")?.as_str(),
+        &rt,
+        "a-tenant-without-a-file",
         "\
 mwinit DIR/v.mw 2 2
 write tenants t 3 1 DIR/t.mw;u 2 2 DIR/u.mw;v 2 2 DIR/v.mw;

@@ -11,7 +11,7 @@
 //! `DIR` means the folder, and in a text `;` means a line's end.
 //!
 //! Used by: mw_examples, mw_fault_examples. It may change freely as long as these check and their tests pass.
-use crate::folders::{Outcome, path_in, remove_folder, run_init, run_serve};
+use crate::folders::{Outcome, new_folder, path_in, remove_folder, run_init, run_serve};
 use mw_programs::SeesPaths;
 use std::alloc::{AllocError, Global};
 use std::fs;
@@ -23,6 +23,26 @@ use std::sync::Wait;
 use std::test::Fail;
 use std::thread::Threads;
 use std::time::Clock;
+
+/// Plays a story in a new folder of this name, and removes the folder. `host` makes the folder.
+///
+/// # Errors
+///
+/// As those of [`play`].
+pub fn play_new<R>(rt: &R, host: &HostRuntime, name: &str, story: &str) -> Result<(), Fail>
+where
+    R: Files<File = File>
+        + AllocGlobal
+        + Net<Listener = TcpListener, Stream = TcpStream>
+        + Threads
+        + Wait
+        + Clock
+        + Sync
+        + SeesPaths,
+{
+    let folder = new_folder(host, name)?;
+    play(rt, folder.as_str(), story)
+}
 
 /// Plays a story in this folder, and removes the folder.
 ///

@@ -1,15 +1,15 @@
 //! Tests what an operator asks the programs for by the command line.
 //!
 //! Nothing else uses it: it may change with what it tests.
-use mw_stories::folders::new_folder;
-use mw_stories::stories::play;
+use mw_stories::stories::play_new;
 use std::test::Fail;
 
 #[test]
 fn programs_tell_their_version(rt: HostRuntime) -> Result<(), Fail> {
-    play(
+    play_new(
         &rt,
-        new_folder(&rt, "version")?.as_str(),
+        &rt,
+        "version",
         "\
 mwinit --version
 gives 0 mwinit 0.2.0;|
@@ -20,9 +20,10 @@ gives 0 mwserve 0.2.0;|",
 
 #[test]
 fn what_is_not_there(rt: HostRuntime) -> Result<(), Fail> {
-    play(
+    play_new(
         &rt,
-        new_folder(&rt, "not-there")?.as_str(),
+        &rt,
+        "not-there",
         "\
 serve
 gives 2 |mwserve: refused 2 file;DIR/tenants: No such file or directory (os error 2);
@@ -39,9 +40,10 @@ gives 1 |mwserve: cannot read;DIR/script: No such file or directory (os error 2)
 
 #[test]
 fn all_files_or_none(rt: HostRuntime) -> Result<(), Fail> {
-    play(
+    play_new(
         &rt,
-        new_folder(&rt, "all-files-or-none")?.as_str(),
+        &rt,
+        "all-files-or-none",
         "\
 mwinit DIR/t.mw 2 1
 write script TENANT t;GET 0;
@@ -58,9 +60,10 @@ gives 0 OK 2;VAL 0;|tenant u: disk;",
 
 #[test]
 fn notes_that_say_more(rt: HostRuntime) -> Result<(), Fail> {
-    play(
+    play_new(
         &rt,
-        new_folder(&rt, "notes-that-say-more")?.as_str(),
+        &rt,
+        "notes-that-say-more",
         "\
 mwinit DIR/t.mw 2 1
 write script ADMIN;
@@ -85,9 +88,10 @@ gives 0 OK ADMIN;|tenant t: damage 6;DIR/script;",
 /// Tenants files with a wrong form in the second line are refused.
 #[test]
 fn rules_of_the_form(rt: HostRuntime) -> Result<(), Fail> {
-    play(
+    play_new(
         &rt,
-        new_folder(&rt, "rules-of-the-form")?.as_str(),
+        &rt,
+        "rules-of-the-form",
         "\
 write tenants t 2 1 DIR/t.mw;u 2 1 DIR/u.mw
 serve --verbose
@@ -119,9 +123,10 @@ gives 2 |mwserve: refused 5 quota line 1;mwserve: the quota is 1 to 64;DIR/tenan
 /// A local socket can't be made at these places, and the file there stays.
 #[test]
 fn sockets_that_have_no_place(rt: HostRuntime) -> Result<(), Fail> {
-    play(
+    play_new(
         &rt,
-        new_folder(&rt, "no-place")?.as_str(),
+        &rt,
+        "no-place",
         "\
 mwinit DIR/t.mw 2 1
 write tenants t 2 1 DIR/t.mw;
