@@ -99,8 +99,8 @@ pub(crate) fn judge(
 ) -> Result<(), TrialFault>
     requires { tenant < length world.now.config.tenants.items }
 {
-    after_marks(alloc, world, tenant, quota, handed)?;
-    Ok(())
+    let mut alone = Alone::new(alloc, &world.config().tenants[usize::from(tenant)])?;
+    alone.agrees(alloc, world, tenant, quota, handed)
 }
 
 /// Does the same, and checks that the world's words are those of the store.
@@ -113,34 +113,9 @@ pub(crate) fn judge_start(
 ) -> Result<(), TrialFault>
     requires { tenant < length world.now.config.tenants.items }
 {
-    let mut judge = after_marks(alloc, world, tenant, quota, handed)?;
-    let words = world.config().tenants[usize::from(tenant)].words;
-    for address in 0..words {
-        let word = Word::unpack(world.word(At::Data { tenant, address }));
-        if word != Some(Word::Plain(judge.value(address)?)) {
-            return Err(TrialFault::Disagreement(Disagreement::Word));
-        }
-    }
-    Ok(())
-}
-
-fn after_marks(
-    alloc: Global,
-    world: &World,
-    tenant: u8,
-    quota: u8,
-    handed: &[Handed],
-) -> Result<Alone, TrialFault>
-    requires { tenant < length world.now.config.tenants.items }
-{
-    let mut judge = Alone::new(alloc, &world.config().tenants[usize::from(tenant)])?;
-    let replies = judge.replies(alloc, world.marks(tenant)?)?;
-    compare(&replies, tenant, handed)?;
-    if judge.quota == quota {
-        Ok(judge)
-    } else {
-        Err(TrialFault::Disagreement(Disagreement::Quota))
-    }
+    let mut alone = Alone::new(alloc, &world.config().tenants[usize::from(tenant)])?;
+    alone.agrees(alloc, world, tenant, quota, handed)?;
+    alone.has_words(world, tenant)
 }
 
 /// Checks that these replies are those that the tenant was handed out.
@@ -169,6 +144,41 @@ impl Alone {
             asked: 0,
             quota: tenant.quota,
         })
+    }
+
+    /// Takes a tenant's marks. Checks that it hands out what the tenant was handed out, and that the last start
+    /// gave this quota.
+    fn agrees(
+        &mut self,
+        alloc: Global,
+        world: &World,
+        tenant: u8,
+        quota: u8,
+        handed: &[Handed],
+    ) -> Result<(), TrialFault>
+        requires { tenant < length world.now.config.tenants.items }
+    {
+        let replies = self.replies(alloc, world.marks(tenant)?)?;
+        compare(&replies, tenant, handed)?;
+        if self.quota == quota {
+            Ok(())
+        } else {
+            Err(TrialFault::Disagreement(Disagreement::Quota))
+        }
+    }
+
+    /// Checks that a tenant's words in the world are those of the store.
+    fn has_words(&mut self, world: &World, tenant: u8) -> Result<(), TrialFault>
+        requires { tenant < length world.now.config.tenants.items }
+    {
+        let words = world.config().tenants[usize::from(tenant)].words;
+        for address in 0..words {
+            let word = Word::unpack(world.word(At::Data { tenant, address }));
+            if word != Some(Word::Plain(self.value(address)?)) {
+                return Err(TrialFault::Disagreement(Disagreement::Word));
+            }
+        }
+        Ok(())
     }
 
     /// Gives the marks to the store. Gives the replies that it hands out.

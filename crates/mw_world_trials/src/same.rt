@@ -4,6 +4,9 @@
 use std::fmt::Debug;
 use std::process::Abort;
 
+/// What a test says if memory is refused.
+pub(crate) const MEMORY: &str = "memory";
+
 /// Checks that what was found is what was wanted, and tells both values if they differ. Tests share this
 /// comparison, because a test takes longer to prove with each comparison of its own.
 pub(crate) fn same<R: Abort, T: Debug + PartialEq>(rt: &R, found: &T, wanted: &T) {

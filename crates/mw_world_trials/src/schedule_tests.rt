@@ -1,14 +1,13 @@
 //! Tests which texts are schedules, and what they say.
 //!
 //! Nothing else uses it: it may change with what it tests.
-use crate::same::{same, same_at};
+use crate::same::{MEMORY, same, same_at};
 use mw_look::{Call, Kind};
 use mw_schedule::*;
 use mw_words::Job;
 use mw_world::{Interrupted, Outcome, Stop, Tenant};
 use std::alloc::{AllocError, Global};
 use std::process::Abort;
-use std::test::Fail;
 
 /// The first lines of some schedules below. The line after them is the sixth.
 const HEAD: &[u8] = b"pool 33\nworkers 2\nseq 7\ntenant t 2 1\ntenant u-1 4096 32\n";
@@ -74,13 +73,17 @@ restart t=0,99999999999999999999999999,
 restart u-1=-,-,
 restart t=-,-, u-1=1,3,ff,2";
 
-#[test]
-fn lines_that_are_right(rt: HostRuntime) -> Result<(), Fail> {
-    for line in RIGHT_LINES.split('\n') {
-        let fault = line_fault(rt.alloc(), line.as_bytes())?;
-        same_at(&rt, line, &fault, &None);
+/// Each of these lines after [`HEAD`], one a line, has this fault or none.
+fn are_so<R: Abort + AllocGlobal>(rt: &R, lines: &str, fault: Option<ScheduleFault>) {
+    for line in lines.split('\n') {
+        let found = line_fault(rt.alloc(), line.as_bytes()).expect(rt, MEMORY);
+        same_at(rt, line, &found, &fault);
     }
-    Ok(())
+}
+
+#[test]
+fn lines_that_are_right(rt: HostRuntime) {
+    are_so(&rt, RIGHT_LINES, None);
 }
 
 /// Lines that are wrong after [`HEAD`].
@@ -176,13 +179,8 @@ seq 7
 tenant v 1 1";
 
 #[test]
-fn lines_that_are_wrong(rt: HostRuntime) -> Result<(), Fail> {
-    let wrong = Some(ScheduleFault::Wrong(6));
-    for line in WRONG_LINES.split('\n') {
-        let fault = line_fault(rt.alloc(), line.as_bytes())?;
-        same_at(&rt, line, &fault, &wrong);
-    }
-    Ok(())
+fn lines_that_are_wrong(rt: HostRuntime) {
+    are_so(&rt, WRONG_LINES, Some(ScheduleFault::Wrong(6)));
 }
 
 /// The number of a line, and texts of which this is the first wrong line. A text is one line here; `/` ends
@@ -266,25 +264,23 @@ fn with_line_ends(alloc: Global, text: &str) -> Result<Vec<u8>, AllocError> {
 }
 
 /// In each of these texts the first wrong line is the one with this number.
-fn are_wrong<R: Abort + AllocGlobal>(rt: &R, number: u64, texts: &str) -> Result<(), Fail> {
+fn are_wrong<R: Abort + AllocGlobal>(rt: &R, number: u64, texts: &str) {
     let wrong = Some(ScheduleFault::Wrong(number));
     for text in texts.split('\n') {
-        let whole = with_line_ends(rt.alloc(), text)?;
+        let whole = with_line_ends(rt.alloc(), text).expect(rt, MEMORY);
         same_at(rt, text, &fault_of(rt.alloc(), &whole), &wrong);
     }
-    Ok(())
 }
 
 #[test]
-fn first_lines_that_are_wrong(rt: HostRuntime) -> Result<(), Fail> {
+fn first_lines_that_are_wrong(rt: HostRuntime) {
     for (number, texts) in WRONG_TEXTS {
-        are_wrong(&rt, number, texts)?;
+        are_wrong(&rt, number, texts);
     }
-    Ok(())
 }
 
 #[test]
-fn first_lines_that_are_right(rt: HostRuntime) -> Result<(), Fail> {
+fn first_lines_that_are_right(rt: HostRuntime) {
     let texts: [(&str, &[u8]); 4] = [
         ("least", b"pool 1\nworkers 1\ntenant t 1 1\n"),
         (
@@ -297,62 +293,66 @@ fn first_lines_that_are_right(rt: HostRuntime) -> Result<(), Fail> {
     for (name, text) in texts {
         same_at(&rt, name, &fault_of(rt.alloc(), text), &None);
     }
-    let more = fault_behind(rt.alloc(), SIXTEEN, b"tenant q 1 1\n")?;
+    let more = fault_behind(rt.alloc(), SIXTEEN, b"tenant q 1 1\n").expect(&rt, MEMORY);
     same(&rt, &more, &Some(ScheduleFault::Wrong(19)));
-    Ok(())
 }
 
-/// The names of steps that change a word, and what they change, in the same order.
-const CHANGES: &str =
-    "admit claim fill pin unpin free drop row plant resolve decide-yes decide-no release clean";
+/// A name of a step, and its kind, if there is one.
+type Named = (&'static str, Option<StepKind>);
 
-const CHANGED: [Kind; 14] = [
-    Kind::Admit,
-    Kind::Claim,
-    Kind::Fill,
-    Kind::Pin,
-    Kind::Unpin,
-    Kind::Free,
-    Kind::Drop,
-    Kind::Row,
-    Kind::Plant,
-    Kind::Resolve,
-    Kind::DecideYes,
-    Kind::DecideNo,
-    Kind::Release,
-    Kind::Clean,
+/// The names of steps that change a word, and what they change.
+const CHANGES: [Named; 14] = [
+    ("admit", Some(StepKind::Change(Kind::Admit))),
+    ("claim", Some(StepKind::Change(Kind::Claim))),
+    ("fill", Some(StepKind::Change(Kind::Fill))),
+    ("pin", Some(StepKind::Change(Kind::Pin))),
+    ("unpin", Some(StepKind::Change(Kind::Unpin))),
+    ("free", Some(StepKind::Change(Kind::Free))),
+    ("drop", Some(StepKind::Change(Kind::Drop))),
+    ("row", Some(StepKind::Change(Kind::Row))),
+    ("plant", Some(StepKind::Change(Kind::Plant))),
+    ("resolve", Some(StepKind::Change(Kind::Resolve))),
+    ("decide-yes", Some(StepKind::Change(Kind::DecideYes))),
+    ("decide-no", Some(StepKind::Change(Kind::DecideNo))),
+    ("release", Some(StepKind::Change(Kind::Release))),
+    ("clean", Some(StepKind::Change(Kind::Clean))),
 ];
 
-/// This is the kind of step of this name, if there is one.
-fn is_named<R: Abort>(rt: &R, name: &str, kind: Option<StepKind>) {
-    same_at(rt, name, &StepKind::named(name.as_bytes()), &kind);
+/// The names of calls on a file.
+const CALLS: [Named; 4] = [
+    ("prepare", Some(StepKind::File(Call::Prepare))),
+    ("seal", Some(StepKind::File(Call::Seal))),
+    ("settle", Some(StepKind::File(Call::Settle))),
+    ("cancel", Some(StepKind::File(Call::Cancel))),
+];
+
+/// The name of a step that changes nothing, and two names of none.
+const NO_CHANGES: [Named; 3] = [
+    ("load", Some(StepKind::Load)),
+    ("ready", None),
+    ("fault", None),
+];
+
+/// Each of these is the kind of step of its name.
+fn are_named<R: Abort>(rt: &R, names: &[Named]) {
+    for (name, kind) in names {
+        same_at(rt, name, &StepKind::named(name.as_bytes()), kind);
+    }
 }
 
 #[test]
 fn kinds_of_steps(rt: HostRuntime) {
-    for (name, kind) in CHANGES.split(' ').zip(CHANGED) {
-        is_named(&rt, name, Some(StepKind::Change(kind)));
-    }
+    are_named(&rt, &CHANGES);
 }
 
 #[test]
 fn kinds_of_calls(rt: HostRuntime) {
-    let calls = [Call::Prepare, Call::Seal, Call::Settle, Call::Cancel];
-    for (name, call) in "prepare seal settle cancel".split(' ').zip(calls) {
-        is_named(&rt, name, Some(StepKind::File(call)));
-    }
+    are_named(&rt, &CALLS);
 }
 
 #[test]
 fn kinds_that_change_nothing(rt: HostRuntime) {
-    let names = [
-        ("load", Some(StepKind::Load)),
-        ("ready", None),
-        ("fault", None),
-    ];
-    for (name, kind) in names {
-        is_named(&rt, name, kind);
-    }
+    are_named(&rt, &NO_CHANGES);
 }
 
 /// Reads the schedule of this text.
