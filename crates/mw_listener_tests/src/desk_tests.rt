@@ -53,6 +53,20 @@ where
     Ok(end)
 }
 
+/// A listener, what ends its wait, and its port.
+type Opened<'a, R> = (ClientListener<'a, R>, Closer, u16);
+
+/// Listens at a free port.
+fn open<R>(rt: &R) -> io::Result<Opened<'_, R>>
+where
+    R: Files<File = File> + Net<Listener = TcpListener, Stream = TcpStream>,
+{
+    let listener = listen_at(rt, "127.0.0.1:0", 0, NO_LIMITS)?;
+    let closer = listener.closer()?;
+    let port = port_of(&listener)?.unwrap_or(0);
+    Ok((listener, closer, port))
+}
+
 /// Serves clients that come as `clients` does, which is told the ports. Tells whether it says that all was right,
 /// and the server has ended with them.
 fn serves_right<R, F>(rt: &R, clients: F) -> Result<bool, Fail>
@@ -67,13 +81,33 @@ where
     F: FnOnce(Ports) -> io::Result<bool> + Send,
     requires { F.IsAlwaysCallable clients }
 {
-    let own = listen_at(rt, "127.0.0.1:0", 0, NO_LIMITS)?;
-    let others = listen_at(rt, "127.0.0.1:0", 0, NO_LIMITS)?;
-    let closer = own.closer()?;
-    let ports = Ports {
-        desk: port_of(&own)?.unwrap_or(0),
-        others: port_of(&others)?.unwrap_or(0),
-    };
+    let own = open(rt)?;
+    let others = open(rt)?;
+    let (heard, end) = serves_at(rt, own, others, clients);
+    Ok(heard? && end? == ServeEnd::Served)
+}
+
+/// Serves clients at a desk with its own listener and at another listener. Gives what `clients` says, and how
+/// serving ended.
+fn serves_at<'a, R, F>(
+    rt: &'a R,
+    own: Opened<'a, R>,
+    others: Opened<'a, R>,
+    clients: F,
+) -> (io::Result<bool>, Result<ServeEnd, AllocError>)
+where
+    R: Net<Listener = TcpListener, Stream = TcpStream>
+        + AllocGlobal
+        + Threads
+        + Wait
+        + Clock
+        + Sync,
+    F: FnOnce(Ports) -> io::Result<bool> + Send,
+    requires { F.IsAlwaysCallable clients }
+{
+    let (own, closer, desk) = own;
+    let (others, _, port) = others;
+    let ports = Ports { desk, others: port };
     let (shelf, watch) = (Mutex::new(Shelf::new(2)), Silent);
     let (shelf, watch) = (&shelf, &watch);
     let come = || {
@@ -81,8 +115,7 @@ where
         come_and_go(rt, ports.others, 1);
         heard
     };
-    let (heard, end) = thread::join(rt, come, || serve(rt, shelf, watch, own, closer, others));
-    Ok(heard? && end? == ServeEnd::Served)
+    thread::join(rt, come, || serve(rt, shelf, watch, own, closer, others))
 }
 
 /// What an administrator asks for at last, and what it is told.

@@ -15,6 +15,9 @@ use std::thread::Threads;
 use std::time::{Clock, Duration, Instant};
 use std::{env, fs, io, process, thread};
 
+/// What follows the folder in the path of a socket.
+const SOCKET: &str = "/s";
+
 /// The file mode of the socket: its owner and group may connect.
 const OWNER_AND_GROUP: u32 = 0o660;
 
@@ -26,13 +29,24 @@ const SHOP: Shop = Shop {
     wait: None,
 };
 
-/// Makes a new folder for the socket, with this in its name.
-fn new_folder(rt: &HostRuntime, name: &str) -> Result<String, Fail> {
+/// Makes a new folder for a socket, with this in its name. Gives the socket's path.
+fn new_path(rt: &HostRuntime, name: &str) -> Result<String, Fail> {
     let id = process::id(rt.process());
     let above = env::temp_dir(rt)?;
-    let folder = format!(in rt.alloc(); "{}/mondlexi-{name}-{id}", above.as_str())?;
-    fs::create_dir(rt, folder.as_str())?;
-    Ok(folder)
+    let mut path = format!(in rt.alloc(); "{}/mondlexi-{name}-{id}", above.as_str())?;
+    fs::create_dir(rt, path.as_str())?;
+    path.push_str(SOCKET)?;
+    Ok(path)
+}
+
+/// Removes the folder of the socket with this path.
+fn remove_folder(rt: &HostRuntime, path: &str) -> io::Result<()> {
+    fs::remove_dir_all(rt, path.strip_suffix(SOCKET).unwrap_or(path))
+}
+
+/// Gives the file mode of the socket with this path: who may connect.
+fn mode_of<R: Files<File = File>>(rt: &R, path: &str) -> io::Result<u32> {
+    Ok(fs::metadata(rt, path)?.permissions().mode() % 0o1000)
 }
 
 /// Tells whether only its owner and group may connect to the socket at this path, and nobody else can
@@ -41,12 +55,12 @@ fn is_kept<R>(rt: &R, path: &str, address: &str) -> io::Result<bool>
 where
     R: Files<File = File> + Net<Listener = TcpListener, Stream = TcpStream>,
 {
-    let mode = fs::metadata(rt, path)?.permissions().mode();
+    let mode = mode_of(rt, path)?;
     let taken = match listen_at(rt, address, OWNER_AND_GROUP, NO_LIMITS) {
         Ok(_) => false,
         Err(fault) => fault.kind() == ErrorKind::AddrInUse,
     };
-    Ok(taken && mode % 0o1000 == OWNER_AND_GROUP)
+    Ok(taken && mode == OWNER_AND_GROUP)
 }
 
 /// Tells whether a client at the socket with this path is served.
@@ -77,11 +91,10 @@ where
 
 #[test]
 fn a_local_socket_that_was_left_is_taken_over(rt: HostRuntime) -> Result<(), Fail> {
-    let folder = new_folder(&rt, "left")?;
-    let path = format!(in rt.alloc(); "{folder}/s")?;
+    let path = new_path(&rt, "left")?;
     let served = serves_alone(&rt, path.as_str())? && serves_alone(&rt, path.as_str())?;
     assert!(rt; served);
-    fs::remove_dir_all(&rt, folder.as_str())?;
+    remove_folder(&rt, path.as_str())?;
     Ok(())
 }
 
@@ -136,37 +149,42 @@ where
 
 #[test]
 fn who_takes_no_replies_is_sent_away(rt: HostRuntime) -> Result<(), Fail> {
-    let folder = new_folder(&rt, "deaf")?;
-    let path = format!(in rt.alloc(); "{folder}/s")?;
+    let path = new_path(&rt, "deaf")?;
     let right = serves_slow_ones(&rt, path.as_str(), || come_deaf(&rt, path.as_str()))?;
     assert!(rt; right);
-    fs::remove_dir_all(&rt, folder.as_str())?;
+    remove_folder(&rt, path.as_str())?;
     Ok(())
 }
 
 #[test]
 fn who_sips_replies_is_sent_away(rt: HostRuntime) -> Result<(), Fail> {
-    let folder = new_folder(&rt, "sips")?;
-    let path = format!(in rt.alloc(); "{folder}/s")?;
+    let path = new_path(&rt, "sips")?;
     let right = serves_slow_ones(&rt, path.as_str(), || come_sipping(&rt, path.as_str()))?;
     assert!(rt; right);
-    fs::remove_dir_all(&rt, folder.as_str())?;
+    remove_folder(&rt, path.as_str())?;
     Ok(())
+}
+
+/// Tells whether nobody could connect to the socket with this path before its mode was set, and its owner and group
+/// can then.
+fn is_closed_at_first<R>(rt: &R, path: &str) -> Result<bool, Fail>
+where
+    R: Files<File = File> + Net<Listener = TcpListener, Stream = TcpStream> + AllocGlobal,
+{
+    let address = format!(in rt.alloc(); "unix:{path}")?;
+    let lookout = Lookout::new(rt);
+    let clients = listen_at(&lookout, address.as_str(), OWNER_AND_GROUP, NO_LIMITS)?;
+    let closed = lookout.modes_set() == 1 && lookout.connected_before() == 0;
+    let kept = matches!(mode_of(rt, path), Ok(OWNER_AND_GROUP));
+    let opened = Caller::local(rt, path).is_ok();
+    drop(clients);
+    Ok(closed && kept && opened)
 }
 
 #[test]
 fn nobody_connects_before_the_mode_is_set(rt: HostRuntime) -> Result<(), Fail> {
-    let folder = new_folder(&rt, "mode")?;
-    let path = format!(in rt.alloc(); "{folder}/s")?;
-    let address = format!(in rt.alloc(); "unix:{path}")?;
-    let lookout = Lookout::new(&rt);
-    let clients = listen_at(&lookout, address.as_str(), OWNER_AND_GROUP, NO_LIMITS)?;
-    assert!(rt; lookout.modes_set() == 1 && lookout.connected_before() == 0);
-    let mode = fs::metadata(&rt, path.as_str())?.permissions().mode();
-    assert!(rt; mode % 0o1000 == OWNER_AND_GROUP);
-    // Now somebody can.
-    let _client = Caller::local(&rt, path.as_str())?;
-    drop(clients);
-    fs::remove_dir_all(&rt, folder.as_str())?;
+    let path = new_path(&rt, "mode")?;
+    assert!(rt; is_closed_at_first(&rt, path.as_str())?);
+    remove_folder(&rt, path.as_str())?;
     Ok(())
 }

@@ -13,6 +13,7 @@ use std::alloc::Global;
 use std::cell::RefCell;
 use std::fs::File;
 use std::io::ErrorKind;
+use std::marker::PhantomData;
 use std::net::{Net, TcpListener, TcpStream};
 use std::rt::Files;
 use std::sync::atomic::{AtomicU32, Ordering};
@@ -177,20 +178,21 @@ impl<L: Listener> Listener for Crowded<'_, L> {
 }
 
 /// A listener to which nobody comes. A call ends when the desk was asked so many times, or after twenty
-/// seconds.
+/// seconds. Its connections are of the desk's kind, so that sessions are compiled for no other.
 #[derive(Drop)]
-struct Empty<'a, K> {
+struct Empty<'a, K, C> {
     clock: &'a K,
     asked: &'a AtomicU32,
     times: u32,
+    none: PhantomData<C>,
 }
 
-impl<K: Clock> Listener for Empty<'_, K> {
-    type Connection = Nobody;
+impl<K: Clock, C: Connection + Send + Drop> Listener for Empty<'_, K, C> {
+    type Connection = C;
 
     ghost accepts = { λ _ _ _. Unit {0} };
 
-    fn accept(&mut self) -> io::Result<Nobody> {
+    fn accept(&mut self) -> io::Result<C> {
         for _ in 0..2000u32 {
             if self.asked.load(Ordering::SeqCst) >= self.times {
                 break;
@@ -239,10 +241,11 @@ where
     };
     let mut services = Vec::new(rt.alloc());
     services.push(Clerk { rt, shelf })?;
-    let nobody = Empty {
+    let nobody: Empty<'_, R, L::Connection> = Empty {
         clock: rt,
         asked,
         times: refusals.saturating_add(1),
+        none: PhantomData,
     };
     let (end, _) = serve_beside(rt, rt.alloc(), desk, nobody, services, Some(1), None);
     Ok(end)
