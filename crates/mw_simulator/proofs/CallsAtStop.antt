@@ -1,7 +1,7 @@
 -- The simulator's `cut` and the definition agree on a call on a file that a stop interrupts after `made` device calls. They
 -- agree on whether the call makes so many, which change is in doubt, and which request was being sealed.
 -- Used by: the proof of World::cut. It may change freely as long as this crate checks.
-use Rattle.std.specs.Prelude.{ℕ, ◌≡◌, ◌≤◌, ◌&&◌, Bool, true, false, not, if◌then◌else◌, nat_le, Some, None}
+use Rattle.std.specs.Prelude.{ℕ, ◌≡◌, ◌≤◌, ◌&&◌, Bool, true, false, not, List, if◌then◌else◌, nat_le, Some, None}
 use Rattle.std.proofs.Common.{refl, ap, arith}
 use Rattle.std.proofs.lemmas.Bool.Decides.{nat_tests}
 use Rattle.arrayvec.specs.ArrayVec.{ArrayVec}
@@ -10,6 +10,7 @@ use Rattle.mw_words.specs.declared.statuses.Status.{Status}
 use Rattle.mw_look.specs.declared.steps.Call.{Call}
 use Rattle.mw_look.specs.declared.steps.Call.TheVariants.{Prepare as PrepareCall, Seal as SealCall, Settle as SettleCall, Cancel as CancelCall}
 use Rattle.mw_actor.specs.ActorState.{ActorState, own_entries}
+use Rattle.mw_world_file.specs.DeviceCalls.{call_list}
 use Rattle.mw_world_file.specs.Files.{entries_at}
 use Rattle.mw_world.specs.declared.config.Config.{Config}
 use Rattle.mw_world.specs.Definition.Calls.{Called, device_calls, fails_on, is_formed, place_for, starts_from, suits}
@@ -54,9 +55,9 @@ module _ (config : Config) (state : State) (actor : ActorState) (called : Called
 
   pub cut_is : (entries : ArrayVec Entry) (request : ℕ) → has_slot config called.change.slot ≡ true → is_formed called.call (state.tenant_states actor.tenant).file (own_entries actor) ≡ true
       → starts_from called.call (state.cells.statuses called.change.slot) ≡ true → 1 ≤ made → request ≡ state.history.request called.change.slot called.change.seq
-      → IsCut config state actor called made
+      → entries.items ≡ own_entries actor → IsCut config state actor called made
       (record { cut = Some (record { call = called.call; slot = called.change.slot; entries = entries; made = made }); sealing = sealed_request called.call request })
-  cut_is entries request slot formed starts some same =
+  cut_is entries request slot formed starts some same own =
       let file = (state.tenant_states actor.tenant).file in
       let places = (state.tenant_states actor.tenant).quota in
       let place = place_for called.call file places called.change.slot in
@@ -70,4 +71,5 @@ module _ (config : Config) (state : State) (actor : ActorState) (called : Called
           request = sealing_same called.call made (state.history.request called.change.slot called.change.seq) request some same;
         };
         made_so = refl;
+        list_so = λ book. ap (λ (es : List Entry). call_list book called.call called.change.slot es) own;
       }

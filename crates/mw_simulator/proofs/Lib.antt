@@ -5,6 +5,7 @@ pub mod WorldAfterStep
 pub mod FirstWorlds
 pub mod TakenOverMarks
 pub mod Frames
+mod OneFound
 pub mod OneMoreEvent
 pub mod CallsAtStop
 pub mod InvariantLaws

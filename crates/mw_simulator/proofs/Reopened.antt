@@ -1,7 +1,7 @@
 -- A tenant that a start reopens in the simulated world is the one that the definition reopens. A tenant that is refused can't
 -- be stopped so.
 -- Used by: the proofs of World::reopened and World::all_reopened. It may change freely as long as this crate checks.
-use Rattle.std.specs.Prelude.{ℕ, ◌≡◌, ◌&&◌, Bool, true, false, List, [], ◌∷◌, ◌++◌, is_none, slice_get, Some, Err}
+use Rattle.std.specs.Prelude.{ℕ, ◌≡◌, ◌≤◌, ◌&&◌, Bool, true, false, List, [], ◌∷◌, ◌++◌, is_none, slice_get, Some, Err}
 use Rattle.std.proofs.Common.{refl, sym, ap, subst, ◌∙◌, inl, inr, arith}
 use Rattle.std.proofs.lemmas.Option.{slice_get_within}
 use Rattle.mw_lone.specs.declared.marks.Mark.TheVariants.{Restart as IsRestart}
@@ -10,8 +10,11 @@ use Rattle.mw_world_file.specs.declared.faults.BookFault.{BookFault}
 use Rattle.mw_world_file.specs.declared.faults.BookFault.TheVariants.{NotEnabled, Memory}
 use Rattle.std.specs.Option.{unwrap_or}
 use Rattle.mw_world_file.specs.Books.{quota_of}
+use Rattle.mw_disk.specs.DeviceCalls.{DeviceCall}
+use Rattle.mw_disk.specs.Memory.{Memory as Disk}
+use Rattle.mw_world_file.specs.DeviceCalls.{LedBy, cut_list}
 use Rattle.mw_world_file.specs.Devices.{disk_under}
-use Rattle.mw_world_file.specs.Recovery.{IsLeft, IsLeftOf, IsRestarted, Restarts, doubt_left, is_sealed_left, may_be_made}
+use Rattle.mw_world_file.specs.Recovery.{IsCutImage, IsLeft, IsLeftOf, IsRestarted, Restarts, made_of, until, doubt_left, is_sealed_left, may_be_made}
 use Rattle.mw_world.specs.declared.config.Config.{Config}
 use Rattle.mw_world.specs.declared.events.Stop.{Stop}
 use Rattle.mw_world.specs.Definition.Restarts.{doubt_then, interrupted_request, is_sealed_then, may_fail, may_find, may_interrupt, takes, under_way}
@@ -20,7 +23,7 @@ use Rattle.mw_world_memory.specs.declared.tenants.TenantState.{TenantState as Te
 use Rattle.mw_simulator.specs.declared.world.halts.StoppedCall.{StoppedCall}
 use Rattle.mw_simulator.specs.declared.world.World.{World}
 use Rattle.mw_simulator.specs.Quotas.{quota_after}
-use Rattle.mw_simulator.specs.Events.{IsFoundBy, Outage, outage_of}
+use Rattle.mw_simulator.specs.Events.{IsFoundBy, Outage, interrupted_list, made_in, outage_of}
 use Rattle.mw_simulator.specs.Representation.{Represents, RepresentsTenant}
 use Rattle.mw_simulator.specs.Stops.{AllReopen, IsHalted, IsReopened, Reopens}
 
@@ -29,6 +32,21 @@ all_true true true true a b c = refl
 all_true true true false a b c = absurd (cc)
 all_true true false z a b c = absurd (cc)
 all_true false y z a b c = absurd (cc)
+
+-- the image of as many device calls, of the same list if any was made
+image_as : (disk : Disk) (made also : ℕ) (calls others : List DeviceCall) (torn image : List ℕ) → made ≡ also → (1 ≤ also → calls ≡ others) → IsCutImage disk made calls torn image
+    → IsCutImage disk also others torn image
+image_as disk made also calls others torn image same are is =
+    let there = subst (λ (n : ℕ). IsCutImage disk n calls torn image) same is in
+    record {
+      stopped = there.stopped;
+      is_stopped = record {
+        same = there.is_stopped.same;
+        well = there.is_stopped.well;
+        led = λ some. subst (λ (l : List DeviceCall). LedBy l there.is_stopped.well (until disk also) there.stopped) (are some) (there.is_stopped.led some);
+      };
+      tears = there.tears;
+    }
 
 module _ (config : Config) (state : State) (tenant : ℕ) (shown : TenantStateInMemory) (outage : Outage) (halt : StoppedCall)
     (words_of : ℕ) (shows : RepresentsTenant words_of shown (state.tenant_states tenant)) (halted : IsHalted config state tenant outage.interrupted halt) where
@@ -45,8 +63,8 @@ module _ (config : Config) (state : State) (tenant : ℕ) (shown : TenantStateIn
   may_is = halted.may ∙ ap (λ places. may_be_made (state.tenant_states tenant).file places halt.cut) (sym places_are)
 
   abbrev found_by : (words image : List ℕ) → IsLeft shown.book (state.tenant_states tenant).file halt.cut outage.torn words image
-      → IsFoundBy shown outage (record { interrupted = outage.interrupted; words = words; opening_calls = open_calls image; fails_at = outage.fails_at; quota = outage.quota })
-  found_by words image left = record { same_call = refl; same_failure = refl; same_quota = refl; image = image; words = left.has; calls = refl; left = subst (λ made. IsLeftOf (disk_under shown.book.device) made outage.torn image) halted.made_so left.left }
+      → IsFoundBy state shown outage (record { interrupted = outage.interrupted; words = words; opening_calls = open_calls image; fails_at = outage.fails_at; quota = outage.quota })
+  found_by words image left = record { same_call = refl; same_failure = refl; same_quota = refl; image = image; words = left.has; calls = refl; left = subst (λ made. IsLeftOf (disk_under shown.book.device) made outage.torn image) halted.made_so left.left; exact = image_as (disk_under shown.book.device) (made_of halt.cut) (made_in outage.interrupted) (cut_list shown.book halt.cut) (interrupted_list state shown.book outage.interrupted) outage.torn image halted.made_so (halted.list_so shown.book) left.exact }
 
   may_have_words : (words image : List ℕ) → IsLeft shown.book (state.tenant_states tenant).file halt.cut outage.torn words image
       → may_find (is_sealed_then (under_way config state outage.interrupted)) (state.tenant_states tenant).file.contents

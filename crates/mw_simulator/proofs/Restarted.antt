@@ -95,7 +95,7 @@ found_words image words is = file_are_words words image is
 -- What was found of a tenant's file may be found, and the new tenant represents the tenant state after it.
 pub record WasFound (config : Config) (state : State) (stops : List Stop) (olds afters : List TenantStateInMemory) (tenant : ℕ) (found : Found) : Type 0 where
   pub by : (old new : TenantStateInMemory) → slice_get olds tenant ≡ Some old → slice_get afters tenant ≡ Some new
-      → IsOpenedBy old new (outage_of stops tenant) found
+      → IsOpenedBy state old new (outage_of stops tenant) found
   pub may : may_be_found config state tenant found ≡ true
   pub quota : found.quota ≡ (outage_of stops tenant).quota
   pub shows : (new : TenantStateInMemory) → slice_get afters tenant ≡ Some new
@@ -107,8 +107,8 @@ was_found : (config : Config) (state : State) (stops : List Stop) (olds afters :
     → (is : IsReopened config state tenant (outage_of stops tenant) old new) → WasFound config state stops olds afters tenant is.found
 was_found config state stops olds afters tenant old new at_old at_new is = record {
   by = λ was now at_was at_now.
-      subst (λ o. IsOpenedBy o now (outage_of stops tenant) is.found) (some_same (slice_get olds tenant) old was at_old at_was)
-      (subst (λ o. IsOpenedBy old o (outage_of stops tenant) is.found) (some_same (slice_get afters tenant) new now at_new at_now) is.opened);
+      subst (λ o. IsOpenedBy state o now (outage_of stops tenant) is.found) (some_same (slice_get olds tenant) old was at_old at_was)
+      (subst (λ o. IsOpenedBy state old o (outage_of stops tenant) is.found) (some_same (slice_get afters tenant) new now at_new at_now) is.opened);
   may = is.may;
   quota = is.opened.found_so.same_quota;
   shows = λ other at. subst (λ o. RepresentsTenant (tenant_at config tenant).words o (reopened (state.tenant_states tenant) is.found (under_way config state is.found.interrupted)))

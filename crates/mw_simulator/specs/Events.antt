@@ -6,15 +6,19 @@ use Rattle.std.specs.List.{list_any, find}
 use Rattle.std.specs.Option.{unwrap_or}
 use Rattle.mw_record.specs.Damages.{file_words}
 use Rattle.mw_file.specs.OpeningEnds.{open_calls}
+use Rattle.mw_actor.specs.ActorState.{ActorState, own_entries}
+use Rattle.mw_disk.specs.DeviceCalls.{DeviceCall}
+use Rattle.mw_world_file.specs.declared.book.SimulatedFile.{SimulatedFile}
+use Rattle.mw_world_file.specs.DeviceCalls.{call_list}
 use Rattle.mw_world_file.specs.Devices.{disk_under}
 use Rattle.mw_world_file.specs.Files.{File}
 use Rattle.mw_world_file.specs.Openings.{CameOfBytes}
-use Rattle.mw_world_file.specs.Recovery.{IsLeftOf}
+use Rattle.mw_world_file.specs.Recovery.{IsLeftOf, IsCutImage}
 use Rattle.mw_world.specs.declared.events.Event.{Event}
 use Rattle.mw_world.specs.declared.events.Event.TheVariants.{Come as IsCome, Step as IsStep, File as IsFile, Hand as IsHand, Restart as IsRestart}
 use Rattle.mw_world.specs.declared.events.Interrupted.{Interrupted}
 use Rattle.mw_world.specs.declared.events.Stop.{Stop}
-use Rattle.mw_world.specs.Definition.Calls.{call}
+use Rattle.mw_world.specs.Definition.Calls.{Called, call, called_at}
 use Rattle.mw_world.specs.Definition.Events.{Found, WorldEvent, Come, Step, File as FileCall, Hand, Restart}
 use Rattle.mw_world.specs.Definition.Restarts.{UnderWay, doubt_then, found_of, is_sealed_then, may_fail, may_find, may_interrupt, restart, under_way}
 use Rattle.mw_world.specs.Definition.State.{State, may_be_quotas, new_world, places_of, tenants_of}
@@ -64,10 +68,26 @@ abbrev pub made_in : Option Interrupted → ℕ
 made_in None = 0
 made_in (Some interrupted) = interrupted.made
 
+-- the device calls, on this book, of the call on a file to which a request has come at a point; none if it has come to none
+abbrev pub list_of : SimulatedFile → ActorState → Option Called → List DeviceCall
+list_of book actor None = []
+list_of book actor (Some called) = call_list book called.call called.change.slot (own_entries actor)
+
+-- the same for a worker's request; none if the worker is idle
+abbrev pub list_at : SimulatedFile → Option ActorState → List DeviceCall
+list_at book None = []
+list_at book (Some actor) = list_of book actor (called_at actor.point)
+
+-- the device calls of the call that was under way on a book's file; none if none was under way
+abbrev pub interrupted_list : State → SimulatedFile → Option Interrupted → List DeviceCall
+interrupted_list state book None = []
+interrupted_list state book (Some interrupted) = list_at book (state.worker_states interrupted.worker).actor
+
 -- What a start found of a tenant's file agrees with the outage. The found words are those of an image, and the number
--- of device calls is that of an opening of this image. The image is one that the torn bytes leave: of the tenant's own
--- disk if no device call was under way, else of a disk that came of it by the device calls that were made.
-pub record IsFoundBy (shown : TenantStateInMemory) (outage : Outage) (found : Found) : Type 0 where
+-- of device calls is that of an opening of this image. The image is the one that the torn bytes leave: of the tenant's own
+-- disk if no device call was under way, else of the disk that came of it by those device calls of the call under way that
+-- were made.
+pub record IsFoundBy (state : State) (shown : TenantStateInMemory) (outage : Outage) (found : Found) : Type 0 where
   pub same_call : found.interrupted ≡ outage.interrupted
   pub same_failure : found.fails_at ≡ outage.fails_at
   pub same_quota : found.quota ≡ outage.quota
@@ -75,11 +95,12 @@ pub record IsFoundBy (shown : TenantStateInMemory) (outage : Outage) (found : Fo
   pub words : file_words image ≡ Some found.words
   pub calls : open_calls image ≡ found.opening_calls
   pub left : IsLeftOf (disk_under shown.book.device) (made_in outage.interrupted) outage.torn image
+  pub exact : IsCutImage (disk_under shown.book.device) (made_in outage.interrupted) (interrupted_list state shown.book outage.interrupted) outage.torn image
 
 -- A start found this of a tenant's file. The tenant's new disk came of that image by the device calls of its opening,
 -- whether they went well or one failed.
-pub record IsOpenedBy (shown now : TenantStateInMemory) (outage : Outage) (found : Found) : Type 0 where
-  pub found_so : IsFoundBy shown outage found
+pub record IsOpenedBy (state : State) (shown now : TenantStateInMemory) (outage : Outage) (found : Found) : Type 0 where
+  pub found_so : IsFoundBy state shown outage found
   pub came : CameOfBytes found_so.image found.words outage.fails_at (disk_under now.book.device)
 
 -- A start went well. Each named tenant exists and is named once, the start found and opened each tenant's file so, and
@@ -88,7 +109,7 @@ pub record Started (old new : World) (state : State) (stops : List Stop) : Type 
   pub named : are_named (tenants_of old.config) stops ≡ true
   pub founds : List Found
   pub found : (tenant : ℕ) (shown now : TenantStateInMemory) → slice_get old.tenant_states.items tenant ≡ Some shown → slice_get new.tenant_states.items tenant ≡ Some now
-      → IsOpenedBy shown now (outage_of stops tenant) (found_of founds tenant)
+      → IsOpenedBy state shown now (outage_of stops tenant) (found_of founds tenant)
   pub leads : Leads (restart old.config state founds) new
 
 -- words that a start may find of a tenant's file, by the call that was under way
@@ -100,7 +121,7 @@ pub record CannotFail (world : World) (state : State) (tenant : ℕ) (outage : O
   pub shown : TenantStateInMemory
   pub is : slice_get world.tenant_states.items tenant ≡ Some shown
   pub found : Found
-  pub found_so : IsFoundBy shown outage found
+  pub found_so : IsFoundBy state shown outage found
   pub may : may_have (state.tenant_states tenant).file (under_way world.config state outage.interrupted) found.words ≡ true
   pub fails : may_fail found.opening_calls found.fails_at ≡ false
 

@@ -1,7 +1,7 @@
 -- Defines what was under way on the tenants' files when all stopped, and the simulated tenants after the start.
 -- Used by: the contracts of src/world/restarts.rt and src/world/stopped_calls.rt. A change here changes what these contracts
 -- say.
-use Rattle.std.specs.Prelude.{ℕ, ◌≡◌, ◌++◌, true, false, List, Vec, length, nat_le, slice_get, Option, Some, None, Result, Ok, Err}
+use Rattle.std.specs.Prelude.{ℕ, ◌≡◌, ◌≤◌, ◌++◌, true, false, List, Vec, length, nat_le, slice_get, Option, Some, None, Result, Ok, Err}
 use Rattle.std.specs.Option.{option_map}
 use Rattle.std.specs.declared.alloc.Global.{Global}
 use Rattle.mw_look.specs.declared.steps.Call.{Call}
@@ -9,6 +9,8 @@ use Rattle.mw_look.specs.declared.steps.Call.TheVariants.{Seal as SealCall}
 use Rattle.mw_actor.specs.ActorState.{ActorState}
 use Rattle.mw_world_file.specs.declared.faults.BookFault.{BookFault}
 use Rattle.mw_world_file.specs.declared.faults.BookFault.TheVariants.{NotEnabled, Memory}
+use Rattle.mw_world_file.specs.declared.book.SimulatedFile.{SimulatedFile}
+use Rattle.mw_world_file.specs.DeviceCalls.{cut_list}
 use Rattle.mw_world_file.specs.Files.{File}
 use Rattle.mw_world_file.specs.Recovery.{doubt_left, is_sealed_left, made_of, may_be_made}
 use Rattle.mw_world.specs.declared.config.Config.{Config}
@@ -22,7 +24,7 @@ use Rattle.mw_world_memory.specs.declared.tenants.TenantState.{TenantState as Te
 use Rattle.mw_world_memory.specs.Lines.{OneHasRoom}
 use Rattle.mw_simulator.specs.declared.world.halts.StoppedCall.{StoppedCall}
 use Rattle.mw_simulator.specs.declared.world.World.{World}
-use Rattle.mw_simulator.specs.Events.{CannotStop, IsOpenedBy, Outage, made_in, outage_of}
+use Rattle.mw_simulator.specs.Events.{CannotStop, IsOpenedBy, Outage, interrupted_list, list_of, made_in, outage_of}
 use Rattle.mw_simulator.specs.Representation.{Represents, RepresentsTenant}
 use Rattle.mw_simulator.specs.Starts.{EachOf}
 
@@ -44,6 +46,7 @@ pub record IsCut (config : Config) (state : State) (actor : ActorState) (called 
   pub may : nat_le made (stopped_call config state actor made called).calls ≡ may_be_made (state.tenant_states actor.tenant).file (state.tenant_states actor.tenant).quota halt.cut
   pub is : IsOf (state.tenant_states actor.tenant).file (state.tenant_states actor.tenant).quota (Some (stopped_call config state actor made called)) halt
   pub made_so : made_of halt.cut ≡ made
+  pub list_so : (book : SimulatedFile) → cut_list book halt.cut ≡ list_of book actor (Some called)
 
 -- How a call is cut, for each result: the halt is that of the call, or the call makes fewer device calls.
 abbrev pub Cuts : Config → State → ActorState → Called → ℕ → Option StoppedCall → Type 0
@@ -56,6 +59,8 @@ pub record IsHalted (config : Config) (state : State) (tenant : ℕ) (interrupte
   pub may : may_interrupt config state tenant interrupted ≡ may_be_made (state.tenant_states tenant).file (state.tenant_states tenant).quota halt.cut
   pub is : IsOf (state.tenant_states tenant).file (state.tenant_states tenant).quota (under_way config state interrupted) halt
   pub made_so : made_of halt.cut ≡ made_in interrupted
+  -- its device calls are those of the call under way
+  pub list_so : (book : SimulatedFile) → 1 ≤ made_in interrupted → cut_list book halt.cut ≡ interrupted_list state book interrupted
 
 -- How a tenant's file is halted, for each result: the halt is that of the interruption, or the file can't be
 -- interrupted so.
@@ -67,7 +72,7 @@ Halts config state tenant interrupted None = may_interrupt config state tenant i
 -- represents the tenant state that was reopened so.
 pub record IsReopened (config : Config) (state : State) (tenant : ℕ) (outage : Outage) (old new : TenantStateInMemory) : Type 0 where
   pub found : Found
-  pub opened : IsOpenedBy old new outage found
+  pub opened : IsOpenedBy state old new outage found
   pub may : may_be_found config state tenant found ≡ true
   pub shows : RepresentsTenant (tenant_at config tenant).words new (reopened (state.tenant_states tenant) found (under_way config state found.interrupted))
 

@@ -1,8 +1,13 @@
-//! States a theorem about each image (bytes) that a crash may leave of a tenant's disk, in terms of the tenant's
-//! store alone.
+//! States theorems about the simulated world: each image (bytes) that a crash may leave of a tenant's disk is one of the
+//! tenant's store alone, and a world and its stops determine what a start finds.
 //!
-//! The function does nothing, and nothing calls it: its contract is the fact, proved in `proofs/laws`. To
-//! change the fact, change its definition in `specs`, and then its proof.
+//! The functions do nothing, and nothing calls them: their contracts are the facts, proved in `proofs/laws`. To
+//! change a fact, change its definition in `specs`, and then its proof.
+ghost use Rattle.std.specs.Prelude.{◌≡◌};
+ghost use Rattle.mw_world.specs.Definition.Events.{Found};
+ghost use Rattle.mw_world.specs.Definition.State.{State};
+ghost use Rattle.mw_world_memory.specs.declared.tenants.TenantState.{TenantState};
+ghost use Rattle.mw_simulator.specs.Events.{IsFoundBy, Outage};
 ghost use Rattle.mw_simulator.specs.Images.{EveryImageIsOfStore};
 
 /// Proves that each image that a crash may leave has the words of the tenant's store alone, with the change in
@@ -11,4 +16,11 @@ ghost use Rattle.mw_simulator.specs.Images.{EveryImageIsOfStore};
 /// the words that the start found. The reason is that every run serves each tenant as its store alone would.
 pub fn every_image_is_of_store()
     ensures images { EveryImageIsOfStore }
+{}
+
+/// Proves that starts of one world in memory, after the same stop of a tenant, find the same of its file: the same
+/// words, and as many device calls of the opening. It says nothing of the disk after the start.
+pub fn starts_find_one_thing()
+    ensures { (state : State) (shown : TenantState) (outage : Outage) (found other : Found)
+        → IsFoundBy state shown outage found → IsFoundBy state shown outage other → found ≡ other }
 {}

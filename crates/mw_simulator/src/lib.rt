@@ -20,6 +20,6 @@ mod laws;
 mod world;
 
 pub use faults::{MOST_REQUESTS, WorldFault};
-pub use laws::every_image_is_of_store;
+pub use laws::{every_image_is_of_store, starts_find_one_thing};
 pub use mw_world_memory::{TenantState, WorkerState};
 pub use world::World;

@@ -44,5 +44,5 @@ returns-clause-shown c state shows =
     ap (starts_from called.call) (sym there.1) ∙ sym c.starts_from.ensures ∙ c.if-not-starts_from.false in
     let entries = c.entries_of-entries.result in
     let cut : Cut = record { call = c.args.called.call; slot = slot; entries = entries; made = made } in
-    let is = cut_is config state actor called made entries c.request.result there.0 formed starts c.requires.some (c.request.ensures ∙ shows.claims.requests slot seq) in
+    let is = cut_is config state actor called made entries c.request.result there.0 formed starts c.requires.some (c.request.ensures ∙ shows.claims.requests slot seq) own in
     subst (λ sealing. IsCut config state actor called made (record { cut = Some cut; sealing = sealing })) (sym c.sealed_request.ensures) is

@@ -1,0 +1,6 @@
+-- Proves the law `starts_find_one_thing` (src/laws.rt). Used by: that law alone. It may change freely as long as this crate checks.
+use Rattle.mw_simulator.proofs.OneFound.{one_found}
+use Rattle.mw_simulator.proofs.laws.starts_find_one_thing.Goals as goal
+
+pub returns : goal.returns
+returns c = one_found
