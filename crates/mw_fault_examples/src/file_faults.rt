@@ -6,7 +6,7 @@ use mw_stories::clients::{Ports, come_and_go, port_of_server};
 use mw_stories::folders::new_folder;
 use mw_stories::outputs::Output;
 use mw_stories::servers::{ask_alone, serve_loopback};
-use mw_stories::stories::{play, play_in};
+use mw_stories::stories::{play, play_in, play_new};
 use mw_test_runtime::FaultyRuntime;
 use std::net::{Net, TcpListener, TcpStream};
 use std::test::Fail;
@@ -16,9 +16,10 @@ use std::{io, str, thread};
 /// Each note at the start has the path of its own tenant's file.
 #[test]
 fn files_that_fail_at_the_start(rt: HostRuntime) -> Result<(), Fail> {
-    play(
+    play_new(
         &FaultyRuntime::sound(&rt),
-        new_folder(&rt, "faults-at-the-start")?.as_str(),
+        &rt,
+        "faults-at-the-start",
         "\
 mwinit DIR/s.mw 2 1
 mwinit DIR/u.mw 2 1

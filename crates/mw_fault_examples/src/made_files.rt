@@ -4,7 +4,7 @@
 use mw_init::init;
 use mw_stories::folders::{command_line, new_folder, path_in, remove_folder};
 use mw_stories::outputs::Output;
-use mw_stories::stories::{play, play_in};
+use mw_stories::stories::{play, play_in, play_new};
 use mw_test_runtime::FaultyRuntime;
 use std::fs::File;
 use std::os::unix::fs::symlink;
@@ -14,9 +14,10 @@ use std::test::Fail;
 /// A file of W words and P places has 32 + 8 W + 136 P bytes.
 #[test]
 fn sizes_of_new_files(rt: HostRuntime) -> Result<(), Fail> {
-    play(
+    play_new(
         &FaultyRuntime::sound(&rt),
-        new_folder(&rt, "sizes-of-new-files")?.as_str(),
+        &rt,
+        "sizes-of-new-files",
         "\
 mwinit DIR/least 1 1
 gives 0 made 176;|

@@ -4,7 +4,7 @@
 //! Nothing else uses it: it may change with what it tests.
 use mw_programs::SeesPaths;
 use mw_stories::folders::{new_folder, remove_folder};
-use mw_stories::stories::{play, play_in};
+use mw_stories::stories::{play, play_in, play_new};
 use mw_test_runtime::FaultyRuntime;
 use std::fs::File;
 use std::net::{Net, TcpListener, TcpStream};
@@ -259,11 +259,7 @@ gives 1 |mwserve: cannot read;DIR/tenants/script: Not a directory (os error 20);
 
 #[test]
 fn files_that_are_not_plain(rt: HostRuntime) -> Result<(), Fail> {
-    play(
-        &FaultyRuntime::sound(&rt),
-        new_folder(&rt, "not-plain")?.as_str(),
-        FOLDERS,
-    )
+    play_new(&FaultyRuntime::sound(&rt), &rt, "not-plain", FOLDERS)
 }
 
 /// Texts that are no address. The server says at no other address that it is ready.
@@ -347,9 +343,5 @@ gives 1 |mwserve: cannot read;";
 
 #[test]
 fn strict_servers(rt: HostRuntime) -> Result<(), Fail> {
-    play(
-        &FaultyRuntime::sound(&rt),
-        new_folder(&rt, "strict")?.as_str(),
-        STRICT,
-    )
+    play_new(&FaultyRuntime::sound(&rt), &rt, "strict", STRICT)
 }
