@@ -17,7 +17,7 @@ use std::{io, str, thread};
 #[test]
 fn files_that_fail_at_the_start(rt: HostRuntime) -> Result<(), Fail> {
     play_new(
-        &FaultyRuntime::sound(&rt),
+        &rt,
         &rt,
         "faults-at-the-start",
         "\
@@ -101,8 +101,7 @@ gives 0 OK 2;VAL 1;|";
 #[test]
 fn files_that_fail_while_served(rt: HostRuntime) -> Result<(), Fail> {
     let folder = new_folder(&rt, "faults-while-served")?;
-    let sound = FaultyRuntime::sound(&rt);
-    play_in(&sound, folder.as_str(), THREE_TENANTS)?;
+    play_in(&rt, folder.as_str(), THREE_TENANTS)?;
     let ports = Ports::new();
     let faulty = FaultyRuntime::new(&rt);
     let mut err = Output::new(rt.alloc());
@@ -116,7 +115,7 @@ fn files_that_fail_while_served(rt: HostRuntime) -> Result<(), Fail> {
     assert_eq!(rt; status?, 0);
     let notes = TWO_NOTES.replace(rt.alloc(), "DIR", folder.as_str())?;
     assert_eq!(rt; str::from_utf8(&err.into_text()), Ok(notes.as_str()));
-    play(&sound, folder.as_str(), AFTER_THREE_CLIENTS)
+    play(&rt, folder.as_str(), AFTER_THREE_CLIENTS)
 }
 
 /// A tenant with its file, and a script that will open and can't be read.
@@ -139,8 +138,7 @@ gives 0 OK 2;VAL 0;|";
 #[test]
 fn a_script_that_can_not_be_read(rt: HostRuntime) -> Result<(), Fail> {
     let folder = new_folder(&rt, "unread-script")?;
-    let sound = FaultyRuntime::sound(&rt);
-    play_in(&sound, folder.as_str(), UNREAD_SCRIPT)?;
+    play_in(&rt, folder.as_str(), UNREAD_SCRIPT)?;
     play_in(&FaultyRuntime::new(&rt), folder.as_str(), UNREAD)?;
-    play(&sound, folder.as_str(), AFTER_UNREAD)
+    play(&rt, folder.as_str(), AFTER_UNREAD)
 }

@@ -5,7 +5,6 @@ use mw_init::init;
 use mw_stories::folders::{command_line, new_folder, path_in, remove_folder};
 use mw_stories::outputs::Output;
 use mw_stories::stories::{play, play_in, play_new};
-use mw_test_runtime::FaultyRuntime;
 use std::fs::File;
 use std::os::unix::fs::symlink;
 use std::rt::Files;
@@ -15,7 +14,7 @@ use std::test::Fail;
 #[test]
 fn sizes_of_new_files(rt: HostRuntime) -> Result<(), Fail> {
     play_new(
-        &FaultyRuntime::sound(&rt),
+        &rt,
         &rt,
         "sizes-of-new-files",
         "\
@@ -53,10 +52,9 @@ mwinit --words 2 DIR/t.mw 2 1";
 #[test]
 fn command_lines_that_make_nothing(rt: HostRuntime) -> Result<(), Fail> {
     let folder = new_folder(&rt, "lines-that-make-nothing")?;
-    let sound = FaultyRuntime::sound(&rt);
     for line in WRONG_LINES.split('\n') {
         let story = format!(in rt.alloc(); "{line}\nbegins 2 |error:\nabsent t.mw")?;
-        play_in(&sound, folder.as_str(), story.as_str())?;
+        play_in(&rt, folder.as_str(), story.as_str())?;
     }
     remove_folder(&rt, folder.as_str())
 }
@@ -88,7 +86,7 @@ fn files_that_have_no_place(rt: HostRuntime) -> Result<(), Fail> {
     let folder = new_folder(&rt, "files-that-have-no-place")?;
     let link = path_in(rt.alloc(), folder.as_str(), "link.mw")?;
     symlink(&rt, "nowhere", link.as_str())?;
-    play(&FaultyRuntime::sound(&rt), folder.as_str(), NO_PLACE)
+    play(&rt, folder.as_str(), NO_PLACE)
 }
 
 /// The bytes of the line `made 184`.
@@ -112,12 +110,11 @@ where
 #[test]
 fn files_that_are_told_in_vain(rt: HostRuntime) -> Result<(), Fail> {
     let folder = new_folder(&rt, "told-in-vain")?;
-    let sound = FaultyRuntime::sound(&rt);
     for room in 0..MADE {
-        let told = is_told_in_vain(&sound, folder.as_str(), room)?;
+        let told = is_told_in_vain(&rt, folder.as_str(), room)?;
         assert!(rt; told, "{room}");
         let story = format!(in rt.alloc(); "new {room}.mw")?;
-        play_in(&sound, folder.as_str(), story.as_str())?;
+        play_in(&rt, folder.as_str(), story.as_str())?;
     }
     remove_folder(&rt, folder.as_str())
 }

@@ -5,7 +5,6 @@
 use mw_programs::SeesPaths;
 use mw_stories::folders::{new_folder, remove_folder};
 use mw_stories::stories::{play, play_in, play_new};
-use mw_test_runtime::FaultyRuntime;
 use std::fs::File;
 use std::net::{Net, TcpListener, TcpStream};
 use std::rt::Files;
@@ -78,17 +77,16 @@ mwserve --tenants DIR/tenants --listen unix:DIR/s --connections 1000000 --idle 8
 #[test]
 fn command_lines(rt: HostRuntime) -> Result<(), Fail> {
     let folder = new_folder(&rt, "command-lines")?;
-    let sound = FaultyRuntime::sound(&rt);
     let path = folder.as_str();
-    play_table(&sound, path, "CASE\nbegins 2 |error:", WRONG_LINES)?;
+    play_table(&rt, path, "CASE\nbegins 2 |error:", WRONG_LINES)?;
     play_table(
-        &sound,
+        &rt,
         path,
         "CASE\nbegins 2 |mwserve: refused 1 command;mwserve: ",
         REFUSED_LINES,
     )?;
     play_table(
-        &sound,
+        &rt,
         path,
         "CASE\ngives 2 |mwserve: refused 2 file;DIR/tenants: No such file or directory (os error 2);\nabsent s",
         RIGHT_LINES,
@@ -149,9 +147,8 @@ t 2 64 a;u 2 64 b;v 2 64 c;w 2 64 d;x 2 1 e;y|3 form line 6;DIR/tenants: line 6 
 #[test]
 fn tenants_files(rt: HostRuntime) -> Result<(), Fail> {
     let folder = new_folder(&rt, "tenants-files")?;
-    let sound = FaultyRuntime::sound(&rt);
-    refuse_tenants(&sound, folder.as_str(), ONE_FAULT)?;
-    refuse_tenants(&sound, folder.as_str(), TWO_FAULTS)?;
+    refuse_tenants(&rt, folder.as_str(), ONE_FAULT)?;
+    refuse_tenants(&rt, folder.as_str(), TWO_FAULTS)?;
     remove_folder(&rt, folder.as_str())
 }
 
@@ -200,9 +197,8 @@ fn story_of_too_many(rt: &HostRuntime) -> Result<String, Fail> {
 #[test]
 fn numbers_of_tenants(rt: HostRuntime) -> Result<(), Fail> {
     let folder = new_folder(&rt, "numbers-of-tenants")?;
-    let sound = FaultyRuntime::sound(&rt);
-    play_in(&sound, folder.as_str(), story_of_most(&rt)?.as_str())?;
-    play(&sound, folder.as_str(), story_of_too_many(&rt)?.as_str())
+    play_in(&rt, folder.as_str(), story_of_most(&rt)?.as_str())?;
+    play(&rt, folder.as_str(), story_of_too_many(&rt)?.as_str())
 }
 
 /// Plays this story, with a text of so many bytes in the place of `LONG`.
@@ -238,11 +234,10 @@ const LONG_FILE: &str =
 #[test]
 fn long_tenants_files(rt: HostRuntime) -> Result<(), Fail> {
     let folder = new_folder(&rt, "long-tenants-files")?;
-    let sound = FaultyRuntime::sound(&rt);
-    play_long(&sound, folder.as_str(), 200, PATH)?;
-    play_long(&sound, folder.as_str(), 201, LONG_PATH)?;
-    play_long(&sound, folder.as_str(), 8192, FILE)?;
-    play_long(&sound, folder.as_str(), 8193, LONG_FILE)?;
+    play_long(&rt, folder.as_str(), 200, PATH)?;
+    play_long(&rt, folder.as_str(), 201, LONG_PATH)?;
+    play_long(&rt, folder.as_str(), 8192, FILE)?;
+    play_long(&rt, folder.as_str(), 8193, LONG_FILE)?;
     remove_folder(&rt, folder.as_str())
 }
 
@@ -259,7 +254,7 @@ gives 1 |mwserve: cannot read;DIR/tenants/script: Not a directory (os error 20);
 
 #[test]
 fn files_that_are_not_plain(rt: HostRuntime) -> Result<(), Fail> {
-    play_new(&FaultyRuntime::sound(&rt), &rt, "not-plain", FOLDERS)
+    play_new(&rt, &rt, "not-plain", FOLDERS)
 }
 
 /// Texts that are no address. The server says at no other address that it is ready.
@@ -279,15 +274,14 @@ const NO_ADDRESSES: &str = "\
 #[test]
 fn texts_that_are_no_address(rt: HostRuntime) -> Result<(), Fail> {
     let folder = new_folder(&rt, "no-address")?;
-    let sound = FaultyRuntime::sound(&rt);
     let path = folder.as_str();
     play_in(
-        &sound,
+        &rt,
         path,
         "mwinit DIR/t.mw 2 1\nwrite tenants t 2 1 DIR/t.mw;",
     )?;
     play_table(
-        &sound,
+        &rt,
         path,
         "mwserve --tenants DIR/tenants --connections 1 CASE\ngives 1 |mwserve: cannot listen;",
         NO_ADDRESSES,
@@ -307,12 +301,11 @@ gives 1 |mwserve: cannot listen;127.0.0.1:PORT: Address already in use (os error
 #[test]
 fn a_port_that_is_taken(rt: HostRuntime) -> Result<(), Fail> {
     let folder = new_folder(&rt, "a-port-that-is-taken")?;
-    let sound = FaultyRuntime::sound(&rt);
     let listener = TcpListener::bind(&rt, ("127.0.0.1", 0))?;
     let port = listener.local_addr()?.port();
     let port = format!(in rt.alloc(); "{port}")?;
     let story = TAKEN.replace(rt.alloc(), "PORT", port.as_str())?;
-    play(&sound, folder.as_str(), story.as_str())
+    play(&rt, folder.as_str(), story.as_str())
 }
 
 /// With `--strict` nothing is served if a tenant's file doesn't open. The server doesn't come to the script, which
@@ -343,5 +336,5 @@ gives 1 |mwserve: cannot read;";
 
 #[test]
 fn strict_servers(rt: HostRuntime) -> Result<(), Fail> {
-    play_new(&FaultyRuntime::sound(&rt), &rt, "strict", STRICT)
+    play_new(&rt, &rt, "strict", STRICT)
 }

@@ -31,7 +31,7 @@ const NO_ROOM: &str =
 #[test]
 fn no_room_for_clients(rt: HostRuntime) -> Result<(), Fail> {
     let folder = new_folder(&rt, "no-room-for-clients")?;
-    play_in(&FaultyRuntime::sound(&rt), folder.as_str(), ONE_TENANT)?;
+    play_in(&rt, folder.as_str(), ONE_TENANT)?;
     let ports = Ports::new();
     let mut err = Output::new(rt.alloc());
     let faulty = FaultyRuntime::new(&rt);
@@ -84,7 +84,7 @@ where
 #[test]
 fn no_room_for_the_administrator(rt: HostRuntime) -> Result<(), Fail> {
     let folder = new_folder(&rt, "no-room-for-the-administrator")?;
-    play_in(&FaultyRuntime::sound(&rt), folder.as_str(), ONE_TENANT)?;
+    play_in(&rt, folder.as_str(), ONE_TENANT)?;
     let (ports, noted) = (Ports::new(), AtomicU16::new(0));
     let faulty = FaultyRuntime::new(&rt);
     let options = "--listen 127.0.0.1:0 --admin 127.0.0.2:0 --workers 1 --connections 1 --verbose";

@@ -7,7 +7,6 @@ use mw_stories::folders::new_folder;
 use mw_stories::outputs::Output;
 use mw_stories::servers::{ask_alone, serve_loopback};
 use mw_stories::stories::{play, play_in};
-use mw_test_runtime::FaultyRuntime;
 use std::fs::File;
 use std::net::{Net, TcpListener, TcpStream};
 use std::rt::Files;
@@ -67,17 +66,16 @@ where
 #[test]
 fn a_second_server(rt: HostRuntime) -> Result<(), Fail> {
     let folder = new_folder(&rt, "a-second-server")?;
-    let sound = FaultyRuntime::sound(&rt);
-    play_in(&sound, folder.as_str(), ONE_TENANT)?;
+    play_in(&rt, folder.as_str(), ONE_TENANT)?;
     let ports = Ports::new();
     let mut err = Output::new(rt.alloc());
     let options = "--listen 127.0.0.1:0 --connections 1";
     let (status, heard) = thread::join(
-        &sound,
-        || serve_loopback(&sound, folder.as_str(), options, &ports, &mut err),
-        || play_beside(&sound, folder.as_str(), &ports),
+        &rt,
+        || serve_loopback(&rt, folder.as_str(), options, &ports, &mut err),
+        || play_beside(&rt, folder.as_str(), &ports),
     );
     assert!(rt; heard?, "the client heard something else");
     assert_eq!(rt; (status?, err.into_text().len()), (0, 0));
-    play(&sound, folder.as_str(), AFTER)
+    play(&rt, folder.as_str(), AFTER)
 }

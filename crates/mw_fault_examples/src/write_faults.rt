@@ -6,7 +6,6 @@ use mw_stories::folders::{new_folder, path_in, remove_folder};
 use mw_stories::outputs::Output;
 use mw_stories::servers::serve_to;
 use mw_stories::stories::play_in;
-use mw_test_runtime::FaultyRuntime;
 use std::fs;
 use std::fs::File;
 use std::net::{Net, TcpListener, TcpStream};
@@ -85,15 +84,14 @@ where
 #[test]
 fn a_session_whose_output_fails(rt: HostRuntime) -> Result<(), Fail> {
     let folder = new_folder(&rt, "output-fails")?;
-    let sound = FaultyRuntime::sound(&rt);
-    play_in(&sound, folder.as_str(), TWO_CHANGES)?;
+    play_in(&rt, folder.as_str(), TWO_CHANGES)?;
     let path = path_in(rt.alloc(), folder.as_str(), "t.mw")?;
     let unchanged = fs::read(&rt, path.as_str())?;
     for room in 0..ANSWERS.len() {
         fs::write(&rt, path.as_str(), unchanged.as_slice())?;
-        let served = serve_session(&sound, folder.as_str(), room, 1)?;
+        let served = serve_session(&rt, folder.as_str(), room, 1)?;
         assert!(rt; served, "{room}");
-        look_after(&sound, folder.as_str(), room)?;
+        look_after(&rt, folder.as_str(), room)?;
     }
     remove_folder(&rt, folder.as_str())
 }
@@ -102,11 +100,10 @@ fn a_session_whose_output_fails(rt: HostRuntime) -> Result<(), Fail> {
 #[test]
 fn a_session_whose_output_has_room(rt: HostRuntime) -> Result<(), Fail> {
     let folder = new_folder(&rt, "output-has-room")?;
-    let sound = FaultyRuntime::sound(&rt);
-    play_in(&sound, folder.as_str(), TWO_CHANGES)?;
-    let served = serve_session(&sound, folder.as_str(), ANSWERS.len(), 0)?;
+    play_in(&rt, folder.as_str(), TWO_CHANGES)?;
+    let served = serve_session(&rt, folder.as_str(), ANSWERS.len(), 0)?;
     assert!(rt; served);
-    look_after(&sound, folder.as_str(), ANSWERS.len())?;
+    look_after(&rt, folder.as_str(), ANSWERS.len())?;
     remove_folder(&rt, folder.as_str())
 }
 
@@ -139,11 +136,10 @@ where
 #[test]
 fn first_outputs_that_fail(rt: HostRuntime) -> Result<(), Fail> {
     let folder = new_folder(&rt, "first-outputs")?;
-    let sound = FaultyRuntime::sound(&rt);
-    play_in(&sound, folder.as_str(), TWO_CHANGES)?;
+    play_in(&rt, folder.as_str(), TWO_CHANGES)?;
     for line in LINES {
         for room in [0, 3] {
-            let ended = ends_at_once(&sound, folder.as_str(), line, room)?;
+            let ended = ends_at_once(&rt, folder.as_str(), line, room)?;
             assert!(rt; ended, "{line}, {room}");
         }
     }

@@ -1,4 +1,4 @@
-//! A runtime for tests of whole programs: it does what another one does, and on request some of its calls fail.
+//! A runtime for tests of whole programs: it does what another one does, but some of its calls fail.
 //!
 //! Used by: mw_fault_examples. It may change freely as long as that checks and its tests pass.
 #![tactic(auto)]

@@ -18,33 +18,19 @@ use std::time::{Clock, Duration};
 /// The address at which a listener waits for nobody.
 pub const NO_ROOM: [u8; 4] = [127, 0, 0, 2];
 
-/// A runtime that does what another one does. If it was made faulty, it does all but this:
+/// A runtime that does what another one does, but for this:
 /// - It opens a file whose path ends with `.read-only` for reading alone, so that each write fails.
 /// - It opens a file whose path ends with `.write-only` for writing alone, so that each read fails.
 /// - At [`NO_ROOM`] it gives a listener that waits for nobody: an accept fails if no client is there.
-///
-/// A program is compiled once for both, since they are of one type.
 #[derive(Drop)]
 pub struct FaultyRuntime<'a, R> {
     rt: &'a R,
-    is_faulty: bool,
 }
 
 impl<'a, R> FaultyRuntime<'a, R> {
-    /// Makes a runtime over this one, with the faults.
+    /// Makes a runtime over this one.
     pub fn new(rt: &'a R) -> Self {
-        FaultyRuntime {
-            rt,
-            is_faulty: true,
-        }
-    }
-
-    /// Makes a runtime that does just what this one does.
-    pub fn sound(rt: &'a R) -> Self {
-        FaultyRuntime {
-            rt,
-            is_faulty: false,
-        }
+        FaultyRuntime { rt }
     }
 }
 
@@ -55,11 +41,11 @@ impl<R: Files<File = File>> Files for FaultyRuntime<'_, R> {
 
     fn open_file(&self, how: &OpenOptions, path: &str) -> io::Result<File> {
         let mut options = OpenOptions::new();
-        if self.is_faulty && path.ends_with(".read-only") {
+        if path.ends_with(".read-only") {
             options.read(true);
             return self.rt.open_file(&options, path);
         }
-        if self.is_faulty && path.ends_with(".write-only") {
+        if path.ends_with(".write-only") {
             options.write(true);
             return self.rt.open_file(&options, path);
         }
@@ -150,7 +136,7 @@ impl<R: Net<Listener = TcpListener, Stream = TcpStream>> Net for FaultyRuntime<'
 
     fn bind(&self, addr: SocketAddr) -> io::Result<TcpListener> {
         let listener = self.rt.bind(addr)?;
-        if self.is_faulty && addr == SocketAddr::from((NO_ROOM, addr.port())) {
+        if addr == SocketAddr::from((NO_ROOM, addr.port())) {
             listener.set_nonblocking(true)?;
         }
         Ok(listener)
