@@ -5,7 +5,7 @@
 ghost use Rattle.std.specs.Prelude.{◌≡◌, ◌≤◌, All, IfSome};
 ghost use Rattle.mw_config.specs.Limits.{ArePermitted};
 ghost use Rattle.mw_words.specs.declared.limits.TheConstants.{MAX_POOL};
-ghost use Rattle.mw_engine.specs.Passes.{IsNew};
+ghost use Rattle.mw_engine.specs.Passes.{IsNew, IsPassOf};
 ghost use Rattle.mw_engine.specs.Parts.{identity_of};
 
 use crate::disks::{have_words, new_disks};
@@ -15,7 +15,7 @@ use crate::races::{Race, is_run};
 use crate::starts::{Started, start};
 use crate::talks::{Story, Talk, are_served, are_told, is_played};
 use crate::twins::{answer_alike, leave_the_same_words, new_plain};
-use crate::workers::{Worker, workers_of};
+use crate::workers::{LatchedEngine, Worker, workers_of};
 use arrayvec::ArrayVec;
 use mw_config::{TenantLine, read_tenants};
 use mw_engine::{EngineBrand, EngineParts, Pass};
@@ -120,14 +120,34 @@ fn is_so_of<'l, J: EngineBrand + Send + Sync, R: Threads + Wait + Sync>(
         return false;
     };
     let mut plain = plain_beside(alloc, case, latch);
-    let is_done = match workers_of(rt, alloc, &engine, passes) {
-        Some(workers) => is_done(rt, alloc, workers, case, latch, &mut plain),
-        None => false,
+    let Some((is_done, mut pass)) = done_by_workers(
+        rt, alloc, &engine, passes, case, latch, &mut plain,
+    ) else {
+        return false;
     };
-    match engine.into_disks(alloc) {
+    match engine.into_disks_with(alloc, &mut pass) {
         Ok(disks) => is_done && are_left(alloc, disks, case, plain),
         Err(_) => false,
     }
+}
+
+/// Makes workers of these passes, and has all but the last do what the case says. Gives whether they do, and the pass of
+/// the last one. Gives None if memory is refused.
+fn done_by_workers<J: EngineBrand + Send + Sync, R: Threads + Wait + Sync>(
+    rt: &R,
+    alloc: Global,
+    engine: &LatchedEngine<'_, J>,
+    passes: Vec<Pass>,
+    case: &Case<'_>,
+    latch: &Latch,
+    plain: &mut Option<Plain<LatchedDisk<'_>>>,
+) -> Option<(bool, Pass)>
+    requires passes { All (IsNew J.identity) passes.items }
+    ensures own { IfSome result (λ made. IsPassOf J.identity made.1) }
+{
+    let mut workers = workers_of(rt, alloc, engine, passes)?;
+    let pass = workers.pop()?.into_pass();
+    Some((is_done(rt, alloc, workers, case, latch, plain), pass))
 }
 
 /// Makes the plain store that is asked beside the engine. Gives None if the case has none, or memory is

@@ -78,8 +78,8 @@ pub(crate) struct Started<'l> {
     pub(crate) passes: Vec<Pass>,
 }
 
-/// How many workers an engine has.
-const WORKERS: u8 = 4;
+/// How many passes an engine has: those of four workers, and one that sees the files in the end.
+const PASSES: u8 = 5;
 
 /// Starts an engine of a case's tenants, whose files are on these disks. Gives None if memory is refused.
 pub(crate) fn start<'l>(
@@ -92,7 +92,7 @@ pub(crate) fn start<'l>(
 {
     let lines = lines_of(case)?;
     let files = all_opened(alloc, &lines, disks)?;
-    match EngineParts::new(alloc, &lines, files, case.pool, WORKERS, ByLatch { latch }) {
+    match EngineParts::new(alloc, &lines, files, case.pool, PASSES, ByLatch { latch }) {
         Ok(made) => {
             let (parts, passes) = made;
             Some(Started { parts, passes })

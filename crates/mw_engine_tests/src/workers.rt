@@ -38,6 +38,18 @@ impl<'a, 'l, J: EngineBrand, R> Worker<'a, 'l, J, R> {
 }
 
 impl<'a, 'l, J: EngineBrand, R: Wait> Worker<'a, 'l, J, R> {
+    /// Ends the worker and gives its pass.
+    pub(crate) fn into_pass(self) -> Pass
+        ensures { IsPassOf J.identity result }
+    {
+        let Worker {
+            engine: _,
+            rt: _,
+            pass,
+        } = self;
+        pass
+    }
+
     /// Gives the worker's number in the engine.
     pub(crate) fn number(&self) -> usize {
         usize::from(self.pass.worker())
