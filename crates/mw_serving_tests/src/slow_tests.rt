@@ -42,26 +42,46 @@ fn has_passed<R: Clock>(rt: &R, since: Instant, least: Duration) -> io::Result<b
 /// What a client goes on to send of a line, without its end.
 const NO_END: &[u8] = b"ET 00000";
 
-/// A client that sends a byte each 100 milliseconds is answered, if it ends its line in time. If not, it is sent
-/// away in the midst of the line.
+/// A client that sends a byte each 100 milliseconds is answered, if it ends its line in time.
+fn lines_in_time<R: Clock>(rt: &R, client: &mut Caller) -> bool {
+    let goes_on = AtomicBool::new(false);
+    let mut right = client.asks(b"TENANT t\n", b"OK 2\n");
+    for _ in 0..3u8 {
+        drip(rt, client, b"GET 0\n", 100, &goes_on);
+        right = right && client.hears(b"VAL 0\n");
+    }
+    right
+}
+
+/// A client that sends two lines and the beginning of a third, and goes on so, is sent away in the midst of the
+/// line.
+fn is_cut_off<R: Clock>(rt: &R, client: &mut Caller) -> io::Result<bool> {
+    let goes_on = AtomicBool::new(false);
+    // The time of the third line begins now.
+    let asked = client.asks(b"GET 1\nGET 0\nG", b"VAL 0\nVAL 0\n");
+    let begun = Instant::now(rt)?;
+    drip(rt, client, NO_END, 100, &goes_on);
+    Ok(asked && client.hears_the_end() && has_passed(rt, begun, Duration::from_secs(1))?)
+}
+
+/// A client that comes next is served.
+fn is_served<R: Net<Listener = TcpListener, Stream = TcpStream>>(
+    rt: &R,
+    port: u16,
+) -> io::Result<bool> {
+    let mut second = Caller::new(rt, port)?;
+    Ok(second.asks_at_last(b"TENANT t\nGET 0\nQUIT\n", b"OK 2\nVAL 0\nBYE\n"))
+}
+
+/// A client sends its lines bit by bit: some in their time, and one that doesn't end in its time. The next client is
+/// served.
 fn come_bit_by_bit<R: Net<Listener = TcpListener, Stream = TcpStream> + Clock>(
     rt: &R,
     port: u16,
 ) -> io::Result<bool> {
-    let goes_on = AtomicBool::new(false);
     let mut client = Caller::new(rt, port)?;
-    let mut right = client.asks(b"TENANT t\n", b"OK 2\n");
-    for _ in 0..3u8 {
-        drip(rt, &mut client, b"GET 0\n", 100, &goes_on);
-        right = right && client.hears(b"VAL 0\n");
-    }
-    // Two lines and the beginning of a third, whose time begins now.
-    right = right && client.asks(b"GET 1\nGET 0\nG", b"VAL 0\nVAL 0\n");
-    let begun = Instant::now(rt)?;
-    drip(rt, &mut client, NO_END, 100, &goes_on);
-    right = right && client.hears_the_end() && has_passed(rt, begun, Duration::from_secs(1))?;
-    let mut second = Caller::new(rt, port)?;
-    Ok(right && second.asks_at_last(b"TENANT t\nGET 0\nQUIT\n", b"OK 2\nVAL 0\nBYE\n"))
+    let right = lines_in_time(rt, &mut client) && is_cut_off(rt, &mut client)?;
+    Ok(right && is_served(rt, port)?)
 }
 
 #[test]

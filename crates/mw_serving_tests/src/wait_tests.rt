@@ -27,7 +27,29 @@ fn is_sent_away<R: Clock>(rt: &R, client: &mut Caller, came: Instant) -> io::Res
     Ok(ended && in_time)
 }
 
-/// Clients that come half a second apart while the worker is taken.
+/// Clients that come half a second apart while the worker is taken are sent away, each in its time.
+fn are_sent_away<R: Net<Listener = TcpListener, Stream = TcpStream> + Clock>(
+    rt: &R,
+    port: u16,
+) -> io::Result<bool> {
+    let (came, mut second) = (Instant::now(rt)?, Caller::new(rt, port)?);
+    let asked = second.says(b"TENANT t\nGET 0\nQUIT\n");
+    thread::sleep(rt, Duration::from_millis(500));
+    let (came_next, mut third) = (Instant::now(rt)?, Caller::new(rt, port)?);
+    let left = is_sent_away(rt, &mut second, came)? && is_sent_away(rt, &mut third, came_next)?;
+    Ok(asked && left)
+}
+
+/// A client that comes when the worker is free again is served.
+fn is_served<R: Net<Listener = TcpListener, Stream = TcpStream>>(
+    rt: &R,
+    port: u16,
+) -> io::Result<bool> {
+    let mut last = Caller::new(rt, port)?;
+    Ok(last.asks_at_last(b"TENANT t\nQUIT\n", b"OK 2\nBYE\n"))
+}
+
+/// Clients come while the worker is taken, and one when it is free again.
 fn come_in_vain<R: Net<Listener = TcpListener, Stream = TcpStream> + Clock>(
     rt: &R,
     port: u16,
@@ -36,16 +58,9 @@ fn come_in_vain<R: Net<Listener = TcpListener, Stream = TcpStream> + Clock>(
     if !first.asks(b"TENANT t\n", b"OK 2\n") {
         return Ok(false);
     }
-    let (came, mut second) = (Instant::now(rt)?, Caller::new(rt, port)?);
-    let asked = second.says(b"TENANT t\nGET 0\nQUIT\n");
-    thread::sleep(rt, Duration::from_millis(500));
-    let (came_next, mut third) = (Instant::now(rt)?, Caller::new(rt, port)?);
-    let left = is_sent_away(rt, &mut second, came)? && is_sent_away(rt, &mut third, came_next)?;
+    let left = are_sent_away(rt, port)?;
     let served = first.asks_at_last(b"GET 0\nQUIT\n", b"VAL 0\nBYE\n");
-    // The worker is free again.
-    let mut last = Caller::new(rt, port)?;
-    let next = last.asks_at_last(b"TENANT t\nQUIT\n", b"OK 2\nBYE\n");
-    Ok(asked && left && served && next)
+    Ok(left && served && is_served(rt, port)?)
 }
 
 #[test]
