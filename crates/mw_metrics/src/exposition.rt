@@ -11,9 +11,9 @@ use crate::text::{MAX_METRICS, Text};
 use mw_words::MAX_TENANTS;
 use std::alloc::{AllocError, Global};
 
-/// Gives the text of all figures in the text format of Prometheus, version 0.0.4 (`specs/Exposition` and
-/// `specs/Figures`): the version of the server, of at most [`MAX_LABEL_VALUE`] bytes, its figures, and those of at most
-/// [`MAX_TENANTS`] tenants, in their order. It asks for memory once, for [`MAX_METRICS`] bytes.
+/// Gives the text of all figures in the text format of Prometheus, version 0.0.4: the version of the server, of at most
+/// [`MAX_LABEL_VALUE`] bytes, its figures, and those of at most [`MAX_TENANTS`] tenants, in their order. `specs/Exposition`
+/// has the format, `specs/Figures` the text. It asks for memory once, for [`MAX_METRICS`] bytes.
 ///
 /// # Errors
 ///
