@@ -14,6 +14,7 @@ import sys
 import threading
 import time
 from pathlib import Path
+from typing import NoReturn
 
 TOP = Path(__file__).resolve().parent.parent.parent
 sys.path[:0] = [str(TOP / "clients/python"), str(TOP / "clients/python/examples")]
@@ -29,25 +30,25 @@ PATIENCE = 60
 HOLD_UP = 0.5
 
 
-def wrong(text):
+def wrong(text: str) -> NoReturn:
     raise SystemExit(f"check-programs: {text}")
 
 
-def has(command):
+def has(command: str) -> bool:
     """Whether a program of this name can be called here."""
     return shutil.which(command) is not None
 
 
-def has_module(name):
+def has_module(name: str) -> bool:
     """Whether this Python has a module of this name."""
     return importlib.util.find_spec(name) is not None
 
 
-def is_built(program):
+def is_built(program: str) -> bool:
     return os.access(BUILT[program], os.X_OK)
 
 
-def same(found, wanted, what):
+def same(found: object, wanted: object, what: str) -> None:
     if found != wanted:
         wrong(f"{what}: {found!r} in place of {wanted!r}")
 
@@ -63,7 +64,7 @@ def raises(kind, what, call, *arguments, **named):
     wrong(f"{what}: {given!r} in place of {kind.__name__}")
 
 
-def remove(folder):
+def remove(folder: Path) -> None:
     """Removes a folder, but not if a file system is mounted in it: what is removed there wouldn't be this script's own."""
     mounted = [line.split()[1] for line in Path("/proc/self/mounts").read_text().splitlines()]
     below = [it for it in mounted if it == str(folder) or it.startswith(f"{folder}/")]

@@ -1,14 +1,19 @@
-"""Where a new Debian comes from, and whether one can be made here.
+"""Where a new Debian comes from, and whether one can be made and booted here.
 
 Used by: scripts/check-package, which installs a package in it; scripts/check-programs, which tells that this was left out.
 """
+import os
 import shutil
 import urllib.request
+from pathlib import Path
 
 from .common import PATIENCE
 
 MIRROR = "http://deb.debian.org/debian"
 RELEASE = "bookworm"
+TO_BOOT = "systemd,dbus,python3"
+"""What it needs further to be booted, and for the package's client."""
+GROUPS = Path("/sys/fs/cgroup")
 
 
 def no_debian() -> str:
@@ -20,3 +25,11 @@ def no_debian() -> str:
     except OSError as error:
         return f"{MIRROR} can't be reached: {error}"
     return ""
+
+
+def no_boot() -> str:
+    """Why no Debian can be booted in a container here; nothing if one can."""
+    if not shutil.which("systemd-nspawn"):
+        return "there is no systemd-nspawn (package systemd-container)"
+    groups = GROUPS / "systemd" if (GROUPS / "systemd").is_dir() else GROUPS
+    return "" if os.access(groups, os.W_OK) else f"no control group can be made in {groups}"

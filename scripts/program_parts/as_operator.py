@@ -1,0 +1,418 @@
+"""Does by docs/OPERATING.md what an operator does, as root of a Debian that systemd has booted: it installs the package, starts both
+units, looks at their processes, talks to them, kills and stops them, runs the page's commands as they stand there, and removes the
+package.
+
+usage: as_operator.py PACKAGE BOOT
+
+BOOT is 1 in the first boot and 2 in the next one, where the unit that was enabled must run. Each thing that was tried is a line on
+standard output, the last one is `all well`. Used by: booted.py, which runs it in a container. It needs the package's client, Python
+alone otherwise, and no file of this repository.
+"""
+import os
+import pwd
+import re
+import signal
+import subprocess
+import sys
+import threading
+import time
+from pathlib import Path
+from typing import Any, Callable, List, NamedTuple, NoReturn, Tuple
+
+PATIENCE = 60
+"""For how many seconds what has to come is waited for."""
+LOCAL, PORT = "mondlexi-local", "mondlexi"
+ROOM = Path("/srv/mw")
+PAGE = Path("/usr/share/doc/mondlexi/docs/OPERATING.md")
+
+
+class Unit(NamedTuple):
+    """A unit of contrib: its name, where its server listens for clients and for the administrator, and the group of its process."""
+    name: str
+    listen: str
+    admin: str
+    group: str
+
+
+UNITS = (Unit(LOCAL, "unix:/run/mondlexi/socket", "unix:/run/mondlexi/admin", "mwclients"),
+         Unit(PORT, "127.0.0.1:7000", "127.0.0.1:7001", "mw"))
+
+
+def wrong(text: str) -> NoReturn:
+    raise SystemExit(f"as_operator: {text}")
+
+
+def same(found: object, wanted: object, what: str) -> None:
+    if found != wanted:
+        wrong(f"{what}: {found!r} in place of {wanted!r}")
+
+
+def ended(*words: object) -> "subprocess.CompletedProcess[str]":
+    """A command that has ended, with all that it printed."""
+    return subprocess.run([str(it) for it in words], stdin=subprocess.DEVNULL, stdout=subprocess.PIPE, stderr=subprocess.STDOUT,
+                          universal_newlines=True, timeout=PATIENCE)
+
+
+def run(*words: object) -> str:
+    """What a command prints; it must go well."""
+    it = ended(*words)
+    same((it.returncode, it.stdout if it.returncode else ""), (0, ""), " ".join(map(str, words)))
+    return it.stdout
+
+
+def wait_until(what: str, is_so: Callable[[], bool]) -> None:
+    """Waits for something that must come."""
+    until = time.monotonic() + PATIENCE
+    while not is_so():
+        if time.monotonic() > until:
+            wrong(f"{what} didn't come")
+        time.sleep(0.05)
+
+
+# The unit, as systemd shows it
+
+
+def shown(unit: str, name: str) -> str:
+    """A property of a unit."""
+    return run("systemctl", "show", "--value", "--property", name, unit).strip()
+
+
+def state(unit: str) -> Tuple[str, str]:
+    """Whether a unit is active, and how it ended."""
+    return shown(unit, "ActiveState"), shown(unit, "Result")
+
+
+def main_process(unit: str) -> int:
+    """The server of a unit; 0 if there is none."""
+    return int(shown(unit, "MainPID"))
+
+
+def servers() -> List[str]:
+    """The processes of servers."""
+    return [it.parent.name for it in Path("/proc").glob("[0-9]*/comm") if it.read_text() == "mwserve\n"]
+
+
+def journal(unit: str) -> List[str]:
+    """What the journal has of a unit in this boot: of its processes, and of systemd about it."""
+    return run("journalctl", "--boot", "--unit", unit, "--output", "cat", "--no-pager").splitlines()
+
+
+def wait_for_ready(unit: Unit, starts: int) -> None:
+    """Waits until the server has said so often in this boot that it is ready: systemd isn't told of it."""
+    ready = f"ready {unit.listen.rpartition(':')[2] if unit.name == PORT else unit.listen}"
+    wait_until(f"the line `{ready}` of {unit.name}", lambda: journal(unit.name).count(ready) >= starts)
+
+
+def ready_lines(unit: Unit) -> int:
+    """How many servers of this unit have become ready in this boot."""
+    return sum(line.startswith("ready ") for line in journal(unit.name))
+
+
+def begin(unit: Unit, how: str = "start") -> None:
+    """Starts a unit, or restarts it, and waits until it is ready."""
+    starts = ready_lines(unit) + 1
+    # (systemd refuses a sixth start in ten seconds, if nobody resets its count)
+    ended("systemctl", "reset-failed", unit.name)
+    run("systemctl", how, unit.name)
+    wait_for_ready(unit, starts)
+    same((run("systemctl", "is-active", unit.name), "active (running)" in run("systemctl", "status", unit.name)), ("active\n", True), unit.name)
+
+
+def end(unit: Unit) -> None:
+    """Stops a unit; it has not failed then."""
+    run("systemctl", "stop", unit.name)
+    same((*state(unit.name), main_process(unit.name)), ("inactive", "success", 0), f"{unit.name} after systemctl stop")
+
+
+class DropIn:
+    """A file beside the unit that adds lines to its section [Service], while a block runs."""
+
+    def __init__(self, unit: str, lines: str):
+        self.path, self.lines = Path(f"/etc/systemd/system/{unit}.service.d/tried.conf"), lines
+
+    def __enter__(self) -> None:
+        self.path.parent.mkdir(exist_ok=True)
+        self.path.write_text(f"[Service]\n{self.lines}")
+        run("systemctl", "daemon-reload")
+
+    def __exit__(self, *_: object) -> None:
+        self.path.unlink()
+        self.path.parent.rmdir()
+        run("systemctl", "daemon-reload")
+
+
+# The page's commands
+
+
+def blocks(section: str) -> List[List[Tuple[str, str]]]:
+    """The indented blocks of a section of OPERATING that have commands of root: each command, with what the page says that it prints."""
+    text = re.split(rf"^##+ {re.escape(section)}$", PAGE.read_text(), flags=re.MULTILINE)[1]
+    text = re.split(r"^##", text, flags=re.MULTILINE)[0]
+    found = []
+    for block in re.findall(r"(?:^ {4}.*\n)+", text + "\n", re.MULTILINE):
+        parts = re.split(r"^ +# ", block, flags=re.MULTILINE)[1:]
+        found.append([(first.split("   ")[0], "".join(f"{it.strip()}\n" for it in rest.splitlines()))
+                      for first, _, rest in (part.partition("\n") for part in parts)])
+    return [it for it in found if it]
+
+
+def type_block(block: List[Tuple[str, str]], folder: Path) -> None:
+    """Gives a block's commands to one shell, one by one. Each must go well, and print what the page says, if it says something."""
+    script = "".join(f"{command}\nprintf '\\n:%d\\n' $?\n" for command, _ in block)
+    told = subprocess.run(["bash"], input=script, cwd=folder, stdout=subprocess.PIPE, stderr=subprocess.STDOUT, universal_newlines=True, timeout=PATIENCE).stdout
+    parts = re.split(r"\n:(\d+)\n", told)
+    same(len(parts), 2 * len(block) + 1, f"the commands that ended, in {told!r}")
+    for (command, wanted), printed, status in zip(block, parts[::2], parts[1::2]):
+        same(status, "0", f"the status of `{command}`, which prints {printed!r}")
+        if wanted:
+            same(printed, wanted, f"what `{command}` prints")
+
+
+# What clients and root see
+
+
+def client(unit: Unit) -> Any:
+    """A client of the tenant t. The package's own: so it is imported once the package is installed."""
+    import mondlexi
+    return mondlexi.Client(unit.listen, "t")
+
+
+def try_to_talk(unit: Unit) -> int:
+    """A change answered YES, and a word that is read. Gives the word 0."""
+    with client(unit) as at:
+        before = int(at.get(0))
+        same((at.cas([(0, before, before + 1)]).made, at.get(0)), (True, before + 1), f"a change at {unit.name}")
+    run("mondlexi-check", unit.admin)
+    return before + 1
+
+
+def word(unit: Unit) -> int:
+    """The word 0."""
+    with client(unit) as at:
+        return int(at.get(0))
+
+
+def change_until_killed(unit: Unit) -> int:
+    """Changes word 0 until SIGKILL ends the server. Gives the value of the last change answered YES."""
+    import mondlexi
+    told = word(unit)
+    server = main_process(unit.name)
+    killer = threading.Timer(0.5, os.kill, (server, signal.SIGKILL))
+    killer.start()
+    try:
+        with client(unit) as at:
+            while at.cas([(0, told, told + 1)]).made:
+                told += 1
+    except mondlexi.Error:
+        pass
+    killer.join()
+    return told
+
+
+def field(process: int, name: str) -> str:
+    """A line of /proc/PID/status."""
+    return " ".join(re.findall(rf"^{name}:\s*(.*)$", Path(f"/proc/{process}/status").read_text(), re.MULTILINE)[0].split())
+
+
+def inside(process: int, command: str) -> str:
+    """What a shell of root prints in the mounts of a process."""
+    return ended("nsenter", "--target", process, "--mount", "sh", "-c", command).stdout
+
+
+def try_process(unit: Unit) -> None:
+    """The process has the user, the limits and the sandbox of its unit."""
+    process = main_process(unit.name)
+    user, group = pwd.getpwnam("mw"), ended("getent", "group", unit.group).stdout.split(":")[2]
+    same([field(process, it) for it in ("Uid", "Gid")], [" ".join(4 * [str(user.pw_uid)]), " ".join(4 * [group])], "user and group")
+    same([field(process, it) for it in ("NoNewPrivs", "Seccomp", "Umask")], ["1", "2", "0077"], "NoNewPrivileges=, SystemCallFilter=, UMask=")
+    same({int(field(process, it), 16) for it in ("CapInh", "CapPrm", "CapEff", "CapBnd", "CapAmb")}, {0}, "capabilities")
+    limits = Path(f"/proc/{process}/limits").read_text()
+    same([re.findall(rf"^{it} +(\S+) +(\S+)", limits, re.MULTILINE) for it in ("Max open files", "Max file size")],
+         [[("1024", "1024")], [("unlimited", "unlimited")]], "LimitNOFILE=, LimitFSIZE=")
+    same(shown(unit.name, "TasksMax"), "512", "TasksMax=")
+    for folder in ("/", "/etc", "/usr", "/var", "/run", "/run/lock", "/sys/kernel"):
+        same("Read-only file system" in inside(process, f"touch {folder}/tried"), True, f"that {folder} can't be written (ProtectSystem=, ReadOnlyPaths=)")
+    for folder in ("/srv/mw", *(["/run/mondlexi"] if unit.name == LOCAL else [])):
+        same(inside(process, f"touch {folder}/tried && rm {folder}/tried"), "", f"that {folder} can be written (ReadWritePaths=, RuntimeDirectory=)")
+    Path("/tmp/tried").touch()
+    Path("/home/tried").touch()
+    same(inside(process, "ls -A /tmp /home /root"), "/home:\n\n/root:\n\n/tmp:\n", "PrivateTmp=, ProtectHome=")
+    same(inside(process, "ls -d /dev/console /dev/kmsg /proc/meminfo 2> /dev/null; true"), "", "PrivateDevices=, ProcSubset=")
+    same(inside(process, "setpriv --reuid=mw --regid=mw --clear-groups ls -d /proc/1 2> /dev/null; true"), "", "ProtectProc=")
+    networks = [os.readlink(f"/proc/{it}/ns/net") for it in (1, process)]
+    same(networks[0] != networks[1], unit.name == LOCAL, "a network of its own (PrivateNetwork=)")
+
+
+def try_socket_users() -> None:
+    """A user may connect to the local socket once he is in the group mwclients, and not before."""
+    run("useradd", "--create-home", "alice")
+    connect = ("runuser", "-u", "alice", "--", "python3", "-c", "import mondlexi; print(mondlexi.Client('unix:/run/mondlexi/socket', 't').words)")
+    same("Permission denied" in ended(*connect).stdout, True, "that a user who isn't in mwclients is refused")
+    run("usermod", "-aG", "mwclients", "alice")
+    same(run(*connect), "1000\n", "what a user in mwclients hears")
+    run("runuser", "-u", "mw", "--", "mondlexi-check", "unix:/run/mondlexi/admin")
+
+
+def denies_addresses() -> bool:
+    """Whether IPAddressDeny= denies anything: a container may not be able to."""
+    send = "import socket; socket.socket(socket.AF_INET, socket.SOCK_DGRAM).sendto(b'', ('127.0.0.1', 9))"
+    return ended("systemd-run", "--wait", "--quiet", "--property=IPAddressDeny=any", "python3", "-c", send).returncode != 0
+
+
+# What is tried
+
+
+def try_unit(unit: Unit) -> None:
+    """A unit that runs: its process, a client, no reload, a restart, SIGKILL, a start and a stop."""
+    try_process(unit)
+    value = try_to_talk(unit)
+    server = main_process(unit.name)
+    refused = ended("systemctl", "reload", unit.name)
+    same((refused.returncode != 0, "not applicable" in refused.stdout, main_process(unit.name)), (True, True, server), "systemctl reload")
+    same(try_to_talk(unit), value + 1, "the word after a reload that was refused")
+    begin(unit, "restart")
+    same((main_process(unit.name) != server, word(unit)), (True, value + 1), "the word after a restart")
+    value = change_until_killed(unit)
+    wait_until("the end of a killed server", lambda: main_process(unit.name) == 0)
+    same((*state(unit.name), ended("systemctl", "is-failed", unit.name).stdout), ("failed", "signal", "failed\n"), "a unit whose server was killed")
+    time.sleep(1)
+    same((state(unit.name)[0], shown(unit.name, "NRestarts")), ("failed", "0"), "a unit whose server was killed, a second later")
+    begin(unit)
+    same(word(unit) in (value, value + 1), True, f"the word {word(unit)} after SIGKILL, of whom the last YES was for {value}")
+    try_to_talk(unit)
+    end(unit)
+    print(f"{unit.name}: started, its process as the unit says, talked to, no reload, restarted, killed at change {value}, started, stopped")
+
+
+def try_second_unit() -> None:
+    """The other unit, while the first one serves: it runs, and finds the file in use."""
+    begin(UNITS[0])
+    begin(UNITS[1])
+    same((ended("mondlexi-check", UNITS[1].admin).stdout, "tenant t: in use" in "".join(journal(PORT))), ("down: t\n", True), "a second server")
+    end(UNITS[1])
+    end(UNITS[0])
+    print("a second unit on the same files: in use")
+
+
+def try_restart_on_abnormal(unit: Unit) -> None:
+    """With the Restart= of OPERATING a unit whose server was killed is started again."""
+    with DropIn(unit.name, "Restart=on-abnormal\n"):
+        begin(unit)
+        value, server, starts = try_to_talk(unit), main_process(unit.name), ready_lines(unit)
+        os.kill(server, signal.SIGKILL)
+        wait_for_ready(unit, starts + 1)
+        same((main_process(unit.name) not in (0, server), word(unit)), (True, value), "a unit with Restart=on-abnormal after SIGKILL")
+        end(unit)
+    print("Restart=on-abnormal: a killed server is started again")
+
+
+def try_strict(unit: Unit) -> None:
+    """With --strict the unit fails if a tenant's file doesn't open; without it the unit runs, and the tenant is down."""
+    command = re.findall(r"^ExecStart=(.*)$", run("systemctl", "cat", unit.name), re.MULTILINE)[0]
+    (ROOM / "t.mw").rename(ROOM / "t.away")
+    with DropIn(unit.name, f"ExecStart=\nExecStart={command} --strict\n"):
+        run("systemctl", "start", unit.name)
+        wait_until("the end of a server with --strict", lambda: state(unit.name)[0] == "failed")
+        same((*state(unit.name), shown(unit.name, "ExecMainStatus")), ("failed", "exit-code", "1"), "a unit with --strict whose file isn't there")
+        same("tenant t: disk" in journal(unit.name), True, "its note in the journal")
+    (ROOM / "t.away").rename(ROOM / "t.mw")
+    print("--strict: the unit fails, with status 1, if a file doesn't open")
+
+
+def try_own_administrators(unit: Unit) -> None:
+    """The administrator's socket in a folder for another group, by the lines of OPERATING."""
+    lines = re.findall(r"^ +((?:ReadWritePaths|ExecStartPre)=.*)$", PAGE.read_text(), re.MULTILINE)
+    same([it.split("=")[0] for it in lines], ["ReadWritePaths", "ExecStartPre"], "the lines of OPERATING for another group")
+    run("groupadd", "--system", "mwadmins")
+    command = re.findall(r"^ExecStart=(.*)$", run("systemctl", "cat", unit.name), re.MULTILINE)[0]
+    command = command.replace(f"--admin {unit.admin}", "--admin unix:/run/mondlexi-admin/socket")
+    with DropIn(unit.name, "\n".join([*lines, "ExecStart=", f"ExecStart={command}", ""])):
+        begin(unit)
+        same(run("stat", "-c", "%U %G %a", "/run/mondlexi-admin", "/run/mondlexi-admin/socket"), "mw mwadmins 2750\nmw mwadmins 660\n", "folder and socket")
+        run("mondlexi-check", "unix:/run/mondlexi-admin/socket")
+        try_to_talk(unit._replace(admin="unix:/run/mondlexi-admin/socket"))
+        end(unit)
+    print("the administrator's socket for a group of its own")
+
+
+def try_page(unit: Unit) -> None:
+    """The page's commands for a backup, to restore it, when a tenant is down, and for more words."""
+    begin(unit)
+    try_to_talk(unit)
+    value = word(unit)
+    backup, restore = blocks("Backup")
+    type_block(backup, ROOM)
+    wait_until("the server after a backup", lambda: ended("mondlexi-check", unit.admin).returncode == 0)
+    try_to_talk(unit)
+    type_block(restore, ROOM)
+    wait_until("the server after that was restored", lambda: ended("mondlexi-check", unit.admin).returncode == 0)
+    same(word(unit), value, "the word of a backup that was restored")
+    type_block(blocks("When a tenant is down")[0], ROOM)
+    same(state(unit.name), ("inactive", "success"), "the unit while a tenant is mended")
+    type_block(blocks("Changing tenants")[0], ROOM)
+    wait_until("the server after the tenant has grown", lambda: ended("mondlexi-check", unit.admin).returncode == 0)
+    with client(unit) as at:
+        same((at.words, at.get(0)), (2000, value), "the tenant that has grown")
+    print("the page's commands for a backup, to restore it, when a tenant is down, and for more words")
+
+
+def first_boot(deb: str) -> None:
+    """Installs the package, and tries all but the removal."""
+    PAGE.parent.mkdir(parents=True, exist_ok=True)
+    PAGE.write_text(run("sh", "-c", f"dpkg-deb --fsys-tarfile {deb} | tar -xO .{PAGE}"))
+    local, port = UNITS
+    install = [(f"dpkg -i {deb}" if command.startswith("dpkg -i ") else command, wanted) for command, wanted in blocks("As a service")[0]]
+    type_block(install[:1], Path("/root"))
+    same([ended("systemctl", it, unit.name).stdout.strip() for unit in UNITS for it in ("is-enabled", "is-active")], 2 * ["disabled", "inactive"], "new units")
+    # (the page's next command but one starts the unit; the check after it may come before the server listens)
+    type_block(install[1:-1], Path("/root"))
+    wait_for_ready(local, 1)
+    same(install[-1][1], "all up\n", "the last command of the page")
+    type_block(install[-1:], Path("/root"))
+    same(ended("systemctl", "is-enabled", LOCAL).stdout, "enabled\n", "the unit that was enabled")
+    print("installed with dpkg, and started, by the page's commands")
+    try_socket_users()
+    try_unit(local)
+    begin(port)
+    try_unit(port)
+    if not denies_addresses():
+        print("left out: IPAddressDeny=, which denies nothing in this container")
+    try_second_unit()
+    try_restart_on_abnormal(port)
+    try_strict(local)
+    try_own_administrators(local)
+    try_page(local)
+
+
+def second_boot(deb: str) -> None:
+    """The unit that was enabled runs; the package is installed again, removed and purged."""
+    local = UNITS[0]
+    wait_for_ready(local, 1)
+    value = try_to_talk(local)
+    listed = [it for it in run("dpkg", "--listfiles", "mondlexi").splitlines() if Path(it).is_file()]
+    run("dpkg", "--install", deb)
+    same(state(LOCAL), ("inactive", "success"), "the unit after another package was installed")
+    begin(local)
+    same(word(local), value, "the word after another package was installed")
+    print("the next boot: the unit that was enabled runs. Installed again: stopped, and started by hand")
+    for how in ("--remove", "--purge"):
+        run("dpkg", how, "mondlexi")
+        same(shown(LOCAL, "LoadState"), "not-found", f"the unit after dpkg {how}")
+        left = [it for it in (*listed, "/run/mondlexi") if Path(it).exists()]
+        left += [str(it) for it in Path("/etc/systemd/system").rglob("mondlexi*") if how == "--purge"]
+        same((left, (ROOM / "t.mw").exists(), servers()), ([], True, []), f"what dpkg {how} leaves")
+        run("getent", "passwd", "mw")
+    print("removed and purged while it ran: stopped first; the user and the tenant's file stay")
+
+
+def main() -> None:
+    """Does what the head says."""
+    _, deb, boot = sys.argv
+    os.umask(0o022)
+    sys.path.append("/usr/lib/python3/dist-packages")
+    first_boot(deb) if boot == "1" else second_boot(deb)
+    print("all well")
+
+
+if __name__ == "__main__":
+    main()

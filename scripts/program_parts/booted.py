@@ -1,0 +1,110 @@
+"""Boots a folder with a Debian in a container, and lets as_operator.py do there what an operator does.
+
+Used by: scripts/check-package, as root. The container has systemd as its first process, a network of its own and a limit of time, and
+ends when this process does, however that ends. Nothing stays mounted.
+"""
+import ctypes
+import os
+import shutil
+import signal
+import subprocess
+import time
+from pathlib import Path
+from typing import List
+
+from .common import wrong
+
+LIMIT = 180
+"""For how many seconds one boot may go on; it takes less than a minute on two cores."""
+GRACE = 10
+"""For how many seconds a halt may take."""
+PLACE = Path("root/tried")
+STEPS = Path(__file__).resolve().parent / "as_operator.py"
+UNIT = """[Unit]
+Description=What scripts/check-package tries
+SuccessAction=poweroff
+FailureAction=poweroff
+[Service]
+ExecStart=/usr/bin/python3 -u /{place}/as_operator.py /{place}/{deb} {boot}
+StandardOutput=file:/{place}/told
+StandardError=file:/{place}/errors
+ExecStopPost=sh -c 'journalctl --boot --no-pager > /{place}/journal'
+RuntimeMaxSec={limit}
+"""
+LEFT = [Path("/sys/fs/cgroup") / kind / name for kind in ("systemd", "unified", ".") for name in ("payload", "supervisor")]
+"""The control groups that systemd-nspawn makes, and leaves, on a machine that runs no systemd."""
+END_WITH_PARENT = 1
+"""prctl's PR_SET_PDEATHSIG."""
+
+
+def end_with_parent() -> None:
+    """In a new child: has the system kill it when its parent ends."""
+    ctypes.CDLL(None).prctl(END_WITH_PARENT, signal.SIGKILL)
+
+
+def prepare(root: Path, deb: Path, boot: int) -> None:
+    """Puts the package and what is done with it into the folder, and has the boot start it."""
+    place = root / PLACE
+    place.mkdir(exist_ok=True)
+    for it in ("told", "errors", "journal", "console"):
+        (place / it).unlink(missing_ok=True)
+    shutil.copy(STEPS, place)
+    shutil.copy(deb, place)
+    name, units = "tried.service", root / "etc/systemd/system"
+    (units / name).write_text(UNIT.format(place=PLACE, deb=deb.name, boot=boot, limit=LIMIT))
+    (units / "multi-user.target.wants").mkdir(exist_ok=True)
+    if not (units / "multi-user.target.wants" / name).is_symlink():
+        (units / "multi-user.target.wants" / name).symlink_to(f"../{name}")
+
+
+def boot_once(root: Path) -> None:
+    """Boots the folder, and waits until it has halted."""
+    own = [] if Path("/run/systemd/system").is_dir() else ["--keep-unit"]
+    name = f"check-package-{os.getpid()}"
+    left = [*(it for it in LEFT if not it.exists()), Path("/run/systemd/nspawn/propagate") / name]
+    # (in namespaces of its own: what the container leaves mounted goes with it, and each of its processes ends with unshare)
+    words = ["unshare", "--mount", "--pid", "--fork", "--kill-child", "--mount-proc",
+             "systemd-nspawn", "--quiet", "--register=no", *own, "--private-network", "--machine", name, "--boot", "--directory", str(root)]
+    with open(root / PLACE / "console", "wb") as console:
+        container = subprocess.Popen(words, stdin=subprocess.DEVNULL, stdout=console, stderr=subprocess.STDOUT,
+                                     start_new_session=True, preexec_fn=end_with_parent)
+    try:
+        container.wait(LIMIT + GRACE)
+    except subprocess.TimeoutExpired:
+        pass
+    finally:
+        container.kill()
+        container.wait()
+        for top in left:
+            remove_folders(top)
+
+
+def remove_folders(top: Path) -> None:
+    """Removes a folder of folders, such as a control group, once nothing runs there any more."""
+    until = time.monotonic() + GRACE
+    while top.exists() and time.monotonic() < until:
+        for folder in [*sorted(top.rglob("*/"), reverse=True), top]:
+            try:
+                folder.rmdir()
+            except OSError:
+                time.sleep(0.01)
+
+
+def told(root: Path, name: str) -> str:
+    """A file that a boot has left."""
+    path = root / PLACE / name
+    return path.read_text(errors="replace") if path.exists() else ""
+
+
+def try_booted(root: Path, deb: Path) -> List[str]:
+    """Boots the folder twice, and does there what an operator does. Gives what was tried."""
+    lines = []
+    for boot in (1, 2):
+        prepare(root, deb, boot)
+        boot_once(root)
+        found = told(root, "told").splitlines()
+        if found[-1:] != ["all well"]:
+            last = "\n".join((told(root, "journal") or told(root, "console")).splitlines()[-40:])
+            wrong("\n".join([f"{deb.name} in a Debian that was booted ({boot})", *found, told(root, "errors"), last]))
+        lines += found[:-1]
+    return lines
