@@ -159,7 +159,8 @@ def blocks(section: str) -> List[List[Tuple[str, str]]]:
 def type_block(block: List[Tuple[str, str]], folder: Path) -> None:
     """Gives a block's commands to one shell, one by one. Each must go well, and print what the page says, if it says something."""
     script = "".join(f"{command}\nprintf '\\n:%d\\n' $?\n" for command, _ in block)
-    told = subprocess.run(["bash"], input=script, cwd=folder, stdout=subprocess.PIPE, stderr=subprocess.STDOUT, universal_newlines=True, timeout=PATIENCE).stdout
+    told = subprocess.run(["bash"], input=script, cwd=folder, stdout=subprocess.PIPE, stderr=subprocess.STDOUT,
+                          universal_newlines=True, timeout=PATIENCE).stdout
     parts = re.split(r"\n:(\d+)\n", told)
     same(len(parts), 2 * len(block) + 1, f"the commands that ended, in {told!r}")
     for (command, wanted), printed, status in zip(block, parts[::2], parts[1::2]):
@@ -223,7 +224,7 @@ def try_process(unit: Unit) -> None:
     """The process has the user, the limits and the sandbox of its unit."""
     process = main_process(unit.name)
     user, group = pwd.getpwnam("mw"), ended("getent", "group", unit.group).stdout.split(":")[2]
-    same([field(process, it) for it in ("Uid", "Gid")], [" ".join(4 * [str(user.pw_uid)]), " ".join(4 * [group])], "user and group")
+    same([field(process, it).split() for it in ("Uid", "Gid")], [4 * [str(user.pw_uid)], 4 * [group]], "user and group")
     same([field(process, it) for it in ("NoNewPrivs", "Seccomp", "Umask")], ["1", "2", "0077"], "NoNewPrivileges=, SystemCallFilter=, UMask=")
     same({int(field(process, it), 16) for it in ("CapInh", "CapPrm", "CapEff", "CapBnd", "CapAmb")}, {0}, "capabilities")
     limits = Path(f"/proc/{process}/limits").read_text()
@@ -231,7 +232,8 @@ def try_process(unit: Unit) -> None:
          [[("1024", "1024")], [("unlimited", "unlimited")]], "LimitNOFILE=, LimitFSIZE=")
     same(shown(unit.name, "TasksMax"), "512", "TasksMax=")
     for folder in ("/", "/etc", "/usr", "/var", "/run", "/run/lock", "/sys/kernel"):
-        same("Read-only file system" in inside(process, f"touch {folder}/tried"), True, f"that {folder} can't be written (ProtectSystem=, ReadOnlyPaths=)")
+        refused = "Read-only file system" in inside(process, f"touch {folder}/tried")
+        same(refused, True, f"that {folder} can't be written (ProtectSystem=, ReadOnlyPaths=)")
     for folder in ("/srv/mw", *(["/run/mondlexi"] if unit.name == LOCAL else [])):
         same(inside(process, f"touch {folder}/tried && rm {folder}/tried"), "", f"that {folder} can be written (ReadWritePaths=, RuntimeDirectory=)")
     Path("/tmp/tried").touch()
@@ -328,7 +330,8 @@ def try_own_administrators(unit: Unit) -> None:
     command = command.replace(f"--admin {unit.admin}", "--admin unix:/run/mondlexi-admin/socket")
     with DropIn(unit.name, "\n".join([*lines, "ExecStart=", f"ExecStart={command}", ""])):
         begin(unit)
-        same(run("stat", "-c", "%U %G %a", "/run/mondlexi-admin", "/run/mondlexi-admin/socket"), "mw mwadmins 2750\nmw mwadmins 660\n", "folder and socket")
+        made = run("stat", "-c", "%U %G %a", "/run/mondlexi-admin", "/run/mondlexi-admin/socket")
+        same(made, "mw mwadmins 2750\nmw mwadmins 660\n", "folder and socket")
         run("mondlexi-check", "unix:/run/mondlexi-admin/socket")
         try_to_talk(unit._replace(admin="unix:/run/mondlexi-admin/socket"))
         end(unit)
@@ -363,7 +366,8 @@ def first_boot(deb: str) -> None:
     local, port = UNITS
     install = [(f"dpkg -i {deb}" if command.startswith("dpkg -i ") else command, wanted) for command, wanted in blocks("As a service")[0]]
     type_block(install[:1], Path("/root"))
-    same([ended("systemctl", it, unit.name).stdout.strip() for unit in UNITS for it in ("is-enabled", "is-active")], 2 * ["disabled", "inactive"], "new units")
+    found = [ended("systemctl", it, unit.name).stdout.strip() for unit in UNITS for it in ("is-enabled", "is-active")]
+    same(found, 2 * ["disabled", "inactive"], "new units")
     # (the page's next command but one starts the unit; the check after it may come before the server listens)
     type_block(install[1:-1], Path("/root"))
     wait_for_ready(local, 1)

@@ -10,9 +10,10 @@ import signal
 import subprocess
 import time
 from pathlib import Path
-from typing import List
+from typing import Callable, List
 
 from .common import wrong
+from .debian import GROUPS
 
 LIMIT = 180
 """For how many seconds one boot may go on; it takes less than a minute on two cores."""
@@ -31,15 +32,28 @@ StandardError=file:/{place}/errors
 ExecStopPost=sh -c 'journalctl --boot --no-pager > /{place}/journal'
 RuntimeMaxSec={limit}
 """
-LEFT = [Path("/sys/fs/cgroup") / kind / name for kind in ("systemd", "unified", ".") for name in ("payload", "supervisor")]
-"""The control groups that systemd-nspawn makes, and leaves, on a machine that runs no systemd."""
+PROPAGATED = Path("/run/systemd/nspawn/propagate")
+"""Where systemd-nspawn makes a folder for each container, and leaves it."""
 END_WITH_PARENT = 1
 """prctl's PR_SET_PDEATHSIG."""
 
 
-def end_with_parent() -> None:
-    """In a new child: has the system kill it when its parent ends."""
-    ctypes.CDLL(None).prctl(END_WITH_PARENT, signal.SIGKILL)
+def own_groups(name: str) -> List[Path]:
+    """Makes a control group for a container in each tree that systemd uses. None where systemd runs, which makes one itself."""
+    trees = [] if Path("/run/systemd/system").is_dir() else [GROUPS / "systemd", GROUPS / "unified", GROUPS]
+    made = [it / name for it in trees if (it / "cgroup.procs").exists()]
+    for it in made:
+        it.mkdir()
+    return made
+
+
+def begin_in(groups: List[Path]) -> Callable[[], None]:
+    """What a new child does first: it enters these groups, and has the system kill it when its parent ends."""
+    def begin() -> None:
+        ctypes.CDLL(None).prctl(END_WITH_PARENT, signal.SIGKILL)
+        for it in groups:
+            (it / "cgroup.procs").write_text("0")
+    return begin
 
 
 def prepare(root: Path, deb: Path, boot: int) -> None:
@@ -59,15 +73,15 @@ def prepare(root: Path, deb: Path, boot: int) -> None:
 
 def boot_once(root: Path) -> None:
     """Boots the folder, and waits until it has halted."""
-    own = [] if Path("/run/systemd/system").is_dir() else ["--keep-unit"]
     name = f"check-package-{os.getpid()}"
-    left = [*(it for it in LEFT if not it.exists()), Path("/run/systemd/nspawn/propagate") / name]
+    groups = own_groups(name)
     # (in namespaces of its own: what the container leaves mounted goes with it, and each of its processes ends with unshare)
     words = ["unshare", "--mount", "--pid", "--fork", "--kill-child", "--mount-proc",
-             "systemd-nspawn", "--quiet", "--register=no", *own, "--private-network", "--machine", name, "--boot", "--directory", str(root)]
+             "systemd-nspawn", "--quiet", "--register=no", *(["--keep-unit"] if groups else []), "--private-network",
+             "--machine", name, "--boot", "--directory", str(root)]
     with open(root / PLACE / "console", "wb") as console:
         container = subprocess.Popen(words, stdin=subprocess.DEVNULL, stdout=console, stderr=subprocess.STDOUT,
-                                     start_new_session=True, preexec_fn=end_with_parent)
+                                     start_new_session=True, preexec_fn=begin_in(groups))
     try:
         container.wait(LIMIT + GRACE)
     except subprocess.TimeoutExpired:
@@ -75,7 +89,7 @@ def boot_once(root: Path) -> None:
     finally:
         container.kill()
         container.wait()
-        for top in left:
+        for top in (*groups, PROPAGATED / name):
             remove_folders(top)
 
 
