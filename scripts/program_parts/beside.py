@@ -27,6 +27,8 @@ KIND = re.compile(r"([A-Z]+) (\d+): mean (\d+) us, p50 (\d+) us, p90 (\d+) us, p
 KINDS = ["YES", "NO", "BUSY", "VAL"]
 FIGURES = ["changes a second", "reads a second", "refusals", "p50", "p90", "p99", "p99.9", "slowest"]
 TIMES = ["mean_us", "p50_us", "p90_us", "p95_us", "p99_us", "p99_9_us", "slowest_us"]
+MOST_BUSY = 2100
+"""How often a line of a client may be told BUSY in two seconds: it waits for a millisecond at least after each."""
 WRONG_SUMS = "mwbench: the words are not the sums of the replies YES\n"
 
 
@@ -91,7 +93,10 @@ def check_load(server):
         kinds = [KIND.fullmatch(line) for line in lines[2:6]]
         same([kind and kind.group(1) for kind in kinds], KINDS, f"the kinds of reply of mwbench {more}")
         same([re.fullmatch(f"{re.escape(text)} \\d+( us)?", line) is not None for line, text in zip(lines[6:], FIGURES)], 8 * [True], "the figures of mwbench")
-        try_kinds([[int(it) for it in kind.groups()[1:]] for kind in kinds], [int(line.split()[-1]) for line in lines[6:9]], f"mwbench {more}")
+        numbers = [[int(it) for it in kind.groups()[1:]] for kind in kinds]
+        try_kinds(numbers, [int(line.split()[-1]) for line in lines[6:9]], f"mwbench {more}")
+        at_once = int(more[1]) * (int(more[3]) if more[2:3] == ("--pipeline",) else 1)
+        same(numbers[2][0] <= MOST_BUSY * at_once, True, f"that mwbench {more} waits after BUSY, which came {numbers[2][0]} times")
         try_json(at, more)
     for wrong_words, wanted in ((("--clients", "64"), 1), (("--clients", "0"), 2), (("--clients", "1", "--reads", "101"), 2)):
         same(end_load(begin_load(*at, *wrong_words))[0], wanted, f"status of mwbench {wrong_words}")

@@ -27,6 +27,7 @@ pub use client::Client;
 pub use conversation::{exchange, next_reply};
 pub use laws::what_is_sent_is_read;
 pub use meanings::{Failure, Outcome, outcome_told, value_told};
+pub use pauses::Pauses;
 pub use replies::read_reply;
 pub use report::next_report;
 pub use requests::{LineText, MAX_SENT, request_text};

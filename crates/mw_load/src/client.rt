@@ -4,14 +4,14 @@
 use crate::command_line::MAX_PIPELINE;
 use crate::replies::Replies;
 use arrayvec::ArrayVec;
-use mw_client::{SocketClient, next_reply, request_text};
+use mw_client::{Pauses, SocketClient, next_reply, request_text};
 use mw_line::{Request, Say};
 use mw_words::{Entries, Entry, Job, MAX_VALUE, MAX_WORDS, Reply};
 use rand_core::{Rng, SeedableRng};
 use rand_xoshiro::Xoshiro256PlusPlus;
 use std::alloc::{AllocError, Global};
 use std::io::Write;
-use std::time::{Clock, Instant};
+use std::time::{Clock, Duration, Instant};
 
 /// What one client must do.
 #[derive(Clone, Copy)]
@@ -84,6 +84,10 @@ pub struct Asker {
     pub counts: Counts,
     /// How long they took.
     pub replies: Replies,
+    /// Whether a reply of the last round was `BUSY`.
+    is_busy: bool,
+    /// The pauses since then, if so.
+    pauses: Option<Pauses>,
 }
 
 impl Asker {
@@ -108,6 +112,8 @@ impl Asker {
             lines: Vec::new(alloc),
             counts: Counts::none(),
             replies: Replies::new(alloc)?,
+            is_busy: false,
+            pauses: None,
         })
     }
 
@@ -123,6 +129,7 @@ impl Asker {
         let Ok(begun) = Instant::now(clock) else {
             return Err(Stop::Here);
         };
+        self.is_busy = false;
         if self.client.writer.write_all(&self.lines).is_err() {
             return Err(Stop::Lost);
         }
@@ -136,6 +143,20 @@ impl Asker {
             self.note(*line, said, nanos_of(taken.as_nanos()))?;
         }
         Ok(())
+    }
+
+    /// Waits if the server was busy in the last round, as a client of mw_client does: twice as long each time.
+    pub fn pause<K: Clock>(&mut self, clock: &K) {
+        if !self.is_busy {
+            self.pauses = None;
+            return;
+        }
+        let mut pauses = match self.pauses.take() {
+            Some(pauses) => pauses,
+            None => Pauses::begin(clock, Duration::MAX),
+        };
+        let _ = pauses.wait(clock);
+        self.pauses = Some(pauses);
     }
 
     /// Makes the lines of a round, and gives what they ask for. Gives None if memory was refused, or no
@@ -199,6 +220,7 @@ impl Asker {
             }
             (Asked::Change(_), Say::Store(Reply::Busy)) => {
                 self.replies.busy.note(nanos);
+                self.is_busy = true;
                 self.counts.refused = self.counts.refused.saturating_add(1);
                 Ok(())
             }

@@ -105,6 +105,7 @@ fn work_on<R: Wait + Clock>(rt: &R, asker: &mut Asker, board: &Board) -> Option<
         if let Err(stop) = went {
             return Some(stop);
         }
+        asker.pause(rt);
     }
     unreachable!()
 }
