@@ -9,10 +9,11 @@ use Rattle.mw_record.specs.Records.{holds}
 use Rattle.mw_record.specs.Layout.{pairs_of}
 use Rattle.mw_file.specs.declared.place_states.PlaceState.{PlaceState}
 use Rattle.mw_file.specs.declared.place_states.Stage.TheVariants.{Free as FreeStage, Prepared as PreparedStage, Sealed as SealedStage}
-use Rattle.mw_file.specs.PlaceStates.{MaySeal}
+use Rattle.mw_file.specs.PlaceStates.{stage_of, MaySeal}
 use Rattle.mw_world_file.specs.Devices.{stage_told}
 use Rattle.mw_world_file.specs.Files.{File, Place, Empty, Prepared, Sealed, is_empty, is_prepared, is_sealed, entries_in, entries_at, share_a_word, is_apart}
-use Rattle.mw_book.specs.Representation.{ArePlaced}
+use Rattle.mw_book.specs.Representation.{ArePlaced, is_settled}
+use Rattle.mw_book.proofs.PlacesAhead.{held_plain, plain_open, told_busy}
 
 -- what the test says of all places it says of each
 apart_at : (file : File) (entries : List Entry) (n k : ℕ) → is_apart file entries n ≡ true → k < n → not (is_sealed (file.places k) && share_a_word entries (entries_at file k)) ≡ true
@@ -74,14 +75,27 @@ sealed_stage Empty is = absurd (let e : false ≡ true = is in cc)
 sealed_stage (Prepared entries) is = absurd (let e : false ≡ true = is in cc)
 sealed_stage (Sealed entries) is = refl
 
+open_prepared : (p : Place) → is_prepared p ≡ true → is_sealed p ≡ false
+open_prepared Empty is = refl
+open_prepared (Prepared entries) is = refl
+open_prepared (Sealed entries) is = absurd (let e : false ≡ true = is in cc)
+
+-- a prepared place is prepared in the file
+pub prepared_held : (states : List PlaceState) (settled : List Bool) (places : ℕ) (file : File) (place : ℕ) → ArePlaced states settled places file.places → place < places
+    → is_prepared (file.places place) ≡ true → stage_of states place ≡ PreparedStage
+prepared_held states settled places file place placed within prepared =
+    placed.stages place within
+    ∙ held_plain (is_settled settled place) (file.places place) (plain_open states settled places file.places placed place within (open_prepared (file.places place) prepared))
+    ∙ prepared_stage (file.places place) prepared
+
 -- if no sealed place shares a word with a prepared change, the change may be sealed
-pub may_seal : (states : List PlaceState) (places : ℕ) (file : File) (place : ℕ) → ArePlaced states places file.places → place < places
+pub may_seal : (states : List PlaceState) (settled : List Bool) (places : ℕ) (file : File) (place : ℕ) → ArePlaced states settled places file.places → place < places
     → is_prepared (file.places place) ≡ true → is_apart file (entries_at file place) places ≡ true → MaySeal states place
-may_seal states places file place placed within prepared all = record {
-  prepared = placed.stages place within ∙ prepared_stage (file.places place) prepared;
+may_seal states settled places file place placed within prepared all = record {
+  prepared = prepared_held states settled places file place placed within prepared;
   apart = λ other a sealed held. elim (cases_lt other places) [
     | inl lt ↦
-        let told : stage_told (file.places other) ≡ SealedStage = sym (placed.stages other lt) ∙ sealed in
+        let told : stage_told (file.places other) ≡ SealedStage = told_busy (is_settled settled other) (file.places other) SealedStage refl (sym (placed.stages other lt) ∙ sealed) in
         let none = none_shared (file.places other) (entries_at file place) told (apart_at file (entries_at file place) places other all lt) in
         let mine = placed.writes place within (busy_prepared (file.places place) prepared) in
         let its = placed.writes other lt (busy_sealed (file.places other) told) in

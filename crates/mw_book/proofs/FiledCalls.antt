@@ -1,15 +1,14 @@
 -- Each call on a book ends as its contract says, whether the device fails in it or not.
 -- Used by: the proofs of all calls of Book. It may change freely as long as this crate checks.
-use Rattle.std.proofs.Common.{◌≡◌, ℕ, ◌+◌, ◌<◌, ◌≤◌, Bool, true, false, List, [], length, Some, Result, Ok, Err, is_err, slice_set, nat_le, IsTrue, refl, sym, ap, subst, ◌∙◌, arith}
-use Rattle.std.proofs.lemmas.Bool.{and_from, le-leb}
-use Rattle.std.proofs.lemmas.Option.{same_Some}
+use Rattle.std.proofs.Common.{◌≡◌, ℕ, ◌+◌, ◌<◌, ◌≤◌, Bool, true, false, List, [], length, Some, Result, Ok, Err, is_err, slice_set, nat_le, IsTrue, refl, sym, ap, subst, ◌∙◌, inl, inr, arith}
+use Rattle.std.proofs.lemmas.Bool.{and_from, cases_eq, le-leb}
 use Rattle.mw_words.specs.declared.limits.TheConstants.{MAX_POOL}
 use Rattle.mw_words.specs.declared.jobs.Entry.{Entry}
 use Rattle.mw_words.specs.Change.{put}
 use Rattle.mw_look.specs.declared.steps.Call.{Call}
 use Rattle.mw_look.specs.declared.steps.Call.TheVariants.{Prepare as PrepareCall, Seal as SealCall, Settle as SettleCall, Cancel as CancelCall}
 use Rattle.mw_disk.specs.Facts.{Facts}
-use Rattle.mw_disk.specs.Runs.{Good, Later}
+use Rattle.mw_disk.specs.Runs.{Bad, Good, Later}
 use Rattle.mw_disk.proofs.RunLaws.{later_refl, was_honest, good_none}
 use Rattle.mw_record.specs.Records.{Pairs, put_pairs}
 use Rattle.mw_record.specs.Layout.{pairs_of}
@@ -22,7 +21,7 @@ use Rattle.mw_file.specs.declared.tenant_file.FileFault.{FileFault}
 use Rattle.mw_file.specs.declared.tenant_file.FileFault.TheVariants.{Disk, Failed}
 use Rattle.mw_file.specs.File.{disk_of, states_of, has_failed, WentWell, MetFault, Ends as FileEnds}
 use Rattle.mw_file.specs.RecoveryInvariant.{RecoversTo, CrashSafe, ContentsStay, ChangeIsSealed}
-use Rattle.mw_file.specs.PlaceStates.{is_free_stage, free_place, stage_of, writes_of_place, IsStaged}
+use Rattle.mw_file.specs.PlaceStates.{is_free_stage, roll_calls, stage_of, writes_of_place, AreFreed, IsStaged}
 use Rattle.mw_world_file.specs.Calls.{fails_on, place_for, device_calls, is_made, doubt_of}
 use Rattle.mw_world_file.specs.Crashes.{at_stake}
 use Rattle.mw_world_file.specs.Files.{File, Empty, Prepared, Sealed, entries_at, broken, prepared, sealed, emptied}
@@ -33,13 +32,15 @@ use Rattle.mw_book.specs.declared.answers.Filed.TheVariants.{Made, Broken, Untou
 use Rattle.mw_book.specs.declared.book.Book.{Book}
 use Rattle.mw_book.specs.Answers.{is_refused, NoFault, OneFault}
 use Rattle.mw_book.specs.Crashes.{LeavesEither}
-use Rattle.mw_book.specs.Ends.{FailedAt}
+use Rattle.mw_book.specs.Ends.{FailedAt, calls_on, settle_calls}
 use Rattle.mw_book.specs.CallOutcome.{IsFiled}
-use Rattle.mw_book.specs.Permits.{HasPlace}
-use Rattle.mw_book.specs.OpenFile.{states_in, disk_in}
-use Rattle.mw_book.specs.Representation.{ArePlaced, Represents, HasParts, place_at}
-use Rattle.mw_book.proofs.FoundPlaces.{found_at}
-use Rattle.mw_book.proofs.RepresentedFiles.{shows_parts, on_disk, on_same, leaves_either, untouched, there_held, failed_as, placed_in, keeps_in, certain, same_place, place_within, writes_called, as_many}
+use Rattle.mw_book.specs.SettledAhead.{ahead_after, ahead_by_settle}
+use Rattle.mw_book.specs.Permits.{HasPlace, vacant_place}
+use Rattle.mw_book.specs.OpenFile.{states_in, disk_in, OnDisk}
+use Rattle.mw_book.specs.Representation.{ArePlaced, Represents, HasParts, is_settled, place_at}
+use Rattle.mw_book.proofs.FoundPlaces.{found_at, vacant_plain}
+use Rattle.mw_book.proofs.PlacesAhead.{placed_let_go, placed_rolled}
+use Rattle.mw_book.proofs.RepresentedFiles.{shows_parts, on_disk, on_same, leaves_either, untouched, failed_as, placed_in, keeps_in, certain, same_place, place_within, plain_at, writes_called}
 use Rattle.mw_book.proofs.StagedPlaces.{placed_on, placed_as}
 
 -- the same fact, if the call is known by another name
@@ -54,10 +55,20 @@ refused_so SealCall failed other = refl
 refused_so SettleCall failed other = refl
 refused_so CancelCall failed other = absurd (other refl)
 
+-- a call that was not made settles no change ahead
+same_ahead : {D : Type 0} (call : Call) (answer : Filed) (slot : ℕ) (old : Book D) → (answer ≡ Made → ⊥) → (place : ℕ) → is_settled old.settled place ≡ ahead_after call slot old answer place
+same_ahead PrepareCall answer slot old other place = refl
+same_ahead SealCall answer slot old other place = refl
+same_ahead SettleCall Made slot old other place = absurd (other refl)
+same_ahead SettleCall Broken slot old other place = refl
+same_ahead SettleCall Untouched slot old other place = refl
+same_ahead CancelCall answer slot old other place = refl
+
 -- a call on a file that had failed before
 pub refused : {D : Type 0} (facts : D → Facts) (call : Call) (slot : ℕ) (entries : List Entry) (old : Book D) → old.has_failed ≡ true → ((file : File) → fails_on call file ≡ file.has_failed)
     → (call ≡ CancelCall → ⊥) → IsFiled facts call slot entries old old Untouched
 refused facts call slot entries old failed fails other = record {
+  ahead = same_ahead call Untouched slot old (λ is. absurd (let e : Untouched ≡ Made = is in cc));
   ends = λ file shows. record { refused = fails file ∙ shows.same_failed ∙ failed; same = refl };
   answers = record { refused = refused_so call old.has_failed other ∙ failed; same = refl };
   moments = λ file shows. untouched facts old.held file.contents file.doubt shows.stands;
@@ -86,9 +97,28 @@ sealed_badly facts calls held now w (Ok x) bad sound ends safe honest contents d
 sealed_badly facts calls held now w (Err Disk) bad sound ends safe honest contents doubt keeps = safe honest contents doubt keeps
 sealed_badly facts calls held now w (Err Failed) bad sound ends safe honest contents doubt keeps = absurd (let e : true ≡ false = sym ends.before ∙ sound in cc)
 
+-- the world lists at least one device call for each call that makes one
+listed_some : (call : Call) (entries : List Entry) → (call ≡ CancelCall → ⊥) → 1 ≤ device_calls call entries
+listed_some PrepareCall entries other = omega arith
+listed_some SealCall entries other = omega arith
+listed_some SettleCall entries other = omega arith
+listed_some CancelCall entries other = absurd (other refl)
+
 -- the number of the call that failed is one of the run's
 failed_within : (calls well : ℕ) → well < calls → is_made calls (well + 1) ≡ true
 failed_within calls well fewer = and_from (nat_le 1 (well + 1)) (nat_le (well + 1) calls) (le-leb 1 (well + 1) (omega arith)) (le-leb (well + 1) calls (omega (arith, fewer)))
+
+-- The number in the world of a device call that failed: its own, if the run is as long as the world lists it.
+record Numbered (calls listed well : ℕ) : Type 0 where
+  number : ℕ
+  within : is_made listed number ≡ true
+  own : calls ≡ listed → well + 1 ≡ number
+
+numbered : (calls listed well : ℕ) → well < calls → 1 ≤ listed → Numbered calls listed well
+numbered calls listed well fewer some = elim (cases_eq calls listed) [
+  | inl same ↦ record { number = well + 1; within = failed_within listed well (omega (arith, same, fewer)); own = λ is. refl }
+  | inr apart ↦ record { number = 1; within = failed_within listed 0 (omega (arith, some)); own = λ is. absurd (apart is) }
+]
 
 -- the place of a slot's change is not free
 pub busy_in : {D : Type 0} (old : Book D) (held : TenantFile D) (slot : ℕ) (stage : Stage) → old.held ≡ Some held → stage_of (states_in old.held) (place_at old slot) ≡ stage → is_free_stage stage ≡ false
@@ -102,9 +132,9 @@ module _ {D : Type 0} (facts : D → Facts) (old new : Book D) (held now : Tenan
   still contents doubt keeps honest = keeps (was_honest (facts (disk_of held)) (facts (disk_of now)) later honest)
 
   -- a device call failed
-  module _ (parts : HasParts new (Some now) old.words old.places old.place_of true) (sound : old.has_failed ≡ false) (calls : ℕ) (met : MetFault facts calls held now)
+  module _ (parts : HasParts new (Some now) old.words old.places old.place_of old.settled true) (sound : old.has_failed ≡ false) (calls : ℕ) (met : MetFault facts calls held now)
       (call : Call) (slot : ℕ) (entries : List Entry) (other : call ≡ CancelCall → ⊥) (fails : (file : File) → fails_on call file ≡ file.has_failed) where
-    pub broke : ((file : File) → Represents facts old file → calls ≡ device_calls call (entries_at file (place_for call file old.places slot)))
+    pub broke : ((entries_there : List Entry) → calls ≡ calls_on old call slot entries_there)
         → ((file : File) → Represents facts old file → IsTrue (facts (disk_of held)).honest → RecoversTo facts now file.contents (pairs_of (doubt_of call (entries_at file (place_for call file old.places slot)))))
         → ((file : File) → Represents facts old file → LeavesEither file.contents (at_stake call file (place_for call file old.places slot)) (facts (disk_of held)) (facts (disk_of now)))
         → IsFiled facts call slot entries old new Broken
@@ -112,16 +142,20 @@ module _ {D : Type 0} (facts : D → Facts) (old new : Book D) (held now : Tenan
       ends = λ file shows.
           let place : ℕ = place_for call file old.places slot in
           let doubt : List Entry = doubt_of call (entries_at file place) in
-          let made : ℕ = device_calls call (entries_at file place) in
+          let listed : ℕ = device_calls call (entries_at file place) in
+          let so : Numbered calls listed met.made.well = numbered calls listed met.made.well met.made.fewer (listed_some call (entries_at file place) other) in
           record {
             began = fails file ∙ shows.same_failed ∙ sound;
-            number = met.made.well + 1;
-            within = ap (λ n. is_made n (met.made.well + 1)) (sym (many file shows)) ∙ failed_within calls met.made.well met.made.fewer;
-            made = on_disk facts (FailedAt made (met.made.well + 1)) old.held new.held held now is_old parts.is_held
-                (subst (λ n. FailedAt n (met.made.well + 1) (facts (disk_of held)) (facts (disk_of now))) (many file shows) (record { failed = met.made; at = refl }));
-            shows = shows_parts facts new (Some now) old.words old.places old.place_of true (broken file doubt) parts (record {
+            number = so.number;
+            within = so.within;
+            failed = on_disk facts (Bad (calls_on old call slot (entries_at file place))) old.held new.held held now is_old parts.is_held
+                (subst (λ n. Bad n (facts (disk_of held)) (facts (disk_of now))) (many (entries_at file place)) met.made);
+            made = λ same. on_disk facts (FailedAt listed so.number) old.held new.held held now is_old parts.is_held
+                (subst (λ n. FailedAt n so.number (facts (disk_of held)) (facts (disk_of now))) (many (entries_at file place) ∙ same)
+                (record { failed = met.made; at = so.own (many (entries_at file place) ∙ same) }));
+            shows = shows_parts facts new (Some now) old.words old.places old.place_of old.settled true (broken file doubt) parts (record {
               same_words = shows.same_words;
-              same_places = placed_as (states_of held) (states_of now) old.places file.places met.states (placed_in facts old held is_old file shows);
+              same_places = placed_as (states_of held) (states_of now) old.settled old.places file.places met.states (placed_in facts old held is_old file shows);
               same_place_of = shows.same_place_of;
               same_failed = refl;
               stands = still file.contents (pairs_of doubt) (keeps file shows);
@@ -134,6 +168,7 @@ module _ {D : Type 0} (facts : D → Facts) (old new : Book D) (held now : Tenan
       quiet = λ is. absurd (other is);
       words = parts.is_words;
       places = parts.is_places;
+      ahead = λ place. ap (λ flags. is_settled flags place) parts.are_settled ∙ same_ahead call Broken slot old (λ is. absurd (let e : Broken ≡ Made = is in cc)) place;
     }
 
   -- a call that keeps the words and the change in doubt
@@ -149,26 +184,28 @@ module _ {D : Type 0} (facts : D → Facts) (old new : Book D) (held now : Tenan
         subst (λ doubt. RecoversTo facts now file.contents doubt) (certain facts old held is_old file shows sound honest) (stays file shows honest).after
 
     -- a prepare in which the device failed
-    pub prepare_broken : (slot : ℕ) (entries : List Entry) → HasParts new (Some now) old.words old.places old.place_of true → old.has_failed ≡ false → MetFault facts 2 held now
+    pub prepare_broken : (slot : ℕ) (entries : List Entry) → HasParts new (Some now) old.words old.places old.place_of old.settled true → old.has_failed ≡ false → MetFault facts 2 held now
         → IsFiled facts PrepareCall slot entries old new Broken
     prepare_broken slot entries parts sound met =
-        broke parts sound 2 met PrepareCall slot entries (λ is. let e : PrepareCall ≡ CancelCall = is in cc) (λ file. refl) (λ file shows. refl) (stays_certain sound) stays_safe
+        broke parts sound 2 met PrepareCall slot entries (λ is. let e : PrepareCall ≡ CancelCall = is in cc) (λ file. refl) (λ there. refl) (stays_certain sound) stays_safe
 
-    pub prepare_made : (slot place : ℕ) (entries : List Entry) → HasParts new (Some now) old.words old.places (slice_set old.place_of slot place) old.has_failed → old.has_failed ≡ false
-        → slot < MAX_POOL → MAX_POOL ≤ length old.place_of → WentWell facts 2 held now → free_place (states_of held) ≡ Some place
-        → IsStaged (states_of held) (states_of now) place PreparedStage (pairs_of entries) → HasPlace (states_in old.held) old.places → IsFiled facts PrepareCall slot entries old new Made
-    prepare_made slot place entries parts sound within long went found staged room = record {
+    pub prepare_made : (slot place : ℕ) (entries : List Entry) → place ≡ vacant_place (states_of held) old.settled old.places
+        → HasParts new (Some now) old.words old.places (slice_set old.place_of slot place) old.settled old.has_failed
+        → old.has_failed ≡ false → slot < MAX_POOL → MAX_POOL ≤ length old.place_of → WentWell facts 2 held now
+        → IsStaged (states_of held) (states_of now) place PreparedStage (pairs_of entries) → HasPlace (states_of held) old.settled old.places
+        → IsFiled facts PrepareCall slot entries old new Made
+    prepare_made slot place entries is parts sound within long went staged room = record {
       ends = λ file shows.
           let placed = placed_in facts old held is_old file shows in
-          let same = found_at (states_of held) old.places file (there_held facts old held is_old) placed place found in
-          let one : room.place ≡ place = same_Some room.place place (sym room.free ∙ ap (λ h. free_place (states_in h)) is_old ∙ found) in
+          let same = is ∙ found_at (states_of held) old.settled old.places file placed in
           record {
             began = shows.same_failed ∙ sound;
             made = on_disk facts (Good 2) old.held new.held held now is_old parts.is_held went.made;
-            shows = subst (λ p. Represents facts new (prepared file slot p entries)) (sym same)
-                (shows_parts facts new (Some now) old.words old.places (slice_set old.place_of slot place) old.has_failed (prepared file slot place entries) parts (record {
+            shows = subst (λ p. Represents facts new (prepared file slot p entries)) same
+                (shows_parts facts new (Some now) old.words old.places (slice_set old.place_of slot place) old.settled old.has_failed (prepared file slot place entries) parts (record {
                   same_words = shows.same_words;
-                  same_places = placed_on (states_of held) (states_of now) old.places place file.places (Prepared entries) PreparedStage (pairs_of entries) placed staged (let lt = room.within in omega (arith, one, lt)) refl (λ busy. refl);
+                  same_places = placed_on (states_of held) (states_of now) old.settled old.places place file.places (Prepared entries) PreparedStage (pairs_of entries) placed staged
+                      (let lt = room in omega (arith, is, lt)) (ap (is_settled old.settled) is ∙ vacant_plain (states_of held) old.settled old.places room) refl (λ busy. refl);
                   same_place_of = set_number file.place_of old.place_of slot place MAX_POOL long within shows.same_place_of;
                   same_failed = shows.same_failed;
                   stands = still file.contents (pairs_of file.doubt) (λ honest. (stays file shows honest).after);
@@ -180,65 +217,81 @@ module _ {D : Type 0} (facts : D → Facts) (old new : Book D) (held now : Tenan
       quiet = λ is. absurd (let e : PrepareCall ≡ CancelCall = is in cc);
       words = parts.is_words;
       places = parts.is_places;
+      ahead = λ place. ap (λ flags. is_settled flags place) parts.are_settled;
     }
 
-    -- A settle or a cancel, after which the place is free.
-    module _ (slot : ℕ) (within : slot < MAX_POOL) (busy : is_free_stage (stage_of (states_of held) (place_at old slot)) ≡ false) (w : Pairs)
-        (staged : IsStaged (states_of held) (states_of now) (place_at old slot) FreeStage w) (parts : HasParts new (Some now) old.words old.places old.place_of old.has_failed) where
+    -- A settle or a cancel, after which the place is empty, as the file's places and the book's flags show.
+    module _ (slot : ℕ) (within : slot < MAX_POOL) (busy : is_free_stage (stage_of (states_of held) (place_at old slot)) ≡ false) (flags : List Bool)
+        (parts : HasParts new (Some now) old.words old.places old.place_of flags old.has_failed)
+        (placed : (file : File) → Represents facts old file → ArePlaced (states_of now) flags old.places (upd file.places (place_at old slot) Empty)) where
       emptied_shown : (file : File) → Represents facts old file → Represents facts new (emptied file (file.place_of slot))
       emptied_shown file shows =
           let place : ℕ = place_at old slot in
           subst (λ p. Represents facts new (emptied file p)) (sym (same_place facts old held is_old file shows slot within busy))
-          (shows_parts facts new (Some now) old.words old.places old.place_of old.has_failed (emptied file place) parts (record {
+          (shows_parts facts new (Some now) old.words old.places old.place_of flags old.has_failed (emptied file place) parts (record {
             same_words = shows.same_words;
-            same_places = placed_on (states_of held) (states_of now) old.places place file.places Empty FreeStage w (placed_in facts old held is_old file shows) staged
-                (place_within facts old held is_old file shows slot within busy) refl (λ none. absurd (let e : true ≡ false = none in cc));
+            same_places = placed file shows;
             same_place_of = shows.same_place_of;
             same_failed = shows.same_failed;
             stands = still file.contents (pairs_of file.doubt) (λ honest. (stays file shows honest).after);
           }))
 
-      pub cancel_made : (entries : List Entry) → disk_of now ≡ disk_of held → IsFiled facts CancelCall slot entries old new Made
-      cancel_made entries same = record {
-        ends = λ file shows. record {
-          began = refl;
-          made = on_disk facts (Good 0) old.held new.held held now is_old parts.is_held
-              (subst (λ d. Good 0 (facts (disk_of held)) (facts d)) (sym same) (good_none (facts (disk_of held))));
-          shows = emptied_shown file shows;
-        };
-        answers = record { began = refl; same_failed = parts.is_failed; faults = on_disk facts NoFault old.held new.held held now is_old parts.is_held (ap (λ d. (facts d).faults) same) };
-        moments = λ file shows. on_disk facts (LeavesEither file.contents file.doubt) old.held new.held held now is_old parts.is_held (stays_safe file shows);
-        later = on_disk facts Later old.held new.held held now is_old parts.is_held later;
-        quiet = λ is. ap disk_in parts.is_held ∙ ap Some same ∙ sym (ap disk_in is_old);
-        words = parts.is_words;
-        places = parts.is_places;
-      }
+    pub cancel_made : (slot : ℕ) → slot < MAX_POOL → is_free_stage (stage_of (states_of held) (place_at old slot)) ≡ false → (w : Pairs)
+        → IsStaged (states_of held) (states_of now) (place_at old slot) FreeStage w → HasParts new (Some now) old.words old.places old.place_of old.settled old.has_failed
+        → (entries : List Entry) → disk_of now ≡ disk_of held → IsFiled facts CancelCall slot entries old new Made
+    cancel_made slot within busy w staged parts entries same = record {
+      ends = λ file shows. record {
+        began = refl;
+        made = on_disk facts (Good 0) old.held new.held held now is_old parts.is_held
+            (subst (λ d. Good 0 (facts (disk_of held)) (facts d)) (sym same) (good_none (facts (disk_of held))));
+        shows = emptied_shown slot within busy old.settled parts placed file shows;
+      };
+      answers = record { began = refl; same_failed = parts.is_failed; faults = on_disk facts NoFault old.held new.held held now is_old parts.is_held (ap (λ d. (facts d).faults) same) };
+      moments = λ file shows. on_disk facts (LeavesEither file.contents file.doubt) old.held new.held held now is_old parts.is_held (stays_safe file shows);
+      later = on_disk facts Later old.held new.held held now is_old parts.is_held later;
+      quiet = λ is. ap disk_in parts.is_held ∙ ap Some same ∙ sym (ap disk_in is_old);
+      words = parts.is_words;
+      places = parts.is_places;
+      ahead = λ place. ap (λ flags. is_settled flags place) parts.are_settled;
+    } where
+      placed : (file : File) → Represents facts old file → ArePlaced (states_of now) old.settled old.places (upd file.places (place_at old slot) Empty)
+      placed file shows =
+          placed_on (states_of held) (states_of now) old.settled old.places (place_at old slot) file.places Empty FreeStage w (placed_in facts old held is_old file shows) staged
+          (place_within facts old held is_old file shows slot within busy) (plain_at facts old held is_old file shows slot within busy) refl (λ none. absurd (let e : true ≡ false = none in cc))
 
-      pub settle_made : (entries : List Entry) → old.has_failed ≡ false → WentWell facts (length (writes_of_place (states_of held) (place_at old slot)) + 3) held now
-          → IsFiled facts SettleCall slot entries old new Made
-      settle_made entries sound went = record {
-        ends = λ file shows.
-            let many = ap (λ n. n + 3) (as_many facts old held is_old file shows slot within busy) in
-            record {
-              began = shows.same_failed ∙ sound;
-              made = on_disk facts (Good (length (entries_at file (file.place_of slot)) + 3)) old.held new.held held now is_old parts.is_held
-                  (subst (λ n. Good n (facts (disk_of held)) (facts (disk_of now))) many went.made);
-              shows = emptied_shown file shows;
-            };
+    -- A settle that makes device calls.
+    module _ (slot : ℕ) (within : slot < MAX_POOL) (is_sealed_there : stage_of (states_of held) (place_at old slot) ≡ SealedStage) (plain : is_settled old.settled (place_at old slot) ≡ false)
+        (sound : old.has_failed ≡ false) where
+      many_made : roll_calls (states_of held) ≡ settle_calls (is_settled old.settled (place_at old slot)) (states_in old.held)
+      many_made = ap (λ h. roll_calls (states_in h)) (sym is_old) ∙ ap (λ flag. settle_calls flag (states_in old.held)) (sym plain)
+
+      pub settle_made : (entries : List Entry) (flags : List Bool) → HasParts new (Some now) old.words old.places old.place_of flags old.has_failed
+          → ((place : ℕ) → is_settled flags place ≡ ahead_by_settle (states_of held) old.settled (place_at old slot) place) → AreFreed (states_of held) (states_of now)
+          → WentWell facts (roll_calls (states_of held)) held now → IsFiled facts SettleCall slot entries old new Made
+      settle_made entries flags parts are free went = record {
+        ends = λ file shows. record {
+          began = shows.same_failed ∙ sound;
+          made = on_disk facts (Good (settle_calls (is_settled old.settled (place_at old slot)) (states_in old.held))) old.held new.held held now is_old parts.is_held
+              (subst (λ n. Good n (facts (disk_of held)) (facts (disk_of now))) many_made went.made);
+          shows = emptied_shown slot within (ap is_free_stage is_sealed_there) flags parts placed file shows;
+        };
         answers = record { began = sound; same_failed = parts.is_failed; faults = on_disk facts NoFault old.held new.held held now is_old parts.is_held went.made.faults };
         moments = λ file shows. on_disk facts (LeavesEither file.contents file.doubt) old.held new.held held now is_old parts.is_held (stays_safe file shows);
         later = on_disk facts Later old.held new.held held now is_old parts.is_held later;
         quiet = λ is. absurd (let e : SettleCall ≡ CancelCall = is in cc);
         words = parts.is_words;
         places = parts.is_places;
-      }
+        ahead = λ place. ap (λ flags. is_settled flags place) parts.are_settled ∙ are place ∙ ap (λ h. ahead_by_settle (states_in h) old.settled (place_at old slot) place) (sym is_old);
+      } where
+        placed : (file : File) → Represents facts old file → ArePlaced (states_of now) flags old.places (upd file.places (place_at old slot) Empty)
+        placed file shows =
+            placed_rolled (states_of held) (states_of now) old.settled flags old.places (place_at old slot) file.places (placed_in facts old held is_old file shows) is_sealed_there plain are free
 
-    pub settle_broken : (slot : ℕ) (entries : List Entry) → slot < MAX_POOL → is_free_stage (stage_of (states_of held) (place_at old slot)) ≡ false
-        → HasParts new (Some now) old.words old.places old.place_of true → old.has_failed ≡ false → MetFault facts (length (writes_of_place (states_of held) (place_at old slot)) + 3) held now
-        → IsFiled facts SettleCall slot entries old new Broken
-    settle_broken slot entries within busy parts sound met =
-        broke parts sound (length (writes_of_place (states_of held) (place_at old slot)) + 3) met SettleCall slot entries (λ is. let e : SettleCall ≡ CancelCall = is in cc) (λ file. refl)
-        (λ file shows. ap (λ n. n + 3) (as_many facts old held is_old file shows slot within busy)) (stays_certain sound) stays_safe
+      pub settle_broken : (entries : List Entry) → HasParts new (Some now) old.words old.places old.place_of old.settled true → MetFault facts (roll_calls (states_of held)) held now
+          → IsFiled facts SettleCall slot entries old new Broken
+      settle_broken entries parts met =
+          broke parts sound (roll_calls (states_of held)) met SettleCall slot entries (λ is. let e : SettleCall ≡ CancelCall = is in cc) (λ file. refl)
+          (λ there. many_made) (stays_certain sound) stays_safe
 
   -- A seal, by its answer.
   module _ (slot : ℕ) (within : slot < MAX_POOL) (busy : is_free_stage (stage_of (states_of held) (place_at old slot)) ≡ false) (sound : old.has_failed ≡ false) (r : Result (Unit {0}) FileFault)
@@ -246,10 +299,10 @@ module _ {D : Type 0} (facts : D → Facts) (old new : Book D) (held now : Tenan
     safe_as : (file : File) → Represents facts old file → ChangeIsSealed facts held now (pairs_of (entries_at file (file.place_of slot))) r
     safe_as file shows = subst (λ w. ChangeIsSealed facts held now w r) (writes_called facts old held is_old file shows slot within busy) safe
 
-    pub seal_broken : (entries : List Entry) → is_err r ≡ true → FileEnds facts 2 held now r → HasParts new (Some now) old.words old.places old.place_of true → IsFiled facts SealCall slot entries old new Broken
+    pub seal_broken : (entries : List Entry) → is_err r ≡ true → FileEnds facts 2 held now r → HasParts new (Some now) old.words old.places old.place_of old.settled true → IsFiled facts SealCall slot entries old new Broken
     seal_broken entries bad ends parts =
         broke parts sound 2 (met_fault facts 2 held now r bad (failed_as facts old held is_old ∙ sound) ends) SealCall slot entries (λ is. let e : SealCall ≡ CancelCall = is in cc) (λ file. refl)
-        (λ file shows. refl) (λ file shows honest. (left file shows honest).after)
+        (λ there. refl) (λ file shows honest. (left file shows honest).after)
         (λ file shows honest. leaves_either (facts (disk_of held)) (facts (disk_of now)) (length (states_of held)) file.contents (entries_at file (file.place_of slot)) (left file shows honest).moments) where
           left : (file : File) → Represents facts old file → IsTrue (facts (disk_of held)).honest
               → CrashSafe facts held now file.contents (pairs_of (entries_at file (file.place_of slot))) file.contents (pairs_of (entries_at file (file.place_of slot)))
@@ -258,7 +311,7 @@ module _ {D : Type 0} (facts : D → Facts) (old new : Book D) (held now : Tenan
               file.contents (pairs_of file.doubt) (keeps_in facts old held is_old file shows honest)
 
     pub seal_made : (entries : List Entry) → is_err r ≡ false → WentWell facts 2 held now → IsStaged (states_of held) (states_of now) (place_at old slot) SealedStage (writes_of_place (states_of held) (place_at old slot))
-        → HasParts new (Some now) old.words old.places old.place_of old.has_failed → IsFiled facts SealCall slot entries old new Made
+        → HasParts new (Some now) old.words old.places old.place_of old.settled old.has_failed → IsFiled facts SealCall slot entries old new Made
     seal_made entries well went staged parts = record {
       ends = λ file shows. record {
         began = shows.same_failed ∙ sound;
@@ -272,6 +325,7 @@ module _ {D : Type 0} (facts : D → Facts) (old new : Book D) (held now : Tenan
       quiet = λ is. absurd (let e : SealCall ≡ CancelCall = is in cc);
       words = parts.is_words;
       places = parts.is_places;
+      ahead = λ place. ap (λ flags. is_settled flags place) parts.are_settled;
     } where
       done : (file : File) → Represents facts old file → IsTrue (facts (disk_of held)).honest
           → CrashSafe facts held now file.contents (pairs_of (entries_at file (file.place_of slot))) (put_pairs (pairs_of (entries_at file (file.place_of slot))) file.contents) []
@@ -288,12 +342,39 @@ module _ {D : Type 0} (facts : D → Facts) (old new : Book D) (held now : Tenan
       shown file shows =
           let at = same_place facts old held is_old file shows slot within busy in
           let es : List Entry = entries_at file (file.place_of slot) in
-          shows_parts facts new (Some now) old.words old.places old.place_of old.has_failed (sealed file (file.place_of slot)) parts (record {
+          shows_parts facts new (Some now) old.words old.places old.place_of old.settled old.has_failed (sealed file (file.place_of slot)) parts (record {
             same_words = length-put file.contents es ∙ shows.same_words;
-            same_places = subst (λ p. ArePlaced (states_of now) old.places (upd file.places p (Sealed es))) (sym at)
-                (placed_on (states_of held) (states_of now) old.places (place_at old slot) file.places (Sealed es) SealedStage (writes_of_place (states_of held) (place_at old slot))
-                (placed_in facts old held is_old file shows) staged (place_within facts old held is_old file shows slot within busy) refl (λ full. writes_called facts old held is_old file shows slot within busy));
+            same_places = subst (λ p. ArePlaced (states_of now) old.settled old.places (upd file.places p (Sealed es))) (sym at)
+                (placed_on (states_of held) (states_of now) old.settled old.places (place_at old slot) file.places (Sealed es) SealedStage (writes_of_place (states_of held) (place_at old slot))
+                (placed_in facts old held is_old file shows) staged (place_within facts old held is_old file shows slot within busy) (plain_at facts old held is_old file shows slot within busy) refl (λ full. writes_called facts old held is_old file shows slot within busy));
             same_place_of = shows.same_place_of;
             same_failed = shows.same_failed;
             stands = still (put file.contents es) (pairs_of file.doubt) (stands file shows);
           })
+
+-- A settle of a change that was settled ahead: only its flag is cleared.
+pub settle_ahead : {D : Type 0} (facts : D → Facts) (old new : Book D) (slot : ℕ) (entries : List Entry) (flags : List Bool) → slot < MAX_POOL → old.has_failed ≡ false
+    → is_settled old.settled (place_at old slot) ≡ true → HasParts new old.held old.words old.places old.place_of flags old.has_failed
+    → ((place : ℕ) → is_settled flags place ≡ ahead_by_settle (states_in old.held) old.settled (place_at old slot) place) → IsFiled facts SettleCall slot entries old new Made
+settle_ahead facts old new slot entries flags within sound ahead parts are = record {
+  ends = λ file shows. record {
+    began = shows.same_failed ∙ sound;
+    made = subst (λ h. OnDisk facts (Good (settle_calls (is_settled old.settled (place_at old slot)) (states_in old.held))) (disk_in old.held) (disk_in h)) (sym parts.is_held)
+        (subst (λ flag. OnDisk facts (Good (settle_calls flag (states_in old.held))) (disk_in old.held) (disk_in old.held)) (sym ahead) (on_same facts (Good 0) old.held good_none));
+    shows = subst (λ p. Represents facts new (emptied file p)) (sym (shows.same_place_of slot within))
+        (shows_parts facts new old.held old.words old.places old.place_of flags old.has_failed (emptied file (place_at old slot)) parts (record {
+          same_words = shows.same_words;
+          same_places = placed_let_go (states_in old.held) old.settled flags old.places (place_at old slot) file.places shows.same_places ahead are;
+          same_place_of = shows.same_place_of;
+          same_failed = shows.same_failed;
+          stands = shows.stands;
+        }));
+  };
+  answers = record { began = sound; same_failed = parts.is_failed; faults = subst (λ h. OnDisk facts NoFault (disk_in old.held) (disk_in h)) (sym parts.is_held) (on_same facts NoFault old.held (λ f. refl)) };
+  moments = λ file shows. subst (λ h. OnDisk facts (LeavesEither file.contents file.doubt) (disk_in old.held) (disk_in h)) (sym parts.is_held) (untouched facts old.held file.contents file.doubt shows.stands);
+  later = subst (λ h. OnDisk facts Later (disk_in old.held) (disk_in h)) (sym parts.is_held) (on_same facts Later old.held later_refl);
+  quiet = λ is. ap disk_in parts.is_held;
+  words = parts.is_words;
+  places = parts.is_places;
+  ahead = λ place. ap (λ flags. is_settled flags place) parts.are_settled ∙ are place;
+}

@@ -21,17 +21,19 @@ use Rattle.mw_world_file.proofs.CrashedFiles.{of_either}
 use Rattle.mw_book.specs.declared.book.Book.{Book}
 use Rattle.mw_book.specs.Crashes.{LeavesEither}
 use Rattle.mw_book.specs.OpenFile.{states_in, places_in, has_failed_in, disk_in, FileRecoversTo, OnDisk}
-use Rattle.mw_book.specs.Representation.{ArePlaced, PartsRepresent, Represents, HasParts, place_at}
+use Rattle.mw_book.specs.Representation.{ArePlaced, PartsRepresent, Represents, HasParts, is_settled, place_at}
+use Rattle.mw_book.proofs.PlacesAhead.{held_plain, plain_busy}
 
 -- if its parts represent a file, the book does
-pub shows_parts : {D : Type 0} (facts : D → Facts) (book : Book D) (held : Option (TenantFile D)) (words places : ℕ) (place_of : List ℕ) (failed : Bool) (file : File)
-    → HasParts book held words places place_of failed → PartsRepresent facts held words places place_of failed file → Represents facts book file
-shows_parts facts book held words places place_of failed file parts tells =
-    subst (λ h. PartsRepresent facts h book.words book.places book.place_of book.has_failed file) (sym parts.is_held)
-    (subst (λ n. PartsRepresent facts held n book.places book.place_of book.has_failed file) (sym parts.is_words)
-    (subst (λ n. PartsRepresent facts held words n book.place_of book.has_failed file) (sym parts.is_places)
-    (subst (λ ns. PartsRepresent facts held words places ns book.has_failed file) (sym parts.is_place_of)
-    (subst (λ b. PartsRepresent facts held words places place_of b file) (sym parts.is_failed) tells))))
+pub shows_parts : {D : Type 0} (facts : D → Facts) (book : Book D) (held : Option (TenantFile D)) (words places : ℕ) (place_of : List ℕ) (settled : List Bool) (failed : Bool) (file : File)
+    → HasParts book held words places place_of settled failed → PartsRepresent facts held words places place_of settled failed file → Represents facts book file
+shows_parts facts book held words places place_of settled failed file parts tells =
+    subst (λ h. PartsRepresent facts h book.words book.places book.place_of book.settled book.has_failed file) (sym parts.is_held)
+    (subst (λ n. PartsRepresent facts held n book.places book.place_of book.settled book.has_failed file) (sym parts.is_words)
+    (subst (λ n. PartsRepresent facts held words n book.place_of book.settled book.has_failed file) (sym parts.is_places)
+    (subst (λ ns. PartsRepresent facts held words places ns book.settled book.has_failed file) (sym parts.is_place_of)
+    (subst (λ bs. PartsRepresent facts held words places place_of bs book.has_failed file) (sym parts.are_settled)
+    (subst (λ b. PartsRepresent facts held words places place_of settled b file) (sym parts.is_failed) tells)))))
 
 module _ {D : Type 0} (facts : D → Facts) (P : Facts → Facts → Type 0) where
   -- a fact of the disks of two files is a fact of the disks that two books hold
@@ -69,8 +71,8 @@ module _ {D : Type 0} (facts : D → Facts) (old : Book D) (held : TenantFile D)
   failed_as = sym (ap has_failed_in is_old) ∙ old.same_failed
 
   module _ (file : File) (shows : Represents facts old file) where
-    pub placed_in : ArePlaced (states_of held) old.places file.places
-    placed_in = subst (λ h. ArePlaced (states_in h) old.places file.places) is_old shows.same_places
+    pub placed_in : ArePlaced (states_of held) old.settled old.places file.places
+    placed_in = subst (λ h. ArePlaced (states_in h) old.settled old.places file.places) is_old shows.same_places
 
     pub keeps_in : IsTrue (facts (disk_of held)).honest → RecoversTo facts held file.contents (pairs_of file.doubt)
     keeps_in = subst (λ h. FileRecoversTo facts h file.contents (pairs_of file.doubt)) is_old shows.stands
@@ -90,8 +92,12 @@ module _ {D : Type 0} (facts : D → Facts) (old : Book D) (held : TenantFile D)
         | inr past ↦ absurd (let e : true ≡ false = sym (ap is_free_stage (placed_in.further (place_at old slot) past)) ∙ busy in cc)
       ]
 
+      -- the change of a place that is not free in the file is not settled ahead
+      pub plain_at : is_settled old.settled (place_at old slot) ≡ false
+      plain_at = plain_busy (states_of held) old.settled old.places file.places placed_in (place_at old slot) busy
+
       pub stage_as : stage_of (states_of held) (place_at old slot) ≡ stage_told (file.places (place_at old slot))
-      stage_as = placed_in.stages (place_at old slot) place_within
+      stage_as = placed_in.stages (place_at old slot) place_within ∙ held_plain (is_settled old.settled (place_at old slot)) (file.places (place_at old slot)) plain_at
 
       -- the writes of the place
       pub writes_as : writes_of_place (states_of held) (place_at old slot) ≡ pairs_of (entries_at file (place_at old slot))

@@ -13,6 +13,7 @@ use Rattle.mw_book.specs.declared.book.Book.{Book}
 use Rattle.mw_book.specs.Answers.{Answers}
 use Rattle.mw_book.specs.Crashes.{IsCrashSafe}
 use Rattle.mw_book.specs.Ends.{Ends}
+use Rattle.mw_book.specs.SettledAhead.{SettlesAhead}
 use Rattle.mw_book.specs.OpenFile.{disk_in, OnDisk}
 use Rattle.mw_book.specs.Representation.{Represents}
 
@@ -26,3 +27,4 @@ pub record IsFiled {D : Type 0} (facts : D → Facts) (call : Call) (slot : ℕ)
   pub quiet : call ≡ CancelCall → disk_in new.held ≡ disk_in old.held
   pub words : new.words ≡ old.words
   pub places : new.places ≡ old.places
+  pub ahead : SettlesAhead call slot old new result

@@ -1,18 +1,21 @@
 -- Defines how a call on a book ends, for each simulated file (`File` of mw_world_file) that the book represented before it.
 -- Used by: CallOutcome, mw_core, the contracts of calls.rt. A change here changes what a call promises of the file as the world
 -- knows it.
-use Rattle.std.specs.Prelude.{◌≡◌, ◌+◌, ℕ, true, false, List}
+use Rattle.std.specs.Prelude.{◌≡◌, ◌+◌, ℕ, Bool, true, false, List}
 use Rattle.mw_words.specs.declared.jobs.Entry.{Entry}
 use Rattle.mw_look.specs.declared.steps.Call.{Call}
+use Rattle.mw_look.specs.declared.steps.Call.TheVariants.{Settle as SettleCall}
 use Rattle.mw_disk.specs.Facts.{Facts}
 use Rattle.mw_disk.specs.Runs.{Good, Bad}
+use Rattle.mw_file.specs.declared.place_states.PlaceState.{PlaceState}
+use Rattle.mw_file.specs.PlaceStates.{roll_calls}
 use Rattle.mw_world_file.specs.Calls.{fails_on, place_for, device_calls, is_made, filed, doubt_of}
 use Rattle.mw_world_file.specs.Files.{File, entries_at, broken}
 use Rattle.mw_book.specs.declared.answers.Filed.{Filed}
 use Rattle.mw_book.specs.declared.answers.Filed.TheVariants.{Made, Broken, Untouched}
 use Rattle.mw_book.specs.declared.book.Book.{Book}
-use Rattle.mw_book.specs.OpenFile.{disk_in, OnDisk}
-use Rattle.mw_book.specs.Representation.{Represents}
+use Rattle.mw_book.specs.OpenFile.{disk_in, states_in, OnDisk}
+use Rattle.mw_book.specs.Representation.{Represents, is_settled, place_at}
 
 -- A run of so many device calls failed at the call with this number, counted from 1. The calls before it went well, and none was made
 -- after it. The outcomes of an honest disk tell the number. Of any other disk it is the number of some call of the run.
@@ -20,26 +23,42 @@ pub record FailedAt (calls number : ℕ) (old new : Facts) : Type 0 where
   pub failed : Bad calls old new
   pub at : failed.well + 1 ≡ number
 
+-- How many device calls a settle makes: none if its change is settled in the file already, else those that settle all sealed changes.
+abbrev pub settle_calls : Bool → List PlaceState → ℕ
+settle_calls true states = 0
+settle_calls false states = roll_calls states
+
+-- How many device calls a call makes on a book, for a change with these entries: for a settle as many as the book's file needs, for any
+-- other call as many as the world lists.
+abbrev pub calls_on : {D : Type 0} → Book D → Call → ℕ → List Entry → ℕ
+calls_on book SettleCall slot entries = settle_calls (is_settled book.settled (place_at book slot)) (states_in book.held)
+calls_on book call slot entries = device_calls call entries
+
 module _ {D : Type 0} (facts : D → Facts) (call : Call) (slot : ℕ) (entries : List Entry) (file : File) (old new : Book D) where
-  -- the place that the call is for, and how many device calls it makes
+  -- the place that the call is for, how many device calls the world lists for it, and how many it makes on the book
   abbrev pub place_called : ℕ
   place_called = place_for call file old.places slot
 
-  abbrev pub calls_to_make : ℕ
-  calls_to_make = device_calls call (entries_at file place_called)
+  abbrev pub calls_listed : ℕ
+  calls_listed = device_calls call (entries_at file place_called)
+
+  abbrev pub calls_made : ℕ
+  calls_made = calls_on old call slot (entries_at file place_called)
 
   -- The call was made. All its device calls went well, as an honest disk counts them, and the book represents the file after the call.
   pub record WasMade : Type 0 where
     pub began : fails_on call file ≡ false
-    pub made : OnDisk facts (Good calls_to_make) (disk_in old.held) (disk_in new.held)
+    pub made : OnDisk facts (Good calls_made) (disk_in old.held) (disk_in new.held)
     pub shows : Represents facts new (filed call file slot place_called entries)
 
-  -- One of the device calls failed, and the book represents the file after this failure.
+  -- One of the device calls failed, and the book represents the file after this failure. The number is of a device call that the world
+  -- lists. If the call makes as many as are listed, it is the number of the one that failed.
   pub record WasBroken : Type 0 where
     pub began : fails_on call file ≡ false
     pub number : ℕ
-    pub within : is_made calls_to_make number ≡ true
-    pub made : OnDisk facts (FailedAt calls_to_make number) (disk_in old.held) (disk_in new.held)
+    pub within : is_made calls_listed number ≡ true
+    pub failed : OnDisk facts (Bad calls_made) (disk_in old.held) (disk_in new.held)
+    pub made : calls_made ≡ calls_listed → OnDisk facts (FailedAt calls_listed number) (disk_in old.held) (disk_in new.held)
     pub shows : Represents facts new (broken file (doubt_of call (entries_at file place_called)))
 
   -- The file had failed before, and the call did nothing.

@@ -1,4 +1,5 @@
 pub mod Alike
+pub mod Alone
 pub mod Answers
 pub mod Crashes
 pub mod Ends
@@ -6,3 +7,4 @@ pub mod CallOutcome
 pub mod OpenFile
 pub mod Permits
 pub mod Representation
+pub mod SettledAhead

@@ -1,31 +1,44 @@
 -- Defines when a book represents a simulated file of mw_world_file: same words, places, fault and change in doubt.
 -- Used by: Alike, CallOutcome, Crashes, Ends, Permits, mw_core, mw_engine, the contracts of calls.rt, new_books.rt and
 -- queries.rt. It is the relation that every call keeps. mw_core ties the world of running threads to the files by it.
-use Rattle.std.specs.Prelude.{◌≡◌, ◌<◌, ◌≤◌, ℕ, Bool, true, false, List, length, slice_index, Option}
+use Rattle.std.specs.Prelude.{◌≡◌, ◌<◌, ◌≤◌, ℕ, Bool, true, false, List, length, get_or, slice_index, Option}
 use Rattle.mw_words.specs.declared.limits.TheConstants.{MAX_POOL}
 use Rattle.mw_disk.specs.Facts.{Facts}
 use Rattle.mw_record.specs.Layout.{pairs_of}
 use Rattle.mw_file.specs.declared.place_states.PlaceState.{PlaceState}
+use Rattle.mw_file.specs.declared.place_states.Stage.{Stage}
 use Rattle.mw_file.specs.declared.place_states.Stage.TheVariants.{Free}
 use Rattle.mw_file.specs.declared.tenant_file.TenantFile.{TenantFile}
 use Rattle.mw_file.specs.PlaceStates.{stage_of, writes_of_place}
 use Rattle.mw_world_file.specs.Devices.{stage_told}
-use Rattle.mw_world_file.specs.Files.{File, Place, is_empty, entries_in, file_of}
+use Rattle.mw_world_file.specs.Files.{File, Place, is_empty, is_sealed, entries_in, file_of}
 use Rattle.mw_book.specs.declared.book.Book.{Book}
 use Rattle.mw_book.specs.OpenFile.{states_in, FileRecoversTo}
 
--- The first places have the stages that the world's places say, with the writes of their entries, and all further places are free. The
--- expected values of a change are not in a file.
-pub record ArePlaced (states : List PlaceState) (places : ℕ) (at : ℕ → Place) : Type 0 where
-  pub stages : (place : ℕ) → place < places → stage_of states place ≡ stage_told (at place)
+-- The change of a place is settled ahead: the settle of another change has settled it in the file, and its own slot has not yet.
+abbrev pub is_settled : List Bool → ℕ → Bool
+is_settled settled place = get_or settled place false
+
+-- the stage that a place has in the file: free if its change is settled ahead, else as the world's place says
+abbrev pub stage_held : Bool → Place → Stage
+stage_held true place = Free
+stage_held false place = stage_told place
+
+-- The first places have the stages that the world's places say, with the writes of their entries, but those are free whose changes
+-- are settled ahead. Only sealed changes are. All further places are free, and have none. The expected values of a change are not in
+-- a file.
+pub record ArePlaced (states : List PlaceState) (settled : List Bool) (places : ℕ) (at : ℕ → Place) : Type 0 where
+  pub stages : (place : ℕ) → place < places → stage_of states place ≡ stage_held (is_settled settled place) (at place)
+  pub ahead : (place : ℕ) → place < places → is_settled settled place ≡ true → is_sealed (at place) ≡ true
   pub further : (place : ℕ) → places ≤ place → stage_of states place ≡ Free
+  pub further_not_ahead : (place : ℕ) → places ≤ place → is_settled settled place ≡ false
   pub writes : (place : ℕ) → place < places → is_empty (at place) ≡ false → writes_of_place states place ≡ pairs_of (entries_in (at place))
 
 -- These parts of a book represent this file. Each part says what the file says. On an honest disk the open file recovers to the file's
 -- words, with its change in doubt.
-pub record PartsRepresent {D : Type 0} (facts : D → Facts) (held : Option (TenantFile D)) (words places : ℕ) (place_of : List ℕ) (failed : Bool) (file : File) : Type 0 where
+pub record PartsRepresent {D : Type 0} (facts : D → Facts) (held : Option (TenantFile D)) (words places : ℕ) (place_of : List ℕ) (settled : List Bool) (failed : Bool) (file : File) : Type 0 where
   pub same_words : length file.contents ≡ words
-  pub same_places : ArePlaced (states_in held) places file.places
+  pub same_places : ArePlaced (states_in held) settled places file.places
   pub same_place_of : (slot : ℕ) → slot < MAX_POOL → file.place_of slot ≡ slice_index place_of slot
   pub same_failed : file.has_failed ≡ failed
   pub stands : FileRecoversTo facts held file.contents (pairs_of file.doubt)
@@ -33,18 +46,19 @@ pub record PartsRepresent {D : Type 0} (facts : D → Facts) (held : Option (Ten
 module _ {D : Type 0} where
   -- the book represents this file
   abbrev pub Represents : (D → Facts) → Book D → File → Type 0
-  Represents facts book file = PartsRepresent facts book.held book.words book.places book.place_of book.has_failed file
+  Represents facts book file = PartsRepresent facts book.held book.words book.places book.place_of book.settled book.has_failed file
 
   -- the place of a slot's change
   abbrev pub place_at : Book D → ℕ → ℕ
   place_at book slot = slice_index book.place_of slot
 
 -- These are the parts of a book.
-pub record HasParts {D : Type 0} (book : Book D) (held : Option (TenantFile D)) (words places : ℕ) (place_of : List ℕ) (failed : Bool) : Type 0 where
+pub record HasParts {D : Type 0} (book : Book D) (held : Option (TenantFile D)) (words places : ℕ) (place_of : List ℕ) (settled : List Bool) (failed : Bool) : Type 0 where
   pub is_held : book.held ≡ held
   pub is_words : book.words ≡ words
   pub is_places : book.places ≡ places
   pub is_place_of : book.place_of ≡ place_of
+  pub are_settled : book.settled ≡ settled
   pub is_failed : book.has_failed ≡ failed
 
 -- the world's file of these words if it didn't open

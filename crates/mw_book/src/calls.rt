@@ -9,6 +9,7 @@ ghost use Rattle.mw_world_file.specs.Files.{File};
 
 use crate::answers::Filed;
 use crate::book::Book;
+use crate::places::{ahead_with_sealed, vacant_place};
 use mw_disk::Disk;
 use mw_file::Place;
 use mw_look::Call;
@@ -22,11 +23,16 @@ impl<D: Disk> Book<D> {
     ghost use Rattle.mw_book.specs.Ends.{Ends};
     ghost use Rattle.mw_book.specs.Crashes.{IsCrashSafe};
     ghost use Rattle.mw_book.specs.CallOutcome.{IsFiled};
+    ghost use Rattle.mw_book.specs.SettledAhead.{SettlesAhead};
 
-    /// Makes a call on the file for the change of a slot. A prepare writes these entries into the lowest free
+    /// Makes a call on the file for the change of a slot. A prepare writes these entries into the lowest vacant
     /// place, which then is the slot's. A seal, a settle and a cancel use the slot's place, and take no entries.
     /// If the file has failed the call does nothing, unless it is a cancel. A cancel makes no device call and
     /// always goes well.
+    ///
+    /// A settle settles all sealed changes in the file, by two syncs. The others are then settled ahead: their own
+    /// settles make no device call, and go well unless the file has failed. Until then their places are not
+    /// vacant.
     ///
     /// If the book represented a file, it now represents what this call, with this answer, makes of that file.
     /// On any disk the answer tells whether a device call failed. Which one failed, and how many were made, is
@@ -44,6 +50,7 @@ impl<D: Disk> Book<D> {
         ensures quiet { call ≡ Call.Cancel → disk_in self.new.held ≡ disk_in self.old.held }
         ensures words { self.new.words ≡ self.old.words }
         ensures places { self.new.places ≡ self.old.places }
+        ensures ahead { SettlesAhead call slot self.old self.new result }
     {
         match call {
             Call::Prepare => self.prepare(slot, entries),
@@ -53,7 +60,7 @@ impl<D: Disk> Book<D> {
         }
     }
 
-    /// Writes the record of a change into the lowest free place, for a slot.
+    /// Writes the record of a change into the lowest vacant place, for a slot.
     fn prepare(&mut self, slot: u8, entries: &Entries) -> Filed
         requires may { MayCall self.old Call.Prepare slot entries.now.items }
         ensures { IsFiled D.facts Call.Prepare slot entries.now.items self.old self.new result }
@@ -64,16 +71,13 @@ impl<D: Disk> Book<D> {
         let Some(file) = &mut self.held else {
             unreachable!()
         };
-        match file.prepare(entries) {
-            Ok(place) => {
-                self.place_of[slot as usize] = place.0;
-                Filed::Made
-            }
-            Err(_) => {
-                self.has_failed = true;
-                Filed::Broken
-            }
+        let place = vacant_place(file.states(), &self.settled, self.places);
+        if file.prepare_at(Place(place), entries).is_err() {
+            self.has_failed = true;
+            return Filed::Broken;
         }
+        self.place_of[slot as usize] = place;
+        Filed::Made
     }
 
     /// Seals the prepared change of a slot.
@@ -95,7 +99,8 @@ impl<D: Disk> Book<D> {
         Filed::Made
     }
 
-    /// Settles the sealed change of a slot. Then its place is free.
+    /// Settles the sealed change of a slot. Then its place is vacant. If the change was settled ahead, that is all.
+    /// Else all sealed changes are settled in the file, the other ones ahead.
     fn settle(&mut self, slot: u8) -> Filed
         requires may { MayCall self.old Call.Settle slot [] }
         ensures { (entries : List EntryAt) → IsFiled D.facts Call.Settle slot entries self.old self.new result }
@@ -103,14 +108,21 @@ impl<D: Disk> Book<D> {
         if self.has_failed {
             return Filed::Untouched;
         }
-        let place = self.place_of[slot as usize];
+        let place = self.place_of[slot as usize] as usize;
+        if self.settled[place] {
+            self.settled[place] = false;
+            return Filed::Made;
+        }
         let Some(file) = &mut self.held else {
             unreachable!()
         };
-        if file.settle(Place(place)).is_err() {
+        let mut settled = ahead_with_sealed(&self.settled, file.states());
+        settled[place] = false;
+        if file.settle_all().is_err() {
             self.has_failed = true;
             return Filed::Broken;
         }
+        self.settled = settled;
         Filed::Made
     }
 

@@ -8,12 +8,13 @@ ghost use Rattle.mw_file.specs.PlaceStates.{all_free};
 ghost use Rattle.mw_file.specs.RecoveryInvariant.{RecoversTo};
 ghost use Rattle.mw_world_file.specs.Files.{file_of};
 
-use crate::book::{Book, SLOTS};
+use crate::book::{Book, PLACES, SLOTS};
 use mw_disk::Disk;
 use mw_file::TenantFile;
 
 impl<D: Disk> Book<D> {
     ghost use Rattle.mw_book.specs.OpenFile.{disk_in};
+    ghost use Rattle.mw_book.specs.SettledAhead.{HasNoneAhead};
     ghost use Rattle.mw_book.specs.Representation.{Represents, unopened};
 
     /// Makes the book of a file that just opened: no device call has failed, and every place is free. It uses
@@ -25,6 +26,7 @@ impl<D: Disk> Book<D> {
         ensures held { result.held ≡ Some file }
         ensures words { result.words ≡ words_of file }
         ensures places { result.places ≡ places }
+        ensures none_ahead { HasNoneAhead result }
         ensures shows { (words : List ℕ) → length words ≡ words_of file
             → (IsTrue (D.facts (disk_of file)).honest → RecoversTo D.facts file words []) → Represents D.facts result (file_of words) }
     {
@@ -34,6 +36,7 @@ impl<D: Disk> Book<D> {
             words,
             places,
             place_of: [0; SLOTS],
+            settled: [false; PLACES],
             has_failed: false,
         }
     }
@@ -50,6 +53,7 @@ impl<D: Disk> Book<D> {
             words,
             places,
             place_of: [0; SLOTS],
+            settled: [false; PLACES],
             has_failed: true,
         }
     }
@@ -63,6 +67,7 @@ impl<D: Disk> Book<D> {
             words: _,
             places: _,
             place_of: _,
+            settled: _,
             has_failed: _,
         } = self;
         match held {

@@ -2,18 +2,17 @@
 //!
 //! Only tests call these (mw_file_tests): the server makes calls on a book, and takes its words when a file opens.
 //! They may change with these tests.
-ghost use Rattle.std.specs.Prelude.{◌≡◌, true, false, nat_lt, take};
-ghost use Rattle.std.specs.List.{list_any};
-ghost use Rattle.mw_file.specs.PlaceStates.{is_free};
+ghost use Rattle.std.specs.Prelude.{◌≡◌, ◌&&◌, true, false, nat_lt, is_some};
 ghost use Rattle.mw_world_file.specs.Files.{File, empty_from};
 
 use crate::book::Book;
+use crate::places::vacant_place;
 use mw_disk::Disk;
-use mw_file::{PlaceState, Stage};
 
 impl<D: Disk> Book<D> {
     ghost use Rattle.mw_book.specs.OpenFile.{states_in};
     ghost use Rattle.mw_book.specs.Permits.{HasPlace};
+    ghost use Rattle.mw_book.specs.Permits as permit;
     ghost use Rattle.mw_book.specs.Representation.{Represents};
 
     /// Returns how many words the file has.
@@ -38,24 +37,17 @@ impl<D: Disk> Book<D> {
         self.has_failed
     }
 
-    /// Tells whether one of the used places is free, so that a change can be prepared. A file that didn't open
-    /// has no free place.
+    /// Tells whether one of the used places is vacant, so that a change can be prepared. A file that didn't open
+    /// has no vacant place.
     pub fn has_place(&self) -> bool
-        ensures is { result ≡ list_any is_free (take self.now.places (states_in self.now.held)) }
-        ensures room { result ≡ true → HasPlace (states_in self.now.held) self.now.places }
+        ensures is { result ≡ (is_some self.now.held && nat_lt (permit.vacant_place (states_in self.now.held) self.now.settled self.now.places) self.now.places) }
+        ensures room { result ≡ true → HasPlace (states_in self.now.held) self.now.settled self.now.places }
         ensures shown { (file : File) → Represents D.facts self.now file → file.has_failed ≡ false
             → result ≡ nat_lt (empty_from file 0 self.now.places) self.now.places }
     {
         match &self.held {
-            Some(file) => has_free(&file.states()[..self.places as usize]),
+            Some(file) => vacant_place(file.states(), &self.settled, self.places) < self.places,
             None => false,
         }
     }
-}
-
-/// Tells whether one of these places is free.
-fn has_free(states: &[PlaceState]) -> bool
-    ensures { result ≡ list_any is_free states.now }
-{
-    states.iter().any(|state| state.stage == Stage::Free)
 }

@@ -128,7 +128,7 @@ ends_as : {D : Type 0} (facts : D → Facts) (call : Call) (slot : ℕ) (entries
     → filed call file slot (place_for call file before.places slot) entries ≡ filed call file slot (place_for call file before.places slot) own
     → Ends facts call slot entries file before after answer → Ends facts call slot own file before after answer
 ends_as facts call slot entries own file before after Made same ends = record { began = ends.began; made = ends.made; shows = subst (λ (one : File). Represents facts after one) same ends.shows }
-ends_as facts call slot entries own file before after Broken same ends = record { began = ends.began; number = ends.number; within = ends.within; made = ends.made; shows = ends.shows }
+ends_as facts call slot entries own file before after Broken same ends = record { began = ends.began; number = ends.number; within = ends.within; failed = ends.failed; made = ends.made; shows = ends.shows }
 ends_as facts call slot entries own file before after Untouched same ends = record { refused = ends.refused; same = ends.same }
 
 ends_with : {D : Type 0} (facts : D → Facts) (call : Call) (slot : ℕ) (entries own : List Entry) (file : File) (before after : Book D) (answer : Filed) → AreTaken call entries own

@@ -28,8 +28,8 @@ abbrev pub AreTaken : Call → List Entry → List Entry → Type 0
 AreTaken PrepareCall entries own = entries ≡ own
 AreTaken call entries own = entries ≡ []
 
--- What a call did to the book, by how it ended: nothing if it didn't start; it was made; the device call of this
--- number, counted from 1, failed in it; or nothing, because the file had failed before.
+-- What a call did to the book, by how it ended: nothing if it didn't start; it was made; a device call failed in it, to
+-- which the world gives this number, counted from 1; or nothing, because the file had failed before.
 module _ {D : Type 0} (facts : D → Facts) (called : CallOn) (entries : List Entry) (file_token : FileToken) (old new : Book D) where
   abbrev pub EndsThere : End → Type 0
   EndsThere Skips = new ≡ old

@@ -173,3 +173,52 @@ fn reads_wait_for_no_sync(rt: HostRuntime) {
         assert!(rt; is_so, "behind {before} syncs");
     }
 }
+
+/// Tells whether worker 0 is told this of its second change, if the device call of this number fails. Three changes of
+/// one word each are held when they are sealed, and worker 1 makes one beside them.
+fn second_change_is<R: Threads + Wait + Sync>(
+    rt: &R,
+    alloc: Global,
+    number: u64,
+    told: &'static [u8],
+    value: u64,
+) -> bool {
+    let first = Talk {
+        says: b"TENANT t\nCAS 0:0:1\nCAS 0:1:2\n",
+        told,
+    };
+    let beside = Talk {
+        says: b"TENANT t\nCAS 1:0:1\n",
+        told: b"OK 4\nYES\n",
+    };
+    let third = Talk {
+        says: b"TENANT t\nCAS 2:0:1\n",
+        told: b"OK 4\nYES\n",
+    };
+    let fourth = Talk {
+        says: b"TENANT t\nCAS 3:0:1\n",
+        told: b"OK 4\nYES\n",
+    };
+    let story = Story {
+        place: Place::AllButOne(Point::BeforeSettle),
+        before: 0,
+        talks: &[first, beside, third, fourth],
+    };
+    let case = Case {
+        tenants: b"t 4 4 t.mw\n",
+        pool: 4,
+        devices: &[Device::Fails(number)],
+        play: Play::Story(story),
+        words: &[&[value, 1, 1, 1]],
+    };
+    is_so(rt, alloc, &case)
+}
+
+/// A settle settles all sealed changes, and their own settles then make no device call. Each of three changes is held
+/// after four calls. The one beside them makes four to its seal, and its settle makes ten for all four. So the second
+/// change of worker 0 begins with call 27, and its seal's sync is call 30.
+#[test]
+fn one_settle_for_all_sealed_changes(rt: HostRuntime) {
+    assert!(rt; second_change_is(&rt, rt.alloc(), 30, b"OK 4\nYES\nFAULT\n", 2));
+    assert!(rt; second_change_is(&rt, rt.alloc(), 31, b"OK 4\nYES\nYES\n", 2));
+}

@@ -22,20 +22,24 @@ pub(crate) enum Place {
     At(Point),
     /// Any worker is at this point.
     Anyone(Point),
+    /// Each worker but worker 1 is at this point for the first time. All of them are stopped.
+    AllButOne(Point),
     /// A worker is about to write to a disk.
     Write,
     /// A worker is about to sync a disk.
     Sync,
 }
 
-/// Stops the worker that comes to it as the one of a number, until all others have left or the turns are
-/// used up. So a test fails, and ends, if workers wait for the one that is stopped.
+/// Stops the worker that comes to it as the one of a number, or so many from this one on, until all others have
+/// left or the turns are used up. So a test fails, and ends, if workers wait for one that is stopped.
 #[derive(Drop)]
 pub(crate) struct Latch {
     /// The place of the latch.
     place: Place,
-    /// How many come before the one that is stopped.
+    /// How many come before the first one that is stopped.
     before: AtomicU64,
+    /// How many are stopped.
+    stops: AtomicU64,
     came: AtomicU64,
     has_stopped: AtomicBool,
     /// How many others haven't left.
@@ -50,6 +54,7 @@ impl Latch {
         Latch {
             place,
             before: AtomicU64::new(u64::MAX),
+            stops: AtomicU64::new(1),
             came: AtomicU64::new(0),
             has_stopped: AtomicBool::new(false),
             others: AtomicU64::new(0),
@@ -58,11 +63,23 @@ impl Latch {
         }
     }
 
-    /// Sets the latch: so many come before the one that is stopped. It opens when so many others have left.
-    pub(crate) fn set(&self, before: u64, others: u64) {
+    /// Sets the latch for so many workers: so many come before the first one that is stopped. It opens when all that
+    /// are not stopped have left.
+    pub(crate) fn set(&self, before: u64, workers: u64) {
+        let others = workers.saturating_sub(1);
+        let (stops, others) = match self.place {
+            Place::AllButOne(_) => (others, 1),
+            _ => (1, others),
+        };
+        self.stops.store(stops, Ordering::SeqCst);
         self.others.store(others, Ordering::SeqCst);
         self.came.store(0, Ordering::SeqCst);
         self.before.store(before, Ordering::SeqCst);
+    }
+
+    /// Tells whether the latch stops each worker but worker 1.
+    pub(crate) fn holds_all_but_one(&self) -> bool {
+        matches!(self.place, Place::AllButOne(_))
     }
 
     /// Comes to the latch if this is its place.
@@ -74,16 +91,22 @@ impl Latch {
 
     /// Comes to the latch.
     fn pass(&self) {
-        if self.came.fetch_add(1, Ordering::SeqCst) != self.before.load(Ordering::SeqCst) {
-            return;
+        let came = self.came.fetch_add(1, Ordering::SeqCst);
+        let stops = self.stops.load(Ordering::SeqCst);
+        match came.checked_sub(self.before.load(Ordering::SeqCst)) {
+            Some(stopped) if stopped < stops => {
+                if stopped == stops - 1 {
+                    self.has_stopped.store(true, Ordering::SeqCst);
+                }
+            }
+            _ => return,
         }
-        self.has_stopped.store(true, Ordering::SeqCst);
         if !comes_true(&self.is_open) {
             self.has_expired.store(true, Ordering::SeqCst);
         }
     }
 
-    /// Waits until a worker was stopped. Gives false if none was.
+    /// Waits until all that are to be stopped were. Gives false if they weren't.
     pub(crate) fn stops_one(&self) -> bool {
         comes_true(&self.has_stopped)
     }
@@ -95,7 +118,7 @@ impl Latch {
         }
     }
 
-    /// Tells whether a worker was stopped, and went on only when all others had left.
+    /// Tells whether all that are to be stopped were, and went on only when all others had left.
     pub(crate) fn has_held(&self) -> bool {
         self.has_stopped.load(Ordering::SeqCst) && !self.has_expired.load(Ordering::SeqCst)
     }
@@ -123,6 +146,9 @@ impl Hold for ByLatch<'_> {
         self.latch.meet(Place::Anyone(point));
         if worker == 0 {
             self.latch.meet(Place::At(point));
+        }
+        if worker != 1 {
+            self.latch.meet(Place::AllButOne(point));
         }
     }
 }

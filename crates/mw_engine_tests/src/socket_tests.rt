@@ -111,7 +111,7 @@ where
     };
     let listener = listen_at(rt, "127.0.0.1:0", 0, limits)?;
     let port = port_of(&listener)?.unwrap_or(0);
-    latch.set(0, 1);
+    latch.set(0, 2);
     let (told, served) = thread::join(
         rt,
         || come_and_go(rt, port, latch),

@@ -64,11 +64,11 @@ pub(crate) fn are_served<J: EngineBrand, R: Wait>(
     true
 }
 
-/// Sessions at once, each in a thread of its own. Worker 0 is held in its session until the others have had
-/// theirs.
+/// Sessions at once, each in a thread of its own. Worker 0 is held in its session, or each one but worker 1, until the
+/// others have had theirs.
 #[derive(Drop)]
 pub(crate) struct Story<'c> {
-    /// Where worker 0 is held.
+    /// Where it is held.
     pub(crate) place: Place,
     /// How many come there before it.
     pub(crate) before: u64,
@@ -76,14 +76,15 @@ pub(crate) struct Story<'c> {
     pub(crate) talks: &'c [Talk],
 }
 
-/// Tells whether a worker of a story is told what it must be told. All but worker 0 wait until it is held.
+/// Tells whether a worker of a story is told what it must be told. The workers that are not held wait until the others
+/// are.
 fn plays<J: EngineBrand, R: Wait>(
     alloc: Global,
     mut worker: Worker<'_, '_, J, R>,
     talks: &[Talk],
     latch: &Latch,
 ) -> bool {
-    if worker.number() == 0 {
+    if worker.number() == 0 || latch.holds_all_but_one() && worker.number() != 1 {
         return is_told(alloc, &mut worker, talks);
     }
     let has_stopped = latch.stops_one();
@@ -92,8 +93,8 @@ fn plays<J: EngineBrand, R: Wait>(
     has_stopped && told
 }
 
-/// Tells whether all workers of a story are told what they must be told, and worker 0 was held until the
-/// others were.
+/// Tells whether all workers of a story are told what they must be told, and those that are held were until the others
+/// were.
 pub(crate) fn is_played<J: EngineBrand + Send + Sync, R: Threads + Wait + Sync>(
     rt: &R,
     alloc: Global,
@@ -102,7 +103,7 @@ pub(crate) fn is_played<J: EngineBrand + Send + Sync, R: Threads + Wait + Sync>(
     latch: &Latch,
 ) -> bool {
     let talks = story.talks;
-    latch.set(story.before, workers.len().saturating_sub(1) as u64);
+    latch.set(story.before, workers.len() as u64);
     match thread::map_vec(rt, workers, &|worker| plays(alloc, worker, talks, latch)) {
         Ok(told) => !told.as_slice().contains(&false) && latch.has_held(),
         Err(_) => false,

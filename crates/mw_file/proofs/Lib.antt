@@ -17,5 +17,6 @@ pub mod Rolled
 pub mod RollForwardLaws
 pub mod Safety
 pub mod SettledFiles
+pub mod SharedSettles
 pub mod TakenCounts
 pub mod OneWrite

@@ -86,3 +86,20 @@ pub record IsStaged (old new : List PlaceState) (place : ℕ) (stage : Stage) (w
 pub record MaySeal (states : List PlaceState) (place : ℕ) : Type 0 where
   pub prepared : stage_of states place ≡ Prepared
   pub apart : (other addr : ℕ) → stage_of states other ≡ Sealed → holds (writes_of_place states place) addr ≡ true → holds (writes_of_place states other) addr ≡ false
+
+-- the stage of a place after all sealed changes were rolled forward: a sealed place is free, any other is as it was
+abbrev pub freed : Stage → Stage
+freed Free = Free
+freed Prepared = Prepared
+freed Sealed = Free
+
+-- All places that were sealed are free. All else is as it was.
+pub record AreFreed (old new : List PlaceState) : Type 0 where
+  pub count : length new ≡ length old
+  pub stages : (place : ℕ) → stage_of new place ≡ freed (stage_of old place)
+  pub writes : (place : ℕ) → writes_of_place new place ≡ writes_of_place old place
+
+-- This place is sealed, and no other is.
+pub record IsOnlySealed (states : List PlaceState) (place : ℕ) : Type 0 where
+  pub sealed : stage_of states place ≡ Sealed
+  pub others : (other : ℕ) → other ≢ place → stage_of states other ≢ Sealed

@@ -1,11 +1,11 @@
-//! The calls that take a change through a file: prepare, seal, settle and cancel.
+//! The calls that take changes through a file: prepare, seal, settle and cancel of one change, and the settle of all.
 //!
 //! What they say of crashes holds on a disk that keeps the model of [`mw_disk::Disk`].
 //!
 //! mw_book makes these calls for the server, mw_plain and mw_world_file for tests and simulated worlds.
 //! `specs/PlaceStates` says which calls may be made, `specs/File` and `specs/RecoveryInvariant` how they end.
-//! docs/FILES tells the order of the device calls: change them together. README cites `seal`, docs/PROMISES `prepare`
-//! and `seal`.
+//! docs/FILES tells the order of the device calls: change them together. docs/PROMISES cites `prepare_at`, `seal` and
+//! `settle_all`.
 ghost use Rattle.std.specs.Prelude.{◌≡◌, ◌+◌, ◌≤◌, ◌<◌, ◌^◌, Some, length, IsTrue, IsSome, IfSome, is_some, is_ok, ℕ, [], ◌∷◌, IfOk, OnOk, OnErr};
 ghost use Rattle.mw_disk.specs.DeviceCalls.{WriteAt, Sync, Makes};
 ghost use Rattle.mw_disk.specs.Facts.{IsSynced, patched};
@@ -15,7 +15,7 @@ ghost use Rattle.mw_file.specs.Run.{Ran};
 ghost use Rattle.mw_words.specs.Change.{is_change};
 ghost use Rattle.mw_record.specs.Layout.{pairs_of};
 ghost use Rattle.mw_file.specs.PlaceStates as spec;
-ghost use Rattle.mw_file.specs.PlaceStates.{stage_of, writes_of_place, IsStaged, MaySeal};
+ghost use Rattle.mw_file.specs.PlaceStates.{stage_of, writes_of_place, roll_calls, IsStaged, AreFreed, MaySeal};
 
 use crate::place_states::{PlaceState, Stage, writes_to};
 use crate::roll::roll_forward;
@@ -26,7 +26,7 @@ use mw_words::Entries;
 use std::slice;
 
 impl<D: Disk> TenantFile<D> {
-    ghost use Rattle.mw_file.specs.DeviceCalls.{prepare_calls, seal_calls, settle_calls, MadeCalls};
+    ghost use Rattle.mw_file.specs.DeviceCalls.{prepare_calls, seal_calls, settle_calls, roll_device_calls, MadeCalls};
     ghost use Rattle.mw_file.specs.File.{states_of, words_of, at_of, disk_of, Ends};
     ghost use Rattle.mw_file.specs.RecoveryInvariant.{ContentsStay, ChangeIsSealed, FirstStays};
 
@@ -79,22 +79,48 @@ impl<D: Disk> TenantFile<D> {
         ensures safe { ContentsStay D.facts self.old self.new }
         ensures first { FirstStays D.facts self.old self.new }
     {
-        if self.failed {
-            return Err(FileFault::Failed);
-        }
         let Some(place) = free_place(&self.states) else {
             unreachable!()
         };
-        let at = place_at(self.at, self.words, place) + 1;
+        match self.prepare_at(Place(place), entries) {
+            Ok(()) => Ok(Place(place)),
+            Err(fault) => Err(fault),
+        }
+    }
+
+    /// Writes a change's record into this place, and syncs. The change isn't in the file yet: a crash at any
+    /// moment of the call leaves the words as they were. The place must be one of the file's and free, and the
+    /// change must be well formed for the file's words.
+    ///
+    /// # Errors
+    ///
+    /// - [`FileFault::Disk`] if the device fails. The place stays free.
+    /// - [`FileFault::Failed`] if the file had failed before. The call did nothing.
+    pub fn prepare_at(&mut self, place: Place, entries: &Entries) -> Result<(), FileFault>
+        requires there { place.0 < length (states_of self.old) }
+        requires free { stage_of (states_of self.old) place.0 ≡ Stage.Free }
+        requires formed { IsTrue (is_change (words_of self.old) entries.now.items) }
+        ensures ends { Ends D.facts 2 self.old self.new result }
+        ensures staged { OnOk result (IsStaged (states_of self.old) (states_of self.new) place.0
+            Stage.Prepared (pairs_of entries.now.items)) }
+        ensures made { MadeCalls D.made (prepare_calls (at_of self.old) (words_of self.old) place.0 entries.now.items) self.old self.new result }
+        ensures later { Later (D.facts (disk_of self.old)) (D.facts (disk_of self.new)) }
+        ensures safe { ContentsStay D.facts self.old self.new }
+        ensures first { FirstStays D.facts self.old self.new }
+    {
+        if self.failed {
+            return Err(FileFault::Failed);
+        }
+        let at = place_at(self.at, self.words, place.0) + 1;
         if write_and_sync(&mut self.disk, at, &body(entries)).is_err() {
             self.failed = true;
             return Err(FileFault::Disk);
         }
-        self.states[place as usize] = PlaceState {
+        self.states[place.0 as usize] = PlaceState {
             stage: Stage::Prepared,
             writes: writes_to(entries),
         };
-        Ok(Place(place))
+        Ok(())
     }
 
     /// Commits a prepared change: sets its commit byte, and syncs. From then on the change is in the file for
@@ -158,6 +184,34 @@ impl<D: Disk> TenantFile<D> {
         Ok(())
     }
 
+    /// Writes the values of all sealed changes into their home words and syncs once, then clears their commit
+    /// bytes and syncs once. Then their places are free. Prepared changes stay prepared. A crash at any moment
+    /// of the call leaves the words as they were, with all these changes. If none is sealed, the call only
+    /// syncs twice.
+    ///
+    /// # Errors
+    ///
+    /// - [`FileFault::Disk`] if the device fails. The changes stay sealed.
+    /// - [`FileFault::Failed`] if the file had failed before. The call did nothing.
+    pub fn settle_all(&mut self) -> Result<(), FileFault>
+        ensures ends { Ends D.facts (roll_calls (states_of self.old)) self.old self.new result }
+        ensures freed { OnOk result (AreFreed (states_of self.old) (states_of self.new)) }
+        ensures made { MadeCalls D.made (roll_device_calls (at_of self.old) (words_of self.old) 0 (states_of self.old)) self.old self.new result }
+        ensures later { Later (D.facts (disk_of self.old)) (D.facts (disk_of self.new)) }
+        ensures safe { ContentsStay D.facts self.old self.new }
+        ensures first { FirstStays D.facts self.old self.new }
+    {
+        if self.failed {
+            return Err(FileFault::Failed);
+        }
+        if roll_forward(&mut self.disk, self.at, self.words, &self.states, 0).is_err() {
+            self.failed = true;
+            return Err(FileFault::Disk);
+        }
+        free_sealed(&mut self.states);
+        Ok(())
+    }
+
     /// Gives up a prepared change. Its place is free then. This makes no device call, and always
     /// succeeds.
     pub fn cancel(&mut self, place: Place)
@@ -196,6 +250,23 @@ fn free_place(states: &[PlaceState]) -> Option<u16>
         }
     }
     None
+}
+
+fn free_sealed(states: &mut [PlaceState])
+    ensures { AreFreed states.old states.new }
+{
+    for state in states.iter_mut() {
+        state.stage = freed(state.stage);
+    }
+}
+
+fn freed(stage: Stage) -> Stage
+    ensures { result ≡ spec.freed stage }
+{
+    match stage {
+        Stage::Free | Stage::Sealed => Stage::Free,
+        Stage::Prepared => Stage::Prepared,
+    }
 }
 
 pub(crate) fn write_and_sync<D: Disk>(disk: &mut D, at: u64, bytes: &[u8]) -> Result<(), DiskFault>

@@ -1,5 +1,5 @@
-//! Laws of a file: what an opening finds after a crash, how places are counted, and at which call a device fails.
-//! Each is the contract of an empty function.
+//! Laws of a file: what an opening finds after a crash, how places are counted, which device calls a settle of all
+//! changes makes for one, and at which call a device fails. Each is the contract of an empty function.
 //!
 //! Nothing that runs calls them. The law `a_restart_goes_on` of mw_plain calls `crash_of_a_file`, and proofs of
 //! mw_plain cite `proofs/TakenCounts`: a statement may change with mw_plain. docs/PROMISES cites the laws of a crash.
@@ -16,7 +16,8 @@ ghost use Rattle.mw_file.specs.Reopenings.{Holds};
 ghost use Rattle.mw_file.specs.Run.{FailsAtCall};
 ghost use Rattle.mw_file.specs.declared.place_states.PlaceState.{PlaceState};
 ghost use Rattle.mw_file.specs.declared.place_states.Stage.{Stage};
-ghost use Rattle.mw_file.specs.PlaceStates.{free_place, stage_of, IsStaged};
+ghost use Rattle.mw_file.specs.PlaceStates.{free_place, stage_of, writes_of_place, roll_calls, IsStaged, AreFreed, IsOnlySealed};
+ghost use Rattle.mw_file.specs.DeviceCalls.{settle_calls, roll_device_calls};
 ghost use Rattle.mw_file.specs.Taken.{taken, if_taken};
 
 use mw_disk::Disk;
@@ -64,4 +65,15 @@ pub fn the_device_fails_where_it_is_told<D: Disk>()
     ensures fault { (calls k : ℕ) (old new : File D) → IsTrue (D.facts (disk_of old)).honest → FailsAtCall (D.facts (disk_of old)) k
         → (met : MetFault D.facts calls old new)
         → ((met.made.well ≡ k) × (k < calls)) ⊎ ((D.facts (disk_of new)).refused ≡ min ((D.facts (disk_of old)).refused + 1) most_counted) }
+{}
+
+/// If just one place is sealed, `settle_all` makes the device calls that `settle` of this place makes, in the
+/// same order, and leaves the same states.
+pub fn one_sealed_place_settles_alone()
+    ensures calls { (at words : ℕ) (states : List PlaceState) (place : ℕ) → IsOnlySealed states place
+        → roll_device_calls at words 0 states ≡ settle_calls at words place (writes_of_place states place) }
+    ensures count { (states : List PlaceState) (place : ℕ) → IsOnlySealed states place
+        → roll_calls states ≡ length (writes_of_place states place) + 3 }
+    ensures freed { (old new : List PlaceState) (place : ℕ) → IsOnlySealed old place → AreFreed old new
+        → IsStaged old new place Stage.Free (writes_of_place old place) }
 {}

@@ -2,14 +2,16 @@
 //!
 //! A change goes through one place of the file:
 //!
-//! - `prepare` writes the change's record into a free place.
+//! - `prepare` writes the change's record into the lowest free place, `prepare_at` into a given one.
 //! - `seal` sets the place's commit byte. From then on the change is in the file.
-//! - `settle` writes the change's values into the home words, then clears the commit byte.
+//! - `settle` writes the change's values into the home words, then clears the commit byte. `settle_all` does
+//!   this for all sealed changes at once, which share its two syncs.
 //! - `cancel` gives up a prepared change.
 //! - `open` reads a file and finishes the changes that were sealed and not settled.
 //!
 //! In the field's terms: the places are a redo log, and a home word is the data in place. `seal` commits,
-//! `settle` is a checkpoint of one change, and `open` recovers by redoing what was committed.
+//! `settle` is a checkpoint of one change, `settle_all` of all, and `open` recovers by redoing what was
+//! committed.
 //!
 //! A new file has its first layout only. Its first opening adds a second layout after the first, with the
 //! file's words and twice as many places, and sets the switch byte. From then on all changes go into the
@@ -33,7 +35,8 @@ mod roll;
 mod tenant_file;
 
 pub use laws::{
-    crash_in_an_opening, crash_of_a_file, places_are_counted, the_device_fails_where_it_is_told,
+    crash_in_an_opening, crash_of_a_file, one_sealed_place_settles_alone, places_are_counted,
+    the_device_fails_where_it_is_told,
 };
 pub use opening::OpenFault;
 pub use place_states::{PlaceState, Stage, Writes};

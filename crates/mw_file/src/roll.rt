@@ -1,6 +1,6 @@
 //! Rolls sealed changes forward (redo): writes their values into the home words, then clears their commit bytes.
 //!
-//! Called by `settle` and by an opening. Callers don't see it: it may change with `specs/RollForward`.
+//! Called by `settle`, `settle_all` and an opening. Callers don't see it: it may change with `specs/RollForward`.
 ghost use Rattle.std.specs.Prelude.{◌≡◌, ◌+◌, ◌≤◌, ◌<◌, ◌^◌, ℕ, List, Some, length, drop, slice_index, map, is_ok, [], ◌∷◌, ◌++◌, IsTrue, OnOk, OnErr};
 ghost use Rattle.arrayvec.specs.ArrayVec.{array_vec_len};
 ghost use Rattle.mw_disk.specs.DeviceCalls.{Sync, Makes};

@@ -60,3 +60,12 @@ returns-in-Settle-clause-answers g c = (filed_as g.D.Disk.facts c.args.call Sett
 
 pub returns-in-Cancel-clause-answers : goal.returns-in-Cancel-clause-answers
 returns-in-Cancel-clause-answers g c = (filed_as g.D.Disk.facts c.args.call Cancel c.args.slot c.args.entries.now.items c.args.self.now c.cancel.new.self c.cancel.result c.in-Cancel.is (c.cancel.ensures c.args.entries.now.items)).answers
+
+pub returns-in-Seal-clause-ahead : goal.returns-in-Seal-clause-ahead
+returns-in-Seal-clause-ahead g c = (filed_as g.D.Disk.facts c.args.call Seal c.args.slot c.args.entries.now.items c.args.self.now c.seal.new.self c.seal.result c.in-Seal.is (c.seal.ensures c.args.entries.now.items)).ahead
+
+pub returns-in-Settle-clause-ahead : goal.returns-in-Settle-clause-ahead
+returns-in-Settle-clause-ahead g c = (filed_as g.D.Disk.facts c.args.call Settle c.args.slot c.args.entries.now.items c.args.self.now c.settle.new.self c.settle.result c.in-Settle.is (c.settle.ensures c.args.entries.now.items)).ahead
+
+pub returns-in-Cancel-clause-ahead : goal.returns-in-Cancel-clause-ahead
+returns-in-Cancel-clause-ahead g c = (filed_as g.D.Disk.facts c.args.call Cancel c.args.slot c.args.entries.now.items c.args.self.now c.cancel.new.self c.cancel.result c.in-Cancel.is (c.cancel.ensures c.args.entries.now.items)).ahead

@@ -16,4 +16,4 @@ returns g c entries =
     cancel_made facts old _ held c.cancel.new.self c.in-Some.is
     (subst (λ d. Later (facts (disk_of held)) (facts d)) (sym (ap disk_of c.cancel.ensures.rest)) (later_refl (facts (disk_of held)))) c.cancel.ensures.safe
     c.args.slot (omega (arith, c.ranges.slot.fits)) (busy_in old held c.args.slot Prepared c.in-Some.is c.requires.may refl) _ c.cancel.ensures.staged
-    (record { is_held = refl; is_words = refl; is_places = refl; is_place_of = refl; is_failed = refl }) entries (ap disk_of c.cancel.ensures.rest)
+    (record { is_held = refl; is_words = refl; is_places = refl; is_place_of = refl; are_settled = refl; is_failed = refl }) entries (ap disk_of c.cancel.ensures.rest)

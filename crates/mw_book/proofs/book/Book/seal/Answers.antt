@@ -16,7 +16,7 @@ returns-then-is_err g c entries =
     let old = c.args.self.now in
     seal_broken g.D.Disk.facts old _ c.in-Some.file c.seal.new.self c.in-Some.is c.seal.ensures.later c.args.slot (omega (arith, c.ranges.slot.fits))
     (busy_in old c.in-Some.file c.args.slot Prepared c.in-Some.is (c.requires.may c.if-self.false).prepared refl) c.if-self.false c.seal.result c.seal.ensures.safe entries
-    (sym c.is_err.ensures.value ∙ c.if-is_err.true) c.seal.ensures.ends (record { is_held = refl; is_words = refl; is_places = refl; is_place_of = refl; is_failed = refl })
+    (sym c.is_err.ensures.value ∙ c.if-is_err.true) c.seal.ensures.ends (record { is_held = refl; is_words = refl; is_places = refl; is_place_of = refl; are_settled = refl; is_failed = refl })
 
 pub returns : goal.returns
 returns g c entries =
@@ -25,4 +25,4 @@ returns g c entries =
     seal_made g.D.Disk.facts old _ c.in-Some.file c.seal.new.self c.in-Some.is c.seal.ensures.later c.args.slot (omega (arith, c.ranges.slot.fits))
     (busy_in old c.in-Some.file c.args.slot Prepared c.in-Some.is (c.requires.may c.if-self.false).prepared refl) c.if-self.false c.seal.result c.seal.ensures.safe entries
     well (ended_well g.D.Disk.facts 2 c.in-Some.file c.seal.new.self c.seal.result well c.seal.ensures.ends) (went_well c.seal.result _ well c.seal.ensures.staged)
-    (record { is_held = refl; is_words = refl; is_places = refl; is_place_of = refl; is_failed = refl })
+    (record { is_held = refl; is_words = refl; is_places = refl; is_place_of = refl; are_settled = refl; is_failed = refl })
