@@ -18,6 +18,7 @@ use Rattle.mw_world.specs.Definition.Events.{WorldEvent}
 use Rattle.mw_world.specs.Definition.State.{TenantStart, tenants_of, world_at}
 use Rattle.mw_law_calls.specs.FromLaws.{IsRightAt, SealedChange, sealed_of}
 use Rattle.mw_law_store.specs.ReplyPlaces.{words_at_start}
+use Rattle.mw_law_whole.proofs.RefusedChangeLaws.{refused_requests_make_no_change}
 use Rattle.mw_rule.specs.Prefixes.{seen_at}
 use Rattle.mw_rule.specs.Rule.{Each, Fits, IsFinished, IsHandedOut, IsLive, IsRightAmong, IsSpent, TableInvariant, is_of, notes_of, quota_given, times_finished, weight, words_given}
 use Rattle.mw_rule.specs.declared.views.Finished.{Finished}
@@ -133,6 +134,9 @@ module _ (config : Config) (begun : (ℕ → TenantStart) → List WorldEvent �
     seen = λ id tenant view at live low. (fits_live id view at live).seen tenant low;
     right = right;
     two = two;
+    refused = λ id index view one at mine tells.
+        let is = right id index view one at mine in
+        refused_requests_make_no_change config rule.past.openings (rule.past.before ++ rule.events) rule.state one.tenant is.handed.0 one.request one.reply rule.past.played is.there is.handed.1 tells;
   }
 
 pub moments_have_one_history : (config : Config) (begun : (ℕ → TenantStart) → List WorldEvent → Type 0) → MomentsHaveOneHistory config begun

@@ -9,6 +9,7 @@ use Rattle.mw_actor.specs.ActorState.{ActorState}
 use Rattle.mw_world.specs.declared.config.Config.{Config}
 use Rattle.mw_world.specs.Definition.Events.{WorldEvent}
 use Rattle.mw_world.specs.Definition.State.{State, TenantStart, tenants_of, world_at}
+use Rattle.mw_law_whole.specs.Refusals.{MakesNoChange, TellsOfNoChange}
 use Rattle.mw_law_calls.specs.FromLaws.{IsBeginning, IsRightAt, sealed_of}
 use Rattle.mw_law_store.specs.ReplyPlaces.{words_at_start}
 use Rattle.mw_rule.specs.KnownRuns.{ExtendsKnownRun, known_run_of}
@@ -37,7 +38,8 @@ pub record AreTwo (one other : Finished) : Type 0 where
 -- - its latest start gave the tenants what each live thread knows, and the changes that this thread has seen are the first ones sealed
 --   in it;
 -- - each request that any thread's workers finished is right in it;
--- - any two of these requests of one tenant, of one thread or of two, are two.
+-- - any two of these requests of one tenant, of one thread or of two, are two;
+-- - if such a request was answered VAL, NO or BUSY, no change of it is sealed in this run, and the change in doubt is another's.
 pub record IsOneHistory (config : Config) (begun : (ℕ → TenantStart) → List WorldEvent → Type 0) (s : Table ActorState View) (tied : TableInvariant config begun s) : Type 0 where
   pub known : (id : ℕ) (view : View) → get_elem? s.views id ≡ some view → ExtendsKnownRun view.known_run (Some (known_run_of config tied.past.openings tied.past.before tied.events))
   pub gave : (id tenant : ℕ) (view : View) → get_elem? s.views id ≡ some view → IsLive view → tenant < tenants_of config → Gave tied.past.openings tied.state tenant (opening_at view.openings tenant)
@@ -45,6 +47,7 @@ pub record IsOneHistory (config : Config) (begun : (ℕ → TenantStart) → Lis
   pub right : (id index : ℕ) (view : View) (one : Finished) → get_elem? s.views id ≡ some view → slice_get view.mine index ≡ Some one → IsRightInRun config tied.past.openings tied.past.before tied.events tied.state one
   pub two : (id other index another : ℕ) (view its : View) (one that : Finished) → get_elem? s.views id ≡ some view → get_elem? s.views other ≡ some its
       → slice_get view.mine index ≡ Some one → slice_get its.mine another ≡ Some that → one.tenant ≡ that.tenant → ((id ≡ other) × (index ≡ another)) ⊎ AreTwo one that
+  pub refused : (id index : ℕ) (view : View) (one : Finished) → get_elem? s.views id ≡ some view → slice_get view.mine index ≡ Some one → TellsOfNoChange one.reply → MakesNoChange tied.past.openings tied.state one.tenant one.request
 
 -- At each moment at which the table is under the rule, by whatever run, there is this history.
 abbrev pub MomentsHaveOneHistory : Config → ((ℕ → TenantStart) → List WorldEvent → Type 0) → Type 0

@@ -10,7 +10,8 @@ use mw_rule::Begins;
 ///
 /// `history`: each VAL, NO and YES that any pass has given is right at its position among its tenant's sealed changes in
 /// this run. The run handed out each reply. No two replies are to one request, and each YES has a change of its own. What
-/// a pass has seen are the first of these changes.
+/// a pass has seen are the first of these changes. None of them is of a request that was answered VAL, NO or BUSY; nor
+/// is the change in doubt in the tenant's file.
 ///
 /// Not said: the order in time of replies that two passes have given.
 pub fn every_moment_has_one_history<B: Begins>()

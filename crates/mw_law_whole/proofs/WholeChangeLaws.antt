@@ -13,9 +13,8 @@ use Rattle.mw_words.specs.declared.statuses.Status.{Status}
 use Rattle.mw_words.specs.declared.statuses.Status.TheVariants.{Draft, Open, YesDirty, Yes, No, DoneYes, DoneNo}
 use Rattle.mw_lone.specs.declared.marks.Mark.{Mark}
 use Rattle.mw_lone.specs.declared.marks.Mark.TheVariants.{Ask}
-use Rattle.mw_lone.specs.Store.{Store, RequestState, entries_of, request}
+use Rattle.mw_lone.specs.Store.{RequestState, entries_of, request}
 use Rattle.mw_world_file.specs.Files.{Place, Empty, Prepared, Sealed, entries_at, entries_in, is_empty, is_prepared}
-use Rattle.mw_world_file.specs.Restarts.{opened_file}
 use Rattle.mw_world.specs.declared.config.Config.{Config}
 use Rattle.mw_world.specs.Claim.Headline.{IsExecution}
 use Rattle.mw_world.specs.Claim.Invariant.{IsPlaceOf, placed}
@@ -35,14 +34,14 @@ use Rattle.mw_law_store.proofs.Histories as histories
 use Rattle.mw_law_store.proofs.MarksOfEvents.{come_comes}
 use Rattle.mw_law_store.proofs.RunSimulation.{events_are_simulated, runs_are_simulated}
 use Rattle.mw_law_store.proofs.SealedLists.{stands_at}
-use Rattle.mw_law_store.proofs.SimulationSteps.Started.{starts_simulated}
 use Rattle.mw_law_store.specs.AbstractStates.{AbstractState, SealedChange, abstract_state_at, abstract_state_of, after_marks, first_abstract_state}
 use Rattle.mw_law_store.specs.History.{IsNoStart, SealsStay}
 use Rattle.mw_law_store.specs.ReplyPlaces.{sealed_of}
-use Rattle.mw_law_store.specs.Simulation.{IsSimulated, IsSimulatedBy, start_of}
+use Rattle.mw_law_store.specs.Simulation.{IsSimulated, start_of}
 use Rattle.mw_law_store.specs.Due.{told}
-use Rattle.mw_law_whole.specs.WholeChanges.{DoubtIsWhole, IsAskedFor, IsOfOwner, IsUnsealed, IsWholeChange, PlacesHoldWholeChanges, RequestsAskForOneChange, RequestsStayAsked, SealedChangesAreWhole}
-use Rattle.mw_law_whole.proofs.StoresInDoubt.{HasFault, IsOfFault, fault_stays}
+use Rattle.mw_law_whole.specs.WholeChanges.{DoubtIsWhole, IsAskedFor, IsOfOwner, IsPending, IsUnsealed, PlacesHoldWholeChanges, RequestsAskForOneChange, RequestsStayAsked, SealedChangesAreWhole}
+use Rattle.mw_law_whole.proofs.StoresInDoubt.{IsOfFault}
+use Rattle.mw_law_whole.proofs.StoresOfRuns.{simulated_so}
 use Rattle.mw_law_whole.proofs.AskedChanges.{IsFirst, Knows, knows_lines}
 
 seals_stay : SealsStay
@@ -102,8 +101,16 @@ module _ (config : Config) (openings : ℕ → TenantStart) (events : List World
         | inr asked ↦ inr (subst (IsAskedFor state tenant n) same asked)
       ]
 
+  -- a request that the store doesn't have has no sealed change
+  pub not_there : (by : IsSimulated openings state tenant) (n : ℕ) → request by.store n ≡ None → IsUnsealed openings state tenant n
+  not_there by n none place one there same =
+      let history = by.simulated.history_match in
+      let stands = stands_at start lines place one (start_fresh config openings events state tenant played low).sealed history.since.no_start there in
+      let its = history.sealed stands.line one.request stands.is in
+      none-some its.found (sym none ∙ ap (request by.store) (sym same) ∙ its.is_asked)
+
   -- a request whose reply isn't YES has no sealed change
-  not_sealed : (by : IsSimulated openings state tenant) (n : ℕ) (found : RequestState) → request by.store n ≡ Some found → found.placed ≢ Some SaysYes → IsUnsealed openings state tenant n
+  pub not_sealed : (by : IsSimulated openings state tenant) (n : ℕ) (found : RequestState) → request by.store n ≡ Some found → found.placed ≢ Some SaysYes → IsUnsealed openings state tenant n
   not_sealed by n found at no_yes place one there same =
       let history = by.simulated.history_match in
       let stands = stands_at start lines place one (start_fresh config openings events state tenant played low).sealed history.since.no_start there in
@@ -212,71 +219,35 @@ requests_stay_asked config openings events later state between last worker tenan
       its = refl;
     }
 
--- Some store simulates the tenant, and its change in doubt is that of a request which was answered FAULT.
-record IsSimulatedInDoubt (openings : ℕ → TenantStart) (state : State) (tenant : ℕ) : Type 0 where
-  store : Store
-  simulated : IsSimulatedBy openings state tenant store
-  fault : HasFault store
-
-doubt_simulated : (config : Config) (openings : ℕ → TenantStart) (events : List WorldEvent) (state : State) (tenant : ℕ) → IsExecution config openings events state → tenant < tenants_of config
-    → IsSimulatedInDoubt openings state tenant
-doubt_simulated config openings events state tenant played low =
-    played_by_events config openings (λ before now. IsSimulatedInDoubt openings now tenant) (from_none (world_at config openings) (starts_simulated config openings tenant played.starts low) refl)
-    (λ before event now next so_far has is. by_event before event now next so_far has is) events state played
-  where
-    from_none : (now : State) → IsSimulated openings now tenant → (now.tenant_states tenant).file.doubt ≡ [] → IsSimulatedInDoubt openings now tenant
-    from_none now by none = record { store = by.store; simulated = by.simulated; fault = inl (sym by.simulated.refines.holds.in_doubt ∙ none) }
-
-    stays : (before : List WorldEvent) (event : WorldEvent) (now next : State) → IsExecution config openings before now → IsSimulatedInDoubt openings now tenant → IsNoStart event → step config now event ≡ Some next
-        → IsSimulatedInDoubt openings next tenant
-    stays before event now next so_far has no_start is =
-        let on = events_are_simulated config openings before now next event tenant has.store so_far low has.simulated no_start is in
-        record {
-          store = on.after;
-          simulated = on.simulated;
-          fault = fault_stays has.store on.after has.simulated.refines.holds.numbered (start_of openings now tenant) (now.tenant_states tenant).lines on.says on.may on.goes has.fault;
-        }
-
-    opened_none : (words : List ℕ) (fails_at : Option ℕ) → (opened_file words fails_at).doubt ≡ []
-    opened_none words None = refl
-    opened_none words (Some number) = refl
-
-    by_event : (before : List WorldEvent) (event : WorldEvent) (now next : State) → IsExecution config openings before now → IsSimulatedInDoubt openings now tenant → step config now event ≡ Some next
-        → IsSimulatedInDoubt openings next tenant
-    by_event before (Come worker other job) now next so_far has is = stays before (Come worker other job) now next so_far has tt is
-    by_event before (Step worker) now next so_far has is = stays before (Step worker) now next so_far has tt is
-    by_event before (File worker outcome) now next so_far has is = stays before (File worker outcome) now next so_far has tt is
-    by_event before (Hand worker) now next so_far has is = stays before (Hand worker) now next so_far has tt is
-    by_event before (Restart founds) now next so_far has is =
-        let after : IsExecution config openings (before ++ Restart founds ∷ []) next =
-        record { made = so_far.made; starts = so_far.starts; runs = run_last config (world_at config openings) now next before (Restart founds) so_far.runs is } in
-        from_none next (runs_are_simulated config openings (before ++ Restart founds ∷ []) next tenant after low)
-        (guarded (λ (one : State). (one.tenant_states tenant).file.doubt ≡ []) (may_start config now founds) (restarted config now founds) next (λ may. opened_none _ _) is)
-
 no_entries_fit : (words : List ℕ) (entries : List Entry) → entries ≡ [] → fits words entries ≡ true
 no_entries_fit words entries none = ap (fits words) none
 
+-- the change in doubt is its owner's, of which no change is sealed
+pub in_doubt_so : (config : Config) (openings : ℕ → TenantStart) (events : List WorldEvent) (state : State) (tenant : ℕ) (played : IsExecution config openings events state) → tenant < tenants_of config
+    → (by : IsSimulated openings state tenant) (is : IsOfFault by.store)
+    → ((state.tenant_states tenant).file.doubt ≡ []) ⊎ IsPending openings state tenant is.owner (state.tenant_states tenant).file.doubt
+in_doubt_so config openings events state tenant played low by is =
+    elim (asked_so config openings events state tenant played low by is.owner is.found (state.tenant_states tenant).file.doubt is.is_asked (is.its ∙ sym by.simulated.refines.holds.in_doubt)) [
+      | inl none ↦ inl none
+      | inr asked ↦ inr (record {
+        asked = asked;
+        unsealed = not_sealed config openings events state tenant played low by is.owner is.found is.is_asked
+            (λ said. let e : SaysFault ≡ SaysYes = same_Some SaysFault SaysYes (sym is.says ∙ said) in absurd (cc));
+      })
+    ]
+
 pub doubt_is_whole : DoubtIsWhole
 doubt_is_whole config openings events state tenant played low =
-    let by = doubt_simulated config openings events state tenant played low in
+    let by = simulated_so config openings tenant low events state played in
     let in_doubt : (state.tenant_states tenant).file.doubt ≡ by.store.in_doubt = by.simulated.refines.holds.in_doubt in
     let words : (state.tenant_states tenant).file.contents ≡ by.store.words = by.simulated.refines.holds.words in
     elim by.fault [
       | inl none ↦ (inl (in_doubt ∙ none), no_entries_fit (state.tenant_states tenant).file.contents (state.tenant_states tenant).file.doubt (in_doubt ∙ none))
-      | inr is ↦ (whole by is in_doubt, (λ i. fits (words i) (in_doubt i)) ∙ is.fit)
-    ]
-  where
-    whole : (by : IsSimulatedInDoubt openings state tenant) (is : IsOfFault by.store) → (state.tenant_states tenant).file.doubt ≡ by.store.in_doubt → IsWholeChange openings state tenant (state.tenant_states tenant).file.doubt
-    whole by is same =
-        let mine : IsSimulated openings state tenant = record { store = by.store; simulated = by.simulated } in
-        elim (asked_so config openings events state tenant played low mine is.owner is.found (state.tenant_states tenant).file.doubt is.is_asked (is.its ∙ sym same)) [
+      | inr is ↦ (
+        elim (in_doubt_so config openings events state tenant played low (record { store = by.store; simulated = by.simulated }) is) [
           | inl none ↦ inl none
-          | inr asked ↦ inr (
-            is.owner,
-            record {
-              asked = asked;
-              unsealed = not_sealed config openings events state tenant played low mine is.owner is.found is.is_asked
-                  (λ said. let e : SaysFault ≡ SaysYes = same_Some SaysFault SaysYes (sym is.says ∙ said) in absurd (cc));
-            },
-          )
-        ]
+          | inr pending ↦ inr (is.owner, pending)
+        ],
+        (λ i. fits (words i) (in_doubt i)) ∙ is.fit,
+      )
+    ]

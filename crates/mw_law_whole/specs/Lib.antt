@@ -1,1 +1,2 @@
 pub mod WholeChanges
+pub mod Refusals

@@ -1,6 +1,7 @@
-//! States that the changes of a tenant's file are whole. The function does nothing; its contract is the facts.
+//! States which changes are in a tenant's file. The functions do nothing; their contracts are the facts.
 //!
-//! No code calls it. Proofs of mw_law_durable cite the lemmas behind it. A change of the contract here changes a theorem.
+//! No code calls them. Proofs of mw_law_durable cite the lemmas behind it. A change of a contract here changes a theorem.
+ghost use Rattle.mw_law_whole.specs.Refusals.{RefusedRequestsMakeNoChange};
 ghost use Rattle.mw_law_whole.specs.WholeChanges.{DoubtIsWhole, PlacesHoldWholeChanges, RequestsAskForOneChange, RequestsStayAsked, SealedChangesAreWhole};
 
 /// After every run, also when a number was used up:
@@ -18,4 +19,10 @@ pub fn changes_are_whole()
     ensures sealed { SealedChangesAreWhole }
     ensures once { RequestsAskForOneChange }
     ensures stay { RequestsStayAsked }
+{}
+
+/// A request that was answered VAL, NO or BUSY makes no change: from its reply on, in every run, also when a number was
+/// used up. At no moment is a change of it among those sealed since the latest start, nor is the change in doubt its own.
+pub fn refused_requests_make_no_change()
+    ensures { RefusedRequestsMakeNoChange }
 {}

@@ -1,9 +1,11 @@
 -- The replies of a session that borrows its passes are right in one history, in order.
 -- Used by: the law of src/laws.rt. It may change freely as long as this crate checks.
-use Rattle.std.specs.Prelude.{ℕ, ◌≡◌, ◌≤◌, ◌<◌, List, [], ◌∷◌, ◌++◌, length, Option, Some, None}
-use Rattle.std.proofs.Common.{refl, sym, ap, subst, ◌∙◌, arith, length-append}
+use Rattle.std.specs.Prelude.{ℕ, ◌≡◌, ◌≤◌, ◌<◌, ◌⊎◌, List, [], ◌∷◌, ◌++◌, length, slice_get, slice_index_or, Option, Some, None}
+use Rattle.std.proofs.Common.{refl, sym, ap, subst, ◌∙◌, inl, inr, arith, length-append}
+use Rattle.std.proofs.lemmas.Option.{none-some, slice_get_cases}
 use Rattle.mw_words.specs.declared.jobs.Job.{Job}
 use Rattle.mw_words.specs.declared.replies.Reply.{Reply}
+use Rattle.mw_words.specs.declared.replies.Reply.TheVariants.{Yes as SaysYes}
 use Rattle.mw_session.specs.Talk.{Call, Finds, Asks, Counts}
 use Rattle.mw_session.specs.Transitions.{GoesThrough}
 use Rattle.mw_law_calls.specs.FromLaws.{IsRightAt, SealedChange}
@@ -52,6 +54,14 @@ last_of : (P : Finished → Type 0) (all : List Finished) (one : Finished) → E
 last_of P [] one each = each.0
 last_of P (first ∷ rest) one each = last_of P rest one each.1
 
+-- the place of a YES is the index of a change
+own_change : (words : List ℕ) (sealed : List SealedChange) (place n : ℕ) (job : Job) (reply : Reply) → IsRightAt words sealed place n job reply → reply ≡ SaysYes → place < length sealed
+own_change words sealed place n job reply right said = by (slice_get_cases sealed place).1
+  where
+    by : ((one : SealedChange) × (place < length sealed) × (slice_get sealed place ≡ Some one) × (slice_index_or sealed place one ≡ one)) ⊎ ((length sealed ≤ place) × (slice_get sealed place ≡ None)) → place < length sealed
+    by (inl there) = there.1
+    by (inr past) = absurd (none-some _ (sym past.1 ∙ subst (λ (one : Reply). IsRightAt words sealed place n job one) said right))
+
 -- what was seen is the beginning of the history
 grows : (identity : Identity) (all before : List (List SealedChange)) (calls : List Call) → AreInOrder identity all before calls → IsPrefix (tenants_of identity.config) before all
 grows identity all before [] order = order
@@ -92,6 +102,7 @@ module _ (identity : Identity) (before last : View) (old new : Option Note) (bor
         place = one.place;
         no_earlier = shorter (seen_at (seen_in old) tenant) (seen_at borrows.first.seen tenant) since.rest one.place since.parted one.no_smaller;
         no_later = within;
+        own = own_change (opening_at last.openings tenant).words (seen_at (seen_in new) tenant) one.place answered.token.request job reply right;
         right = subst (λ (given : List TenantStart). IsRightAt (opening_at given tenant).words (seen_at all tenant) one.place answered.token.request job reply) openings
             (subst (λ (sealed : List SealedChange). IsRightAt (opening_at last.openings tenant).words sealed one.place answered.token.request job reply) (sym more.parted) stays);
       }

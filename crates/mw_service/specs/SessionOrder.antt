@@ -1,8 +1,9 @@
 -- Defines when the replies of a session that borrows its passes are right in one history, one after the other.
 -- Used by: the contract of src/laws.rt. A change here changes what a client is promised that shares the workers with others.
-use Rattle.std.specs.Prelude.{ℕ, ◌≤◌, ◌<◌, List, [], ◌∷◌, length, Option, Some, None}
+use Rattle.std.specs.Prelude.{ℕ, ◌≡◌, ◌≤◌, ◌<◌, List, [], ◌∷◌, length, Option, Some, None}
 use Rattle.mw_words.specs.declared.jobs.Job.{Job}
 use Rattle.mw_words.specs.declared.replies.Reply.{Reply}
+use Rattle.mw_words.specs.declared.replies.Reply.TheVariants.{Yes as SaysYes}
 use Rattle.mw_session.specs.Talk.{Call, Finds, Asks, Counts}
 use Rattle.mw_law_calls.specs.FromLaws.{IsRightAt, SealedChange}
 use Rattle.mw_rule.specs.Prefixes.{opening_at, seen_at}
@@ -17,13 +18,15 @@ seen_in None = []
 seen_in (Some kept) = (said_in kept).seen
 
 -- A reply is right in this history of its tenant, `all`: at a place that is no earlier than what the session had seen before
--- it, and no later than what it has seen with it.
+-- it, and no later than what it has seen with it. The change of a YES is one that it has seen with the reply, and had not seen
+-- before. So two YES of one session have two changes.
 pub record IsPlaced (identity : Identity) (all before with_it : List (List SealedChange)) (tenant : ℕ) (job : Job) (reply : Reply) : Type 0 where
   pub there : tenant < tenants_of identity.config
   pub request : ℕ
   pub place : ℕ
   pub no_earlier : length (seen_at before tenant) ≤ place
   pub no_later : place ≤ length (seen_at with_it tenant)
+  pub own : reply ≡ SaysYes → place < length (seen_at with_it tenant)
   pub right : IsRightAt (opening_at identity.openings tenant).words (seen_at all tenant) place request job reply
 
 -- From what a session had seen on, the replies to its calls are right in one history, `all`, each after those before it. What

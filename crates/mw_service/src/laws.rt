@@ -10,7 +10,8 @@ ghost use Rattle.mw_service.specs.Borrowed.{AnswersWith};
 ghost use Rattle.mw_service.specs.SessionOrder.{AreInOrder, seen_in};
 
 /// Whichever passes a session borrows, its replies are right in one history of each tenant, in order: each at a place
-/// that is no earlier than what the session had seen before it. That history is what the session has seen at last.
+/// that is no earlier than what the session had seen before it. The change of each YES is its own. That history is what
+/// the session has seen at last.
 pub fn replies_are_in_order()
     ensures { (identity : Identity) (calls : List Call) (old new : Option Note) → GoesThrough (AnswersWith identity) old calls new → AreInOrder identity (seen_in new) (seen_in old) calls }
 {}
