@@ -1,4 +1,5 @@
 pub mod CallEndLaws
+mod CalledDisks
 pub mod Arrivals
 pub mod Crashes
 pub mod WorldAfterStep

@@ -29,6 +29,7 @@ use Rattle.mw_simulator.specs.declared.faults.WorldFault.{WorldFault}
 use Rattle.mw_simulator.specs.declared.faults.WorldFault.TheVariants.{NotEnabled, LastNumber, Memory}
 use Rattle.mw_simulator.specs.declared.world.World.{World}
 use Rattle.mw_simulator.specs.Crashes.{CrashesDoNoHarm}
+use Rattle.mw_simulator.specs.DisksOfCalls.{DisksFollow}
 use Rattle.mw_simulator.specs.Representation.{Represents, Comes, Ends, IsLast, Leads}
 use Rattle.mw_simulator.specs.UnchangedParts.{IsUnchanged, LeavesFiles}
 
@@ -238,6 +239,7 @@ pub record Steps (old : World) (event : Event) (new : World) : Type 0 where
   pub happens : (state : State) → Represents old state → Happens old new state event (Ok tt)
   pub files : LeavesFiles old new event
   pub moments : (state : State) → Represents old state → CrashesDoNoHarm old new state event (Ok tt)
+  pub disks : (state : State) → Represents old state → DisksFollow old new state event (Ok tt)
 
 -- the same after these events, one by one
 abbrev pub AllStep : World → List Event → World → Type 0

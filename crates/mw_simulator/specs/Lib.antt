@@ -1,5 +1,6 @@
 pub mod Crashes
 pub mod CallEnds
+pub mod DisksOfCalls
 pub mod Faults
 pub mod FromMemory
 pub mod Invariant

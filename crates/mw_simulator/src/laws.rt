@@ -1,12 +1,16 @@
 //! States theorems about the simulated world: each image (bytes) that a crash may leave of a tenant's disk is one of the
-//! tenant's store alone, and a world and its stops determine what a start finds.
+//! tenant's store alone, a world and its stops determine what a start finds, and a world and a call on a file its disk.
 //!
 //! The functions do nothing, and nothing calls them: their contracts are the facts, proved in `proofs/laws`. To
 //! change a fact, change its definition in `specs`, and then its proof.
-ghost use Rattle.std.specs.Prelude.{◌≡◌};
+ghost use Rattle.std.specs.Prelude.{◌≡◌, ℕ};
+ghost use Rattle.mw_world_file.specs.declared.book.SimulatedFile.{SimulatedFile};
+ghost use Rattle.mw_world_file.specs.declared.outcomes.Outcome.{Outcome};
+ghost use Rattle.mw_world_file.specs.Devices.{disk_under};
 ghost use Rattle.mw_world.specs.Definition.Events.{Found};
 ghost use Rattle.mw_world.specs.Definition.State.{State};
 ghost use Rattle.mw_world_memory.specs.declared.tenants.TenantState.{TenantState};
+ghost use Rattle.mw_simulator.specs.DisksOfCalls.{CameByCallOf};
 ghost use Rattle.mw_simulator.specs.Events.{IsFoundBy, Outage};
 ghost use Rattle.mw_simulator.specs.Images.{EveryImageIsOfStore};
 
@@ -23,4 +27,11 @@ pub fn every_image_is_of_store()
 pub fn starts_find_one_thing()
     ensures { (state : State) (shown : TenantState) (outage : Outage) (found other : Found)
         → IsFoundBy state shown outage found → IsFoundBy state shown outage other → found ≡ other }
+{}
+
+/// Proves that a call on a tenant's file leads to one disk in memory, whether all its device calls go well or one fails:
+/// two worlds in memory that one such event makes of one world have equal disks of that tenant.
+pub fn file_calls_lead_to_one_disk()
+    ensures { (state : State) (worker : ℕ) (outcome : Outcome) (was one other : SimulatedFile)
+        → CameByCallOf state worker outcome was one → CameByCallOf state worker outcome was other → disk_under one.device ≡ disk_under other.device }
 {}

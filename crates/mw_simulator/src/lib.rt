@@ -20,6 +20,6 @@ mod laws;
 mod world;
 
 pub use faults::{MOST_REQUESTS, WorldFault};
-pub use laws::{every_image_is_of_store, starts_find_one_thing};
+pub use laws::{every_image_is_of_store, file_calls_lead_to_one_disk, starts_find_one_thing};
 pub use mw_world_memory::{TenantState, WorkerState};
 pub use world::World;

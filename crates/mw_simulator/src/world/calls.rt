@@ -8,8 +8,9 @@ ghost use Rattle.std.specs.Prelude.{◌≡◌, ◌≢◌, ◌<◌, ℕ, true, fa
 ghost use Rattle.mw_words.specs.Change.{is_change};
 ghost use Rattle.mw_words.specs.Patterns.{IsStatusInRange};
 ghost use Rattle.mw_look.specs.declared.observations.Observation.TheVariants.{Filed};
-ghost use Rattle.mw_actor.specs.ActorState.{entries_of_job};
+ghost use Rattle.mw_actor.specs.ActorState.{entries_of_job, own_entries};
 ghost use Rattle.mw_world_file.specs.Files.{File};
+ghost use Rattle.mw_world_file.specs.declared.book.SimulatedFile.{SimulatedFile};
 ghost use Rattle.mw_world_file.specs.SoundBooks.{HasSound};
 ghost use Rattle.mw_world.specs.declared.events.Event.TheVariants.{File as FileEvent};
 ghost use Rattle.mw_world.specs.Definition.Calls as calls;
@@ -18,6 +19,7 @@ ghost use Rattle.mw_world.specs.Definition.State.{State, tenant_at};
 ghost use Rattle.mw_world_memory.specs.declared.tenants.TenantState.{TenantState};
 ghost use Rattle.mw_simulator.specs.Crashes.{CrashesDoNoHarm};
 ghost use Rattle.mw_simulator.specs.CallEnds as ending;
+ghost use Rattle.mw_simulator.specs.DisksOfCalls.{CameByCall, DisksFollow, is_made_on_file};
 ghost use Rattle.mw_simulator.specs.Representation.{Ends, Represents};
 ghost use Rattle.mw_simulator.specs.UnchangedParts.{IsUnchanged, SameBooks, SameBooksBut, book_at, served_by};
 ghost use Rattle.mw_simulator.specs.StepParts as stepping;
@@ -58,6 +60,7 @@ impl World {
         ensures unchanged { OnErr result (IsUnchanged self.old self.new) }
         ensures files { (tenant : ℕ) → served_by self.old worker ≢ Some tenant → book_at self.new tenant ≡ book_at self.old tenant }
         ensures moments { (state : State) → Represents self.old state → CrashesDoNoHarm self.old self.new state (FileEvent worker outcome) result }
+        ensures disks { (state : State) → Represents self.old state → DisksFollow self.old self.new state (FileEvent worker outcome) result }
     {
         let Some(actor) = self.actor_of(worker) else {
             return Err(WorldFault::NotEnabled);
@@ -126,6 +129,9 @@ impl World {
         ensures unchanged { OnErr result (self.new ≡ self.old) }
         ensures files { SameBooksBut actor.now.tenant self.old self.new }
         ensures moments { OnOk result (ending.TouchesFile self.old self.new actor.now.tenant (ending.called_of called) status) }
+        ensures disks { OnOk result ((state : State) (was now : SimulatedFile) → Represents self.old state → state.cells.statuses called.change.slot ≡ status
+            → book_at self.old actor.now.tenant ≡ Some was → book_at self.new actor.now.tenant ≡ Some now
+            → CameByCall (is_made_on_file state actor.now (ending.called_of called)) (ending.called_of called) (own_entries actor.now) outcome was now) }
         ensures ends { (state : State) → Represents self.old state → state.cells.statuses called.change.slot ≡ status
             → ending.Closes self.new state actor.now.tenant (calls.calling self.old.config state actor.now (ending.called_of called) outcome) result }
     {
@@ -181,6 +187,8 @@ impl World {
         ensures unchanged { OnErr result (self.new ≡ self.old) }
         ensures files { SameBooksBut actor.now.tenant self.old self.new }
         ensures moments { OnOk result (ending.IsWorked self.old self.new actor.now.tenant called.call called.change.slot) }
+        ensures disks { OnOk result ((was now : SimulatedFile) → book_at self.old actor.now.tenant ≡ Some was → book_at self.new actor.now.tenant ≡ Some now
+            → CameByCall true (ending.called_of called) (own_entries actor.now) outcome was now) }
         ensures ends { (state : State) → Represents self.old state → state.cells.statuses called.change.slot ≡ status
             → calls.starts_from called.call status ≡ true → calls.fails_on called.call (state.tenant_states actor.now.tenant).file ≡ false
             → ending.Closes self.new state actor.now.tenant (calls.calling self.old.config state actor.now (ending.called_of called) outcome) result }

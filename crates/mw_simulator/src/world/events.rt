@@ -12,6 +12,7 @@ ghost use Rattle.mw_look.specs.Places.{pack};
 ghost use Rattle.mw_world.specs.Definition.Cells.{read};
 ghost use Rattle.mw_world_memory.specs.Bits.{bits_at};
 ghost use Rattle.mw_simulator.specs.Crashes.{CrashesDoNoHarm};
+ghost use Rattle.mw_simulator.specs.DisksOfCalls.{DisksFollow};
 ghost use Rattle.mw_simulator.specs.Invariant.{Holds};
 ghost use Rattle.mw_simulator.specs.Events.{Happens, Runs, RunsBySteps, IsAfterRun, IsAfterEvent};
 ghost use Rattle.mw_simulator.specs.ServiceAlone.{AreLegal, Serves};
@@ -109,6 +110,7 @@ impl World {
         ensures unchanged { OnErr result (IsUnchanged self.old self.new) }
         ensures files { LeavesFiles self.old self.new event }
         ensures moments { (state : State) → Represents self.old state → CrashesDoNoHarm self.old self.new state event result }
+        ensures disks { (state : State) → Represents self.old state → DisksFollow self.old self.new state event result }
         ensures holds { Holds self.new }
         ensures serves { Serves self.new }
     {
@@ -146,6 +148,7 @@ impl World {
         ensures unchanged { OnErr result (IsUnchanged self.old self.new) }
         ensures files { LeavesFiles self.old self.new event.now }
         ensures moments { (state : State) → Represents self.old state → CrashesDoNoHarm self.old self.new state event.now result }
+        ensures disks { (state : State) → Represents self.old state → DisksFollow self.old self.new state event.now result }
     {
         match event {
             Event::Come(worker, tenant, job) => self.come(*worker, *tenant, job),

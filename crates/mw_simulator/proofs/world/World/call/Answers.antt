@@ -1,12 +1,12 @@
 -- The request learns how its call ended.
-use Rattle.std.proofs.Common.{ap, sym, subst, ◌∙◌, Some}
+use Rattle.std.proofs.Common.{◌≡◌, ap, sym, subst, ◌∙◌, Some}
 use Rattle.mw_world.specs.Definition.Calls.{called_at, calling}
 use Rattle.mw_world.specs.Definition.Extent.{has_slot}
 use Rattle.mw_simulator.specs.CallEnds.{Closed, called_of}
-use Rattle.mw_simulator.specs.UnchangedParts.{IsUnchanged}
+use Rattle.mw_simulator.specs.UnchangedParts.{IsUnchanged, book_at, served_by}
 use Rattle.mw_simulator.specs.StepParts.{HasRoom}
 use Rattle.mw_simulator.proofs.CallEndLaws.{call_ends_well, has_status, room_if, status_is_so}
-use Rattle.mw_simulator.proofs.Crashes.{call_safe}
+use Rattle.mw_simulator.proofs.Crashes.{call_safe, same_some}
 use Rattle.mw_simulator.proofs.Unchanged.{unchanged_books}
 use Rattle.mw_simulator.proofs.world.World.call.Goals as goal
 
@@ -60,3 +60,23 @@ returns-in-Err-clause-files c tenant apart =
 
 pub returns-in-Err-clause-unchanged : goal.returns-in-Err-clause-unchanged
 returns-in-Err-clause-unchanged c = subst (λ world. IsUnchanged c.args.self.now world) (sym c.in-Err.ensures.unchanged) c.reserve.ensures.unchanged
+
+pub returns-in-Ok-clause-disks : goal.returns-in-Ok-clause-disks
+returns-in-Ok-clause-disks c state shows tenant was now of_tenant is_was is_now =
+    let config = c.args.self.now.config in
+    let actor = c.in-Some.actor in
+    let called = called_of c.in-Some-called_at.called in
+    let at = sym (c.in-Some-called_at.ensures ∙ ap (λ point. called_at point) c.point.ensures.is) in
+    let slot = c.in-Some-status.ensures.shown state shows in
+    let same = status_is_so (has_slot config called.change.slot) (state.cells.statuses called.change.slot) c.in-Some-status.status slot in
+    let here = same_some (served_by c.args.self.now c.args.worker) tenant actor.tenant of_tenant c.in-Some.ensures.served in
+    let old_here = subst (λ t. book_at c.args.self.now t ≡ Some was) here is_was in
+    let new_here = subst (λ t. book_at c.tell_file.new.self t ≡ Some now) here is_now in
+    record {
+      actor = actor;
+      is = sym (c.in-Some.ensures.shown state shows);
+      called = called;
+      at = at;
+      came = c.in-Ok.ensures.disks state was now (c.reserve.ensures.shows state shows) same
+          (unchanged_books c.args.self.now c.reserve.new.self c.reserve.ensures.unchanged actor.tenant ∙ old_here) (sym (c.tell_file.ensures.files actor.tenant) ∙ new_here);
+    }

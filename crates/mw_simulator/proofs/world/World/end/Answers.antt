@@ -1,9 +1,14 @@
 -- A call does nothing, or fails on a file that failed before, or is made.
-use Rattle.std.proofs.Common.{ap, inl, inr, refl, sym, subst, ◌∙◌}
+use Rattle.std.proofs.Common.{ap, inl, inr, refl, sym, subst, true, false, ◌∙◌}
+use Rattle.mw_actor.specs.ActorState.{own_entries}
+use Rattle.mw_world.specs.Definition.Calls.{starts_from}
 use Rattle.mw_simulator.specs.CallEnds.{called_of, faulted}
+use Rattle.mw_simulator.specs.DisksOfCalls.{is_made_on_file}
 use Rattle.mw_simulator.specs.Representation.{Represents}
 use Rattle.mw_simulator.specs.StepParts.{with_cells}
+use Rattle.mw_simulator.specs.UnchangedParts.{book_at}
 use Rattle.mw_simulator.proofs.Crashes.{on_any, on_ok}
+use Rattle.mw_simulator.proofs.CalledDisks.{does_not_start, is_made, not_made, starts_by}
 use Rattle.mw_simulator.proofs.CallEndLaws.{call_refuses, call_skips, found_at, same_found, shown_at}
 use Rattle.mw_simulator.proofs.world.World.end.Goals as goal
 
@@ -52,3 +57,35 @@ returns-clause-moments c =
           sym (c.fails_on.ensures.is (state.tenant_states actor.tenant).file (one.book.same_failed ∙ sym c.has_failed.ensures)) ∙ c.if-fails_on.false;
       worked = worked;
     })) c.work.ensures.moments
+
+pub returns-then-not-starts_from-clause-disks : goal.returns-then-not-starts_from-clause-disks
+returns-then-not-starts_from-clause-disks c =
+    on_any c.skipped.result (λ state was now shows same is_was is_now.
+    let actor = c.args.actor.now in
+    let called = called_of c.args.called in
+    let book = book_at c.args.self.now actor.tenant in
+    not_made (is_made_on_file state actor called) called (own_entries actor) c.args.outcome book book was now
+    (does_not_start state actor called (ap (λ s. starts_from called.call s) same ∙ sym c.starts_from.ensures ∙ c.if-not-starts_from.true)) refl is_was is_now)
+
+pub returns-then-fails_on-clause-disks : goal.returns-then-fails_on-clause-disks
+returns-then-fails_on-clause-disks c =
+    on_any c.refuse.result (λ state was now shows same is_was is_now.
+    let actor = c.args.actor.now in
+    let called = called_of c.args.called in
+    let one = shown_at c.args.self.now state c.from.result actor.tenant c.index.result.now shows (c.from.ensures ∙ c.tenant.ensures) c.requires.tenant c.index.ensures in
+    not_made (is_made_on_file state actor called) called (own_entries actor) c.args.outcome (book_at c.args.self.now actor.tenant) (book_at c.refuse.new.self actor.tenant) was now
+    (starts_by state actor called true (ap (λ s. starts_from called.call s) same ∙ sym c.starts_from.ensures ∙ c.if-not-starts_from.false)
+    (sym (c.fails_on.ensures.is (state.tenant_states actor.tenant).file (one.book.same_failed ∙ sym c.has_failed.ensures)) ∙ c.if-fails_on.true))
+    (c.refuse.ensures.files actor.tenant) is_was is_now)
+
+pub returns-clause-disks : goal.returns-clause-disks
+returns-clause-disks c =
+    on_ok c.work.result
+    (λ came state was now shows same is_was is_now.
+    let actor = c.args.actor.now in
+    let called = called_of c.args.called in
+    let one = shown_at c.args.self.now state c.from.result actor.tenant c.index.result.now shows (c.from.ensures ∙ c.tenant.ensures) c.requires.tenant c.index.ensures in
+    is_made (is_made_on_file state actor called) called (own_entries actor) c.args.outcome was now
+    (starts_by state actor called false (ap (λ s. starts_from called.call s) same ∙ sym c.starts_from.ensures ∙ c.if-not-starts_from.false)
+    (sym (c.fails_on.ensures.is (state.tenant_states actor.tenant).file (one.book.same_failed ∙ sym c.has_failed.ensures)) ∙ c.if-fails_on.false))
+    (came was now is_was is_now)) c.work.ensures.disks

@@ -22,7 +22,7 @@ loop-index-preserved c =
     record {
       same = now.config ∙ c.loop-index.invariant.same;
       steps = one_step_more c.args.self.now old new events index event c.loop-index-test.true c.index-events-index.is c.loop-index.invariant.steps
-          (record { config = now.config; happens = now.happens; files = now.files; moments = now.moments });
+          (record { config = now.config; happens = now.happens; files = now.files; moments = now.moments; disks = now.disks });
       goes = λ happened stands.
           one_event_more new happened events index event c.loop-index-test.true c.index-events-index.is
           (goes_on_more old new happened (take index events) event c.in_default.field-0 now.config now.happens (c.loop-index.invariant.goes happened stands));

@@ -12,6 +12,7 @@ use Rattle.mw_simulator.specs.CallEnds.{IsBookOf, called_of, cells_closed}
 use Rattle.mw_simulator.specs.Representation.{Represents}
 use Rattle.mw_simulator.specs.UnchangedParts.{book_at}
 use Rattle.mw_simulator.specs.StepParts.{with_cells, with_file}
+use Rattle.mw_simulator.proofs.CalledDisks.{came_so}
 use Rattle.mw_simulator.proofs.CallEndLaws.{both_same, call_fails, call_unformed, call_works, formed_is, found_at, shown_at, why_failed}
 use Rattle.mw_simulator.proofs.world.World.work.Goals as goal
 
@@ -83,3 +84,13 @@ returns-clause-moments c =
       is_new = c.close.ensures.files tenant ∙ subst (λ t. book_at c.file.new.self t ≡ Some c.in-Ok.book) c.tenant-2.ensures c.file.ensures.is;
       safe = c.in-Ok.ensures.moments;
     }
+
+pub returns-clause-disks : goal.returns-clause-disks
+returns-clause-disks c was now is_was is_now =
+    let tenant = c.args.actor.now.tenant in
+    let shown = c.index-2.result.now in
+    let here = found_at c.args.self.now.tenant_states.items c.from-tenant.result tenant shown (c.from-tenant.ensures ∙ c.tenant.ensures) c.requires.tenant c.index-2.ensures in
+    let own = c.entries_of-entries.ensures ∙ ap (λ job. entries_of_job job) c.job.ensures in
+    came_so (book_at c.args.self.now tenant) (book_at c.close.new.self tenant) was now shown.book c.in-Ok.book (called_of c.args.called) c.entries_of-entries.result.items (own_entries c.args.actor.now) c.args.outcome
+    (ap (λ o. option_map (λ tenant_state. tenant_state.book) o) here) (c.close.ensures.files tenant ∙ subst (λ t. book_at c.file.new.self t ≡ Some c.in-Ok.book) c.tenant-2.ensures c.file.ensures.is)
+    is_was is_now own c.in-Ok.ensures.exact

@@ -1,0 +1,6 @@
+-- Proves the law `file_calls_lead_to_one_disk` (src/laws.rt). Used by: that law alone. It may change freely as long as this crate checks.
+use Rattle.mw_simulator.proofs.CalledDisks.{one_called_disk}
+use Rattle.mw_simulator.proofs.laws.file_calls_lead_to_one_disk.Goals as goal
+
+pub returns : goal.returns
+returns c = one_called_disk
