@@ -1,3 +1,4 @@
 pub mod Sessions
 pub mod Pauses
 pub mod TimesLeft
+pub mod Metered

@@ -10,8 +10,13 @@
 //! A connection is closed so that the client can read all that it was told. After the session's end,
 //! [`Connection::leave`] reads and drops what the client sends until the client closes its side, for a second at most.
 //!
+//! [`MeteredListener`] is a listener over another one, which counts its connections.
+//!
 //! [`Patient`] is a listener over another one. When the system has no room for a connection, it waits,
 //! longer each time, and says so once.
+//!
+//! A [`StreamListener`] gives streams in place of connections, for a server that reads and writes their bytes itself.
+//! [`listen_briefly`] makes one, whose clients stay for one request within [`BriefLimits`].
 //!
 //! Each reply is sent at once: a TCP connection is set not to hold back what is written to it. If the
 //! system refuses that, the client is served all the same.
@@ -21,15 +26,19 @@
 //! and docs/OPERATING: change them together.
 #![tactic(auto)]
 
+mod brief;
 mod listening_socket;
 mod local;
+mod metered;
 mod patience;
 mod peer;
 mod sockets;
 mod time_limits;
 mod timed_stream;
 
+pub use brief::{BriefLimits, BriefListener, BriefStream, listen_briefly};
+pub use metered::{MeteredConnection, MeteredListener};
 pub use patience::{FIRST_PAUSE, LONGEST_PAUSE, Patient, RoomWatch};
-pub use peer::{Connection, Listener};
-pub use sockets::{Client, ClientListener, Closer, listen_at, port_of};
+pub use peer::{Connection, Listener, StreamListener};
+pub use sockets::{Client, ClientListener, Closer, listen_at, port_of, say_goodbye};
 pub use time_limits::TimeLimits;

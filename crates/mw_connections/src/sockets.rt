@@ -10,6 +10,7 @@ use crate::local::listen_local;
 use crate::peer::{Connection, Listener};
 use crate::time_limits::{TimeLimits, WaitLimits};
 use crate::timed_stream::TimedStream;
+use mw_metrics::ServerCounters;
 use mw_session::{Ended, NoOthers, Others, PeerStream, RecordedStream, Service, Session};
 use std::alloc::Global;
 use std::fs::File;
@@ -34,6 +35,8 @@ pub struct ClientListener<'a, K> {
     door: ListeningSocket,
     clock: &'a K,
     limits: WaitLimits,
+    /// What counts the bytes of its clients, if they are counted.
+    counters: Option<&'a ServerCounters>,
 }
 
 /// A client's connection, over TCP or by a local socket.
@@ -60,15 +63,28 @@ pub fn listen_at<'a, R>(
 where
     R: Files<File = File> + Net<Listener = TcpListener, Stream = TcpStream>,
 {
-    let door = match address.strip_prefix(LOCAL) {
-        Some(path) => ListeningSocket::Local(listen_local(rt, path, mode)?),
-        None => ListeningSocket::Tcp(listen_tcp(rt, address)?),
-    };
+    let door = open_door(rt, address, mode)?;
     Ok(ClientListener {
         door,
         clock: rt,
         limits: limits.of_a_session(),
+        counters: None,
     })
+}
+
+/// Makes the listening socket of an address.
+///
+/// # Errors
+///
+/// The text is no address, or nobody can listen there.
+pub(crate) fn open_door<R>(rt: &R, address: &str, mode: u32) -> io::Result<ListeningSocket>
+where
+    R: Files<File = File> + Net<Listener = TcpListener, Stream = TcpStream>,
+{
+    match address.strip_prefix(LOCAL) {
+        Some(path) => Ok(ListeningSocket::Local(listen_local(rt, path, mode)?)),
+        None => Ok(ListeningSocket::Tcp(listen_tcp(rt, address)?)),
+    }
 }
 
 /// Listens over TCP, and lets as many clients wait as at a local socket.
@@ -96,9 +112,15 @@ pub fn port_of<K>(clients: &ClientListener<'_, K>) -> io::Result<Option<u16>> {
 
 /// Ends the wait for clients, from another thread.
 #[derive(Drop)]
-pub struct Closer(TcpStream);
+pub struct Closer(pub(crate) TcpStream);
 
 impl<'a, K> ClientListener<'a, K> {
+    /// Has these counters count the bytes of all clients that it gives from now on.
+    pub fn counted_by(mut self, counters: &'a ServerCounters) -> Self {
+        self.counters = Some(counters);
+        self
+    }
+
     /// Gives what ends the wait for these clients.
     ///
     /// # Errors
@@ -127,7 +149,7 @@ impl<'a, K: Clock + Sync> Listener for ClientListener<'a, K> {
         if limit_waits(&stream, &self.limits).is_err() {
             return Err(io::Error::from(ErrorKind::ConnectionAborted));
         }
-        let stream = TimedStream::new(stream, self.clock, self.limits);
+        let stream = TimedStream::new(stream, self.clock, self.limits, self.counters);
         Ok(Client {
             stream: RecordedStream::new(stream),
         })
@@ -180,7 +202,7 @@ impl<'a, K: Clock> Connection for Client<'a, K> {
 ///
 /// Nothing more is written. What the client still sends is read and dropped, until the client closes its
 /// side, was read [`LINGER_READS`] times, or is read no longer (`end_writing` of its stream), or a call fails.
-fn say_goodbye<T: PeerStream, R: Wait>(rt: &R, stream: &mut RecordedStream<T>)
+pub fn say_goodbye<T: PeerStream, R: Wait>(rt: &R, stream: &mut RecordedStream<T>)
     ensures { writes_of stream.new ≡ writes_of stream.old }
 {
     // If the system refuses this, the connection is closed all the same.

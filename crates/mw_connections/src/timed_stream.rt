@@ -7,6 +7,7 @@ ghost use Rattle.std.specs.Prelude.{None};
 ghost use Rattle.std.specs.Io.{ReadsAtMost, WritesAtMost};
 
 use crate::time_limits::{Times, WaitLimits, lesser};
+use mw_metrics::ServerCounters;
 use mw_session::{Others, PeerStream};
 use std::io::{self, ErrorKind, Read, Write};
 use std::net::{Shutdown, TcpStream};
@@ -16,7 +17,7 @@ use std::time::{Clock, Duration, Instant};
 /// How long a client whose session has ended is read at most before its connection is closed, in seconds.
 const FAREWELL: u64 = 1;
 
-/// A client's socket, and what limits its waits. A call fails if a limit is over, or the clock can't be read.
+/// A client's socket, what limits its waits, and what counts its bytes. A call fails if a limit is over, or the clock can't be read.
 #[derive(Drop)]
 pub(crate) struct TimedStream<'a, K> {
     stream: TcpStream,
@@ -26,6 +27,8 @@ pub(crate) struct TimedStream<'a, K> {
     reading: Pace,
     writing: Pace,
     farewell: Option<Farewell>,
+    /// What counts the bytes, if they are counted.
+    counters: Option<&'a ServerCounters>,
 }
 
 /// The times of one direction, and the limit of a wait that the socket has now.
@@ -45,7 +48,12 @@ struct Farewell {
 impl<'a, K: Clock> TimedStream<'a, K> {
     /// Makes the stream of a session that begins. The socket has these limits: a read waits for a whole silence, and a
     /// write as [`WaitLimits::write_wait`] says.
-    pub(crate) fn new(stream: TcpStream, clock: &'a K, limits: WaitLimits) -> Self {
+    pub(crate) fn new(
+        stream: TcpStream,
+        clock: &'a K,
+        limits: WaitLimits,
+        counters: Option<&'a ServerCounters>,
+    ) -> Self {
         TimedStream {
             stream,
             clock,
@@ -59,6 +67,21 @@ impl<'a, K: Clock> TimedStream<'a, K> {
                 set: limits.write_wait(),
             },
             farewell: None,
+            counters,
+        }
+    }
+
+    /// Counts bytes that the client sent.
+    fn count_received(&self, count: usize) {
+        if let Some(counters) = self.counters {
+            counters.record_received(count as u64);
+        }
+    }
+
+    /// Counts bytes that the client was sent.
+    fn count_sent(&self, count: usize) {
+        if let Some(counters) = self.counters {
+            counters.record_sent(count as u64);
         }
     }
 
@@ -140,6 +163,7 @@ impl<'a, K: Clock> TimedStream<'a, K> {
         self.stream.set_read_timeout(Some(farewell.left))?;
         let answer = self.stream.read(piece);
         if let Ok(count) = answer {
+            self.count_received(count);
             if count > 0 {
                 self.farewell = Some(farewell.later(self.clock));
             }
@@ -245,6 +269,7 @@ impl<K: Clock> PeerStream for TimedStream<'_, K> {
             self.read_at_first(rt, others, &limits, piece)
         };
         if let Ok(count) = answer {
+            self.count_received(count);
             self.reading.times = self.reading.times.after_piece(&piece[..count]);
         }
         answer
@@ -258,6 +283,7 @@ impl<K: Clock> PeerStream for TimedStream<'_, K> {
             self.write_at_first(rt, others, &limits, text)
         };
         if let Ok(count) = answer {
+            self.count_sent(count);
             self.writing.times = self.writing.times.after_write(count == text.len());
         }
         answer

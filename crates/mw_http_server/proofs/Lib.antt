@@ -1,0 +1,2 @@
+mod ExchangeLaws
+mod ClientLaws

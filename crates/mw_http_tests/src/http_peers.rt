@@ -1,0 +1,70 @@
+//! Pages and peers for tests of exchanges.
+//!
+//! Nothing else uses it: it may change with what it tests.
+
+use mw_http::{ContentType, Route, Status};
+use mw_http_server::{Date, Page, Pages};
+use std::alloc::Global;
+use std::io::{self, ErrorKind, Read, Write};
+
+/// Pages that count what they are asked for. Each has the body `ok`, and the date is `then`.
+#[derive(Drop)]
+pub struct CountedPages {
+    alloc: Global,
+    pub pages: u32,
+    pub dates: u32,
+}
+
+impl CountedPages {
+    /// Makes pages that were asked for nothing.
+    pub fn new(alloc: Global) -> Self {
+        CountedPages {
+            alloc,
+            pages: 0,
+            dates: 0,
+        }
+    }
+}
+
+impl Pages for CountedPages {
+    ghost answered = { λ _ _ _. Unit {0} };
+
+    fn page(&mut self, route: &Route) -> Page {
+        self.pages = self.pages.saturating_add(1);
+        let mut body = Vec::new(self.alloc);
+        // Without memory the answer lacks its body, and a test fails.
+        let _ = body.extend_from_slice(b"ok\n");
+        let status = match route {
+            Route::File(_) => Status::NotFound,
+            _ => Status::Ok,
+        };
+        Page {
+            status,
+            kind: ContentType::Text,
+            body,
+        }
+    }
+
+    fn date(&mut self) -> Date {
+        self.dates = self.dates.saturating_add(1);
+        let mut date = Date::new();
+        let _ = date.try_extend_from_slice(b"then");
+        date
+    }
+}
+
+/// A reader of these bytes that then fails so.
+#[derive(Drop)]
+pub struct Failing<'a>(pub &'a [u8], pub ErrorKind);
+
+impl Read for Failing<'_> {
+    fn read(&mut self, piece: &mut [u8]) -> io::Result<usize> {
+        if self.0.is_empty() {
+            return Err(io::Error::from(self.1));
+        }
+        let count = self.0.len().min(piece.len());
+        piece[..count].copy_from_slice(&self.0[..count]);
+        self.0 = &self.0[count..];
+        Ok(count)
+    }
+}

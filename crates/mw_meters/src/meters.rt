@@ -1,0 +1,116 @@
+//! All counters of one server.
+//!
+//! Used by: mw_programs, which makes them; mw_opening, mw_service. `specs/Counted` says what the text is of: change both
+//! together.
+ghost use Rattle.std.specs.Prelude.{◌≡◌, ◌<◌, ◌≤◌, length, map, IfOk};
+ghost use Rattle.mw_metrics.specs.declared.samples.TheConstants.{MAX_LABEL_VALUE};
+ghost use Rattle.mw_metrics.specs.declared.text.TheConstants.{MAX_METRICS};
+ghost use Rattle.mw_words.specs.declared.limits.TheConstants.{MAX_TENANTS};
+ghost use Rattle.mw_meters.specs.Counted.{IsTextOf, figures_of};
+
+use crate::kinds::{kind_of, reply_kind};
+use crate::stopwatch::Stopwatch;
+use arrayvec::ArrayVec;
+use mw_metrics::{
+    MAX_LABEL_VALUE, MAX_METRICS, ServerCounters, TenantCounters, TenantCounts, TenantMetrics,
+    metrics_text,
+};
+use mw_report::{Figures, TenantFigures};
+use mw_words::{Job, MAX_TENANTS, Reply};
+use std::alloc::{AllocError, Global};
+use std::time::Clock;
+
+/// All counters of one server, and when it started. Threads share it by `&`.
+#[derive(Drop)]
+pub struct Meters {
+    tenants: [TenantCounters; MAX_TENANTS],
+    server: ServerCounters,
+    started: Stopwatch,
+}
+
+impl Meters {
+    /// Makes counters that have counted nothing, of a server that starts now.
+    pub fn new<K: Clock>(clock: &K) -> Meters {
+        Meters {
+            tenants: std::array::from_fn(|_| TenantCounters::new()),
+            server: ServerCounters::new(),
+            started: Stopwatch::start(clock),
+        }
+    }
+
+    /// Gives the counters of the tenant of this number.
+    pub fn tenant(&self, tenant: usize) -> &TenantCounters
+        requires { tenant < MAX_TENANTS }
+    {
+        &self.tenants[tenant]
+    }
+
+    /// Gives the counters of the whole server.
+    pub fn server(&self) -> &ServerCounters {
+        &self.server
+    }
+
+    /// Counts a request of the tenant of this number that took so many nanoseconds. It counts none of a tenant that a
+    /// server can't have.
+    pub fn record_request(&self, tenant: u8, job: &Job, reply: &Reply, nanos: u64) {
+        if let Some(counters) = self.tenants.get(usize::from(tenant)) {
+            counters.record_request(kind_of(job), reply_kind(reply), nanos);
+        }
+    }
+
+    /// Gives the text of all figures in the text format of Prometheus: the version of the server, of at most
+    /// [`MAX_LABEL_VALUE`] bytes, what was counted, and these figures of the moment. It has at most [`MAX_METRICS`]
+    /// bytes.
+    ///
+    /// # Errors
+    ///
+    /// Memory is out.
+    pub fn text<K: Clock>(
+        &self,
+        clock: &K,
+        alloc: Global,
+        version: &[u8],
+        figures: Figures,
+    ) -> Result<Vec<u8>, AllocError>
+        requires { length version.now ≤ MAX_LABEL_VALUE }
+        ensures text { IfOk result (λ text. IsTextOf version.now figures text.items) }
+        ensures short { IfOk result (λ text. length text.items ≤ MAX_METRICS) }
+    {
+        let Figures { tenants, pool_free } = figures;
+        let server = self
+            .server
+            .figures(self.started.nanos(clock), u64::from(pool_free));
+        let tenants = self.counted(alloc, tenants)?;
+        metrics_text(alloc, version, &server, &tenants)
+    }
+
+    /// Puts what was counted for each tenant beside its figures.
+    ///
+    /// # Errors
+    ///
+    /// Memory is out.
+    fn counted(
+        &self,
+        alloc: Global,
+        figures: ArrayVec<TenantFigures, MAX_TENANTS>,
+    ) -> Result<Vec<TenantMetrics>, AllocError>
+        ensures { IfOk result (λ all. map figures_of all.items ≡ figures.items) }
+    {
+        let mut all = Vec::with_capacity(alloc, figures.len())?;
+        for figures in figures {
+            let counts = self.counts_of(all.len());
+            if all.push(TenantMetrics { figures, counts }).is_err() {
+                return Err(AllocError);
+            }
+        }
+        Ok(all)
+    }
+
+    /// Gives what was counted for the tenant of this number: nothing, if a server can't have it.
+    fn counts_of(&self, tenant: usize) -> TenantCounts {
+        match self.tenants.get(tenant) {
+            Some(counters) => counters.counts(),
+            None => TenantCounts::default(),
+        }
+    }
+}

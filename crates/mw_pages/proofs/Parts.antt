@@ -1,0 +1,7 @@
+-- A text that was put in parts is the text with the joined parts after it.
+-- Used by: the proofs of status.rt and tenant_rows.rt. It may change freely as long as this crate checks.
+use Rattle.std.proofs.Common.{◌≡◌, ℕ, ◌++◌, List, ap, ◌∙◌, append_assoc}
+
+-- a part was put, and then the rest
+pub before : {middle new : List ℕ} (old part rest : List ℕ) → middle ≡ old ++ part → new ≡ middle ++ rest → new ≡ old ++ (part ++ rest)
+before old part rest h k = k ∙ ap (λ (l : List ℕ). l ++ rest) h ∙ append_assoc old part rest

@@ -1,0 +1,2 @@
+pub mod Health
+pub mod StatusPage

@@ -1,0 +1,76 @@
+-- Defines what a server shows at each place, by the figures that its service gives then.
+-- Used by: the contracts of server_pages.rt. A change here changes what operators see: docs/HTTP changes with it.
+use Rattle.std.specs.Prelude.{◌≡◌, ℕ, ◌⊎◌, List, [], Vec, Result, Ok, Err, if◌then◌else◌}
+use Rattle.std.specs.declared.alloc.Global.{Global}
+use Rattle.std.specs.declared.alloc.AllocError.{AllocError}
+use Rattle.std.specs.List.{list_all}
+use Rattle.mw_http.specs.declared.heads.ContentType.{ContentType}
+use Rattle.mw_http.specs.declared.heads.ContentType.TheVariants as kind
+use Rattle.mw_http.specs.declared.status.Status.{Status}
+use Rattle.mw_http.specs.declared.status.Status.TheVariants as status
+use Rattle.mw_http.specs.Targets as target
+use Rattle.mw_http_server.specs.declared.pages.Page.{Page}
+use Rattle.mw_http_server.specs.Calls.{Call, Dates, Shows}
+use Rattle.mw_meters.specs.Counted.{IsTextOf}
+use Rattle.mw_pages.specs.Health.{health, is_up}
+use Rattle.mw_pages.specs.StatusPage as status_page
+use Rattle.mw_report.specs.declared.figures.Figures.{Figures}
+use Rattle.mw_session.specs.Talk as talk
+
+-- a page of this status and type, of whose body this holds
+pub record IsPage (wanted : Status) (content : ContentType) (Says : List ℕ → Type 0) (page : Page) : Type 0 where
+  pub status : page.status ≡ wanted
+  pub kind : page.kind ≡ content
+  pub says : Says page.body.items
+
+-- there was no memory for the page: an error without a body
+abbrev pub IsError : Page → Type 0
+IsError page = IsPage status.InternalError kind.Text (λ body. body ≡ []) page
+
+-- nothing is there
+abbrev pub IsNowhere : Page → Type 0
+IsNowhere page = IsPage status.NotFound kind.Text (λ body. body ≡ []) page
+
+-- the page, or an error if there was no memory for it
+abbrev pub IsPageOrError : Status → ContentType → (List ℕ → Type 0) → Page → Type 0
+IsPageOrError wanted content Says page = IsPage wanted content Says page ⊎ IsError page
+
+-- the page of this body, or an error if there was no memory for it
+abbrev pub IsPageOf : Status → ContentType → Result (Vec ℕ Global) AllocError → Page → Type 0
+IsPageOf wanted content (Ok body) page = IsPage wanted content (λ text. text ≡ body.items) page
+IsPageOf wanted content (Err fault) page = IsError page
+
+-- whether all tenants are up: 200 if so, else 503 with those that are not
+abbrev pub IsHealth : Figures → Page → Type 0
+IsHealth figures page =
+    IsPageOrError (if list_all is_up figures.tenants.items then status.Ok else status.Unavailable) kind.Text (λ body. body ≡ health figures.tenants.items) page
+
+-- the figures for Prometheus
+abbrev pub IsMetrics : List ℕ → Figures → Page → Type 0
+IsMetrics version figures page = IsPageOrError status.Ok kind.Metrics (λ body. IsTextOf version figures body) page
+
+-- the status page, of a server that is up for some seconds
+abbrev pub IsStatus : List ℕ → Figures → Page → Type 0
+IsStatus version figures page =
+    IsPageOrError status.Ok kind.Html (λ body. (seconds : ℕ) × (body ≡ status_page.page version seconds figures.tenants.items figures.pool_free)) page
+
+-- what is shown at a place, by these figures
+abbrev pub IsShown : target.Place → List ℕ → Figures → Page → Type 0
+IsShown target.page version figures page = IsStatus version figures page
+IsShown target.metrics version figures page = IsMetrics version figures page
+IsShown target.health version figures page = IsHealth figures page
+IsShown (target.file tenant) version figures page = IsNowhere page
+
+-- The service was asked for its figures once, and these are shown.
+pub record Counts {S : Type 0} (answered : S → talk.Call → S → Type 0) (version : List ℕ) (old new : S) (place : target.Place) (page : Page) : Type 0 where
+  pub figures : Figures
+  pub asked : answered old (talk.Counts figures) new
+  pub shown : IsShown place version figures page
+
+-- What the pages answer. The service is asked for nothing if there is nothing at the place, nor for the date.
+abbrev pub Gives : {S : Type 0} → (S → talk.Call → S → Type 0) → List ℕ → S → Call → S → Type 0
+Gives answered version old (Shows (target.file tenant) page) new = (new ≡ old) × IsNowhere page
+Gives answered version old (Shows target.page page) new = Counts answered version old new target.page page
+Gives answered version old (Shows target.metrics page) new = Counts answered version old new target.metrics page
+Gives answered version old (Shows target.health page) new = Counts answered version old new target.health page
+Gives answered version old (Dates date) new = new ≡ old

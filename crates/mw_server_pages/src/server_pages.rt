@@ -1,0 +1,153 @@
+//! Implements the pages of a server.
+//!
+//! mw_programs makes them. `specs/Shown` says what is shown: change both together, and docs/HTTP.
+ghost use Rattle.std.specs.Prelude.{◌≡◌, [], IfOk};
+ghost use Rattle.mw_http.specs.Targets.{place_of};
+ghost use Rattle.mw_http_server.specs.Calls.{Call};
+ghost use Rattle.mw_report.specs.Table.{AreWithinLimits};
+ghost use Rattle.mw_server_pages.specs.Shown.{Gives, IsHealth, IsMetrics, IsNowhere, IsPageOf, IsStatus};
+
+use crate::date::date_now;
+use arrayvec::ArrayVec;
+use mw_http::{ContentType, Route, Status};
+use mw_http_server::{Date, Page, Pages};
+use mw_meters::{Meters, Stopwatch};
+use mw_pages::{MAX_VERSION, are_up, health_text, status_page};
+use mw_report::Figures;
+use mw_session::Service;
+use std::alloc::{AllocError, Global};
+use std::time::Clock;
+
+/// The version of a server.
+pub type Version = ArrayVec<u8, MAX_VERSION>;
+
+/// How many nanoseconds a second has.
+const SECOND: u64 = 1_000_000_000;
+
+/// What a server shows: the figures that a service gives at the moment, and what its meters have counted.
+#[derive(Drop)]
+pub struct ServerPages<'a, S, R> {
+    service: S,
+    meters: &'a Meters,
+    rt: &'a R,
+    version: Version,
+    started: Stopwatch,
+}
+
+impl<'a, S, R: Clock> ServerPages<'a, S, R> {
+    /// Makes the pages of a server of this version that starts now.
+    pub fn new(service: S, meters: &'a Meters, rt: &'a R, version: Version) -> Self
+        ensures { result.service ≡ service }
+    {
+        ServerPages {
+            service,
+            meters,
+            rt,
+            version,
+            started: Stopwatch::start(rt),
+        }
+    }
+}
+
+impl<S: Service, R: AllocGlobal + Clock> Pages for ServerPages<'_, S, R> {
+    ghost answered = { λ old call new. Gives S.answered old.version.items old.service call new.service };
+
+    fn page(&mut self, route: &Route) -> Page {
+        match route {
+            Route::File(_) => nowhere(self.rt.alloc()),
+            Route::Health => health(self.rt.alloc(), &self.service.figures()),
+            Route::Metrics => {
+                let figures = self.service.figures();
+                metrics(self.meters, self.rt, &self.version, figures)
+            }
+            Route::Page => {
+                let figures = self.service.figures();
+                let seconds = self.started.nanos(self.rt) / SECOND;
+                status(self.rt.alloc(), &self.version, seconds, &figures)
+            }
+        }
+    }
+
+    fn date(&mut self) -> Date {
+        date_now(self.rt)
+    }
+}
+
+/// Gives the answer where nothing is.
+fn nowhere(alloc: Global) -> Page
+    ensures { IsNowhere result }
+{
+    Page {
+        status: Status::NotFound,
+        kind: ContentType::Text,
+        body: Vec::new(alloc),
+    }
+}
+
+/// Gives a page of this body, or an error without a body if there was no memory for it.
+fn page_of(
+    alloc: Global,
+    status: Status,
+    kind: ContentType,
+    body: Result<Vec<u8>, AllocError>,
+) -> Page
+    ensures { IsPageOf status kind body result }
+{
+    match body {
+        Ok(body) => Page { status, kind, body },
+        Err(_) => Page {
+            status: Status::InternalError,
+            kind: ContentType::Text,
+            body: Vec::new(alloc),
+        },
+    }
+}
+
+/// Tells whether all tenants are up, and which are not.
+fn health(alloc: Global, figures: &Figures) -> Page
+    requires { AreWithinLimits figures.now.tenants.items figures.now.pool_free }
+    ensures { IsHealth figures.now result }
+{
+    let status = if are_up(&figures.tenants) {
+        Status::Ok
+    } else {
+        Status::Unavailable
+    };
+    let text = health_text(&figures.tenants);
+    page_of(alloc, status, ContentType::Text, copied(alloc, &text))
+}
+
+/// Copies a text.
+///
+/// # Errors
+///
+/// Memory is out.
+fn copied(alloc: Global, text: &[u8]) -> Result<Vec<u8>, AllocError>
+    ensures { IfOk result (λ copy. copy.items ≡ text.now) }
+{
+    let mut copy = Vec::new(alloc);
+    copy.extend_from_slice(text)?;
+    Ok(copy)
+}
+
+/// Gives the figures for Prometheus.
+fn metrics<R: AllocGlobal + Clock>(
+    meters: &Meters,
+    rt: &R,
+    version: &Version,
+    figures: Figures,
+) -> Page
+    ensures { IsMetrics version.now.items figures result }
+{
+    let text = meters.text(rt, rt.alloc(), version, figures);
+    page_of(rt.alloc(), Status::Ok, ContentType::Metrics, text)
+}
+
+/// Gives the status page.
+fn status(alloc: Global, version: &Version, seconds: u64, figures: &Figures) -> Page
+    requires { AreWithinLimits figures.now.tenants.items figures.now.pool_free }
+    ensures { IsStatus version.now.items figures.now result }
+{
+    let text = status_page(alloc, version, seconds, &figures.tenants, figures.pool_free);
+    page_of(alloc, Status::Ok, ContentType::Html, text)
+}
