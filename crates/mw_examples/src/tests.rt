@@ -34,7 +34,7 @@ fn a_file_that_is_there(rt: HostRuntime) -> Result<(), Fail> {
         "\
 mwinit DIR/t.mw 2 1
 mwinit DIR/t.mw 3 1
-gives 1 |mwinit: cannot make;
+gives 1 |mwinit: cannot make;mwinit: the file: File exists (os error 17);
 new t.mw",
     )
 }
@@ -222,7 +222,7 @@ serve
 gives 2 |mwserve: refused 5 quota line 1;mwserve: the quota is 1 to 64;
 write tenants t 2 1 DIR/t.mw;t 2 1 DIR/u.mw;
 serve
-gives 2 |mwserve: refused 6 twice line 2;mwserve: an earlier line has the name or the path;",
+gives 2 |mwserve: refused 6 twice line 2;mwserve: an earlier line has the name or the path;DIR/tenants: line 2 has the name of an earlier line;",
     )
 }
 

@@ -128,9 +128,9 @@ t 2 65 a;|5 quota line 1;mwserve: the quota is 1 to 64;DIR/tenants;
 t 2 257 a;|5 quota line 1;mwserve: the quota is 1 to 64;DIR/tenants;
 t 2 65537 a;|5 quota line 1;mwserve: the quota is 1 to 64;DIR/tenants;
 t 2 1 a;u 2 65 b;|5 quota line 2;mwserve: the quota is 1 to 64;DIR/tenants;
-t 2 1 a;t 2 1 b;|6 twice line 2;mwserve: an earlier line has the name or the path;DIR/tenants;
-t 2 1 a;u 2 1 a;|6 twice line 2;mwserve: an earlier line has the name or the path;DIR/tenants;
-t 2 1 a;u 2 1 b;t 2 1 c;|6 twice line 3;mwserve: an earlier line has the name or the path;DIR/tenants;
+t 2 1 a;t 2 1 b;|6 twice line 2;mwserve: an earlier line has the name or the path;DIR/tenants: line 2 has the name of an earlier line;
+t 2 1 a;u 2 1 a;|6 twice line 2;mwserve: an earlier line has the name or the path;DIR/tenants: line 2 has the path of an earlier line;
+t 2 1 a;u 2 1 b;t 2 1 c;|6 twice line 3;mwserve: an earlier line has the name or the path;DIR/tenants: line 3 has the name of an earlier line;
 |8 none;mwserve: there is no line;DIR/tenants;
 t 2 64 a;u 2 64 b;v 2 64 c;w 2 64 d;x 2 1 e;|9 pool;mwserve: the quotas together are more than --pool;DIR/tenants;";
 
@@ -140,8 +140,8 @@ t 0 0 a;|4 words line 1;mwserve: the words are 1 to 4096;DIR/tenants;
 t 2 1 a;t 0 1 b;|4 words line 2;mwserve: the words are 1 to 4096;DIR/tenants;
 t 2 1 a;u 2 0 a;|5 quota line 2;mwserve: the quota is 1 to 64;DIR/tenants;
 t 2 0 a;u 0 1 b;|5 quota line 1;mwserve: the quota is 1 to 64;DIR/tenants;
-t 2 1 a;u 2 1 a;v 0 1 b;|6 twice line 2;mwserve: an earlier line has the name or the path;DIR/tenants;
-t 2 1 a;u 2 1 a;v|6 twice line 2;mwserve: an earlier line has the name or the path;DIR/tenants;
+t 2 1 a;u 2 1 a;v 0 1 b;|6 twice line 2;mwserve: an earlier line has the name or the path;DIR/tenants: line 2 has the path of an earlier line;
+t 2 1 a;u 2 1 a;v|6 twice line 2;mwserve: an earlier line has the name or the path;DIR/tenants: line 2 has the path of an earlier line;
 t 2 64 a;u 2 64 b;v 2 64 c;w 2 64 d;x 2 1 e;y|3 form line 6;DIR/tenants: line 6 has no line feed at its end;";
 
 #[test]

@@ -31,7 +31,7 @@ gives 1 |tenant t: in use;
 mwserve --tenants DIR/tenants --strict --listen nowhere
 gives 1 |tenant t: in use;
 mwinit DIR/t.mw 2 1
-gives 1 |mwinit: cannot make;";
+gives 1 |mwinit: cannot make;mwinit: the file: File exists (os error 17);";
 
 /// The file after the first server has ended, with what its client changed.
 const AFTER: &str = "\

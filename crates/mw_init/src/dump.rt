@@ -21,7 +21,7 @@ pub enum DumpFault {
     #[error("mwinit: more places in the dump")]
     Places,
     /// Memory was refused, or the bytes that were made don't read as the words of the dump.
-    #[error("mwinit: cannot make")]
+    #[error("mwinit: cannot make\nmwinit: memory")]
     CannotMake,
 }
 

@@ -32,15 +32,24 @@ enum InitFault {
     /// The command line is wrong, or asks for the help or the version.
     #[error("{0}")]
     Args(clap::Error),
-    /// The dump doesn't exist, may not be read, or a call of the system on it failed.
-    #[error("mwinit: cannot read the dump")]
-    NoDump,
+    /// The dump doesn't exist, may not be read, or a call of the system on it failed, which is told on a second line.
+    #[error("mwinit: cannot read the dump\nmwinit: {0}")]
+    NoDump(io::Error),
     /// No file is made of this dump.
     #[error("{0}")]
     Dump(DumpFault),
-    /// The file exists already, a call of the system failed, or memory was refused.
-    #[error("mwinit: cannot make")]
-    CannotMake,
+    /// The file exists already, or a call of the system on it failed, which is told on a second line.
+    #[error("mwinit: cannot make\nmwinit: the file: {0}")]
+    File(io::Error),
+    /// A call of the system on the file's folder failed.
+    #[error("mwinit: cannot make\nmwinit: its folder: {0}")]
+    Folder(io::Error),
+    /// The output takes no more.
+    #[error("mwinit: cannot make\nmwinit: standard output: {0}")]
+    Output(io::Error),
+    /// Memory was refused.
+    #[error("mwinit: cannot make\nmwinit: memory")]
+    Memory,
 }
 
 /// The path and the size of a new file, and the path of the dump whose words it gets.
@@ -96,21 +105,22 @@ fn make<R: Files<File = File> + AllocGlobal, O: Write>(
     let file = read_args(rt.alloc(), args)?;
     let bytes = contents(rt, &file)?;
     // The lock is held until `_made` is closed at the end of this function.
-    let _made = write_file(rt, &file, &bytes)?;
-    sync_folder(rt, file.path)?;
-    writeln!(out, "made {}", size(file.words, file.places))?;
-    Ok(())
+    let _made = match write_file(rt, &file, &bytes) {
+        Ok(made) => made,
+        Err(fault) => return Err(InitFault::File(fault)),
+    };
+    if let Err(fault) = sync_folder(rt, file.path) {
+        return Err(InitFault::Folder(fault));
+    }
+    match writeln!(out, "made {}", size(file.words, file.places)) {
+        Ok(()) => Ok(()),
+        Err(fault) => Err(InitFault::Output(fault)),
+    }
 }
 
 impl From<AllocError> for InitFault {
     fn from(_: AllocError) -> Self {
-        InitFault::CannotMake
-    }
-}
-
-impl From<io::Error> for InitFault {
-    fn from(_: io::Error) -> Self {
-        InitFault::CannotMake
+        InitFault::Memory
     }
 }
 
@@ -123,7 +133,7 @@ impl From<DumpFault> for InitFault {
 impl From<clap::Error> for InitFault {
     fn from(fault: clap::Error) -> Self {
         match fault.kind() {
-            ErrorKind::OutOfMemory => InitFault::CannotMake,
+            ErrorKind::OutOfMemory => InitFault::Memory,
             _ => InitFault::Args(fault),
         }
     }
@@ -133,7 +143,7 @@ fn read_args<'a>(alloc: Global, args: &'a [String]) -> Result<NewFile<'a>, InitF
     let matches = command(alloc)?.try_get_matches_from(args)?;
     match new_file_of(&matches) {
         Some(file) => Ok(file),
-        None => Err(InitFault::CannotMake),
+        None => Err(InitFault::Memory),
     }
 }
 
@@ -217,14 +227,15 @@ fn read_text<R: Files<File = File> + AllocGlobal>(
     rt: &R,
     path: &str,
 ) -> Result<Vec<u8>, InitFault> {
-    let Ok(file) = File::open(rt, path) else {
-        return Err(InitFault::NoDump);
+    let file = match File::open(rt, path) {
+        Ok(file) => file,
+        Err(fault) => return Err(InitFault::NoDump(fault)),
     };
     let mut text = Vec::new(rt.alloc());
     match file.take(MAX_DUMP).read_to_end(&mut text) {
         Ok(_) => Ok(text),
-        Err(fault) if fault.kind() == io::ErrorKind::OutOfMemory => Err(InitFault::CannotMake),
-        Err(_) => Err(InitFault::NoDump),
+        Err(fault) if fault.kind() == io::ErrorKind::OutOfMemory => Err(InitFault::Memory),
+        Err(fault) => Err(InitFault::NoDump(fault)),
     }
 }
 

@@ -51,6 +51,10 @@ pub enum Cause {
     Size,
     /// The line of this number breaks this rule of the form.
     Form(u16, FormRule),
+    /// The line of this number has the name of an earlier line.
+    Name(u16),
+    /// The line of this number has the path of an earlier line, and a name of its own.
+    Path(u16),
     /// Nothing more is known.
     Unknown,
 }
@@ -58,14 +62,16 @@ pub enum Cause {
 impl Cause {
     /// Gives the cause why this text is refused.
     fn of_text(refusal: Refusal, text: &[u8]) -> Self {
-        let Refusal::Form(number) = refusal else {
-            return Cause::Unknown;
-        };
-        let mut lines = text.split_inclusive(|byte| *byte == b'\n');
-        let line = lines.nth(usize::from(number).saturating_sub(1));
-        match line.and_then(|line| broken_rule(line)) {
-            Some(rule) => Cause::Form(number, rule),
-            None => Cause::Unknown,
+        match refusal {
+            Refusal::Form(number) => {
+                match line_at(text, number).and_then(|line| broken_rule(line)) {
+                    Some(rule) => Cause::Form(number, rule),
+                    None => Cause::Unknown,
+                }
+            }
+            Refusal::Twice(number) if has_earlier_name(text, number) => Cause::Name(number),
+            Refusal::Twice(number) => Cause::Path(number),
+            _ => Cause::Unknown,
         }
     }
 
@@ -79,9 +85,45 @@ impl Cause {
                 let how = rule.broken();
                 warn!(notes; "{path}: line {number} {how}")
             }
+            Cause::Name(number) => {
+                warn!(notes; "{path}: line {number} has the name of an earlier line")
+            }
+            Cause::Path(number) => {
+                warn!(notes; "{path}: line {number} has the path of an earlier line")
+            }
             Cause::Unknown => note_place(notes, path),
         }
     }
+}
+
+/// Gives the line of this number, from 1, with its line feed.
+fn line_at(text: &[u8], number: u16) -> Option<&[u8]> {
+    let mut lines = text.split_inclusive(|byte| *byte == b'\n');
+    lines.nth(usize::from(number).saturating_sub(1))
+}
+
+/// Tells whether the line of this number begins with the name of an earlier line.
+fn has_earlier_name(text: &[u8], number: u16) -> bool {
+    let Some(line) = line_at(text, number) else {
+        return false;
+    };
+    for earlier in 1..number {
+        if let Some(other) = line_at(text, earlier) {
+            if name_of(other) == name_of(line) {
+                return true;
+            }
+        }
+    }
+    false
+}
+
+/// Gives what is before the first space of a line.
+fn name_of(line: &[u8]) -> &[u8] {
+    let end = line
+        .iter()
+        .position(|byte| *byte == b' ')
+        .unwrap_or(line.len());
+    &line[..end]
 }
 
 /// Reads the tenants from the tenants file at a path. Their quotas share a pool of `pool` slots.
