@@ -1,6 +1,6 @@
 """Does by docs/OPERATING.md what an operator does, as root of a Debian that systemd has booted: it installs the package, starts both
-units, looks at their processes, talks to them, kills and stops them, runs the page's commands as they stand there, and removes the
-package.
+units, looks at their processes, talks to them, kills and stops them, runs the page's commands as they stand there, puts a proxy in front
+by those of docs/MANY-MACHINES.md, and removes the package.
 
 usage: as_operator.py PACKAGE BOOT
 
@@ -24,6 +24,8 @@ PATIENCE = 60
 LOCAL, PORT = "mondlexi-local", "mondlexi"
 ROOM = Path("/srv/mw")
 PAGE = Path("/usr/share/doc/mondlexi/docs/OPERATING.md")
+PROXY_PAGE = PAGE.with_name("MANY-MACHINES.md")
+PROXY = Path("/etc/haproxy/mondlexi")
 
 
 class Unit(NamedTuple):
@@ -144,10 +146,15 @@ class DropIn:
 # The page's commands
 
 
-def blocks(section: str) -> List[List[Tuple[str, str]]]:
-    """The indented blocks of a section of OPERATING that have commands of root: each command, with what the page says that it prints."""
-    text = re.split(rf"^##+ {re.escape(section)}$", PAGE.read_text(), flags=re.MULTILINE)[1]
-    text = re.split(r"^##", text, flags=re.MULTILINE)[0]
+def section_of(page: Path, section: str) -> str:
+    """The text of a section of a page."""
+    text = re.split(rf"^##+ {re.escape(section)}$", page.read_text(), flags=re.MULTILINE)[1]
+    return re.split(r"^##", text, flags=re.MULTILINE)[0]
+
+
+def blocks(section: str, page: Path = PAGE) -> List[List[Tuple[str, str]]]:
+    """The indented blocks of a section of a page that have commands of root: each command, with what the page says that it prints."""
+    text = section_of(page, section)
     found = []
     for block in re.findall(r"(?:^ {4}.*\n)+", text + "\n", re.MULTILINE):
         parts = re.split(r"^ +# ", block, flags=re.MULTILINE)[1:]
@@ -359,6 +366,58 @@ def try_page(unit: Unit) -> None:
     print("the page's commands for a backup, to restore it, when a tenant is down, and for more words")
 
 
+def restart_elsewhere(unit: Unit) -> None:
+    """Restarts a unit that has listened at another address in this boot, and waits until it is ready."""
+    ended("systemctl", "reset-failed", unit.name)
+    starts = ready_lines(unit)
+    run("systemctl", "restart", unit.name)
+    wait_until(f"the line `ready` of {unit.name}", lambda: ready_lines(unit) > starts)
+
+
+def through_proxy(name: str, tenant: str, code: str) -> str:
+    """What a client prints that has the certificate of a name, connected by the page's lines in Python for a tenant, as `client`."""
+    connect = re.findall(r"^```python\n(.*?)^```", section_of(PROXY_PAGE, "Set up the proxy"), re.MULTILINE | re.DOTALL)[0]
+    connect = connect.replace('"t.', f'"{name}.').replace('"t"', f'"{tenant}"')
+    told = subprocess.run(["python3", "-c", f"import mondlexi, ssl\n{connect}\n{code}"], cwd=PROXY, stdout=subprocess.PIPE, stderr=subprocess.STDOUT,
+                          universal_newlines=True, timeout=PATIENCE)
+    return told.stdout
+
+
+def try_proxy(unit: Unit) -> None:
+    """A proxy in front of a unit, by the commands of MANY-MACHINES: over TLS, with a certificate for a tenant."""
+    setup, start = blocks("Set up the proxy", PROXY_PAGE)
+    value = word(unit)
+    with open("/etc/hosts", "a") as hosts:
+        hosts.write("127.0.0.1 words.example\n")
+    type_block([(command, "") for command, _ in setup], Path("/root"))
+    ended("systemctl", "reset-failed", unit.name)
+    starts = ready_lines(unit)
+    type_block([(command, "") for command, _ in start], PROXY)
+    wait_until("the server behind the proxy", lambda: ready_lines(unit) > starts)
+    wait_until("the proxy", lambda: through_proxy("t", "t", "print(client.words)") == "2000\n")
+    same(through_proxy("t", "t", f"print(client.cas([(0, {value}, {value + 1})]).made, client.get(0))"), f"True {value + 1}\n", "a change through the proxy")
+    for name, tenant in (("t", "u"), ("words.example", "t")):
+        same("mondlexi.errors.Refused" in through_proxy(name, tenant, ""), True, f"that {name} doesn't speak for {tenant}")
+    report = "print(mondlexi.Administrator('words.example:7444', tls=context).report().tenants[0].name)"
+    same(through_proxy("operator", "t", "").split("\n")[-2].partition(":")[0] in ("mondlexi.errors.Lost", "mondlexi.errors.Full"), True, "an administrator among the tenants")
+    same(through_proxy("t", "t", report.replace("context", "ssl.create_default_context(cafile='clients.pem')")).count("mondlexi.errors."), 1, "a report without a certificate")
+    context = "context.load_cert_chain('operator.pem', 'operator.key'); "
+    same(through_proxy("t", "t", context + report), "t\n", "the report through the proxy")
+    made = run("stat", "-c", "%U %G %a", "/var/lib/haproxy/mondlexi", "/var/lib/haproxy/mondlexi/socket", "/var/lib/haproxy/mondlexi/admin")
+    same(made, "mw haproxy 2750\n" + 2 * "mw haproxy 660\n", "folder and sockets behind the proxy")
+    wait_until("the proxy's log", lambda: '"t" "t" server_a/a' in run("journalctl", "--boot", "--output", "cat", "--no-pager", "--identifier", "haproxy"))
+    restart_elsewhere(unit)
+    wait_until("the proxy, after a restart of the server", lambda: through_proxy("t", "t", "print(client.get(0))") == f"{value + 1}\n")
+    (PROXY / "tenants.map").write_text("")
+    run("systemctl", "reload", "haproxy")
+    wait_until("the proxy without the tenant in its map", lambda: "mondlexi.errors.Refused" in through_proxy("t", "t", ""))
+    run("systemctl", "stop", "haproxy")
+    run("rm", "-r", f"/etc/systemd/system/{unit.name}.service.d")
+    run("systemctl", "daemon-reload")
+    restart_elsewhere(unit)
+    print("a proxy in front, by the page's commands: TLS, a certificate for a tenant and for the administrator, a socket in its chroot, a new map")
+
+
 def first_boot(deb: str) -> None:
     """Installs the package, and tries all but the removal."""
     PAGE.parent.mkdir(parents=True, exist_ok=True)
@@ -386,6 +445,7 @@ def first_boot(deb: str) -> None:
     try_strict(local)
     try_own_administrators(local)
     try_page(local)
+    try_proxy(local)
 
 
 def second_boot(deb: str) -> None:

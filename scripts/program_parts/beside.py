@@ -73,6 +73,9 @@ def try_json(at, more):
     status, lines, errors = end_load(begin_load(*at, *more, "--json"))
     same((status, len(lines), errors), (0, 1, ""), f"mwbench {more} --json")
     told = json.loads(lines[0])
+    named = re.search(r"`--json` prints .*", (TOP / "docs/BENCH.md").read_text())
+    names = set(told) | {name for it in told.values() if isinstance(it, dict) for name in it}
+    same(sorted(names - set(re.findall(r"`(\w+)`", named[0] if named else ""))), [], "the names of --json that docs/BENCH.md doesn't have")
     kinds = ["yes", "no", "busy", "val"]
     same(list(told), ["changes_a_second", "reads_a_second", "refusals", *kinds, "all"], "the names in mwbench's JSON")
     same([list(told[kind]) for kind in (*kinds, "all")], 5 * [["count", *TIMES]], "the names of a kind in mwbench's JSON")

@@ -11,8 +11,10 @@ from .common import PATIENCE
 
 MIRROR = "http://deb.debian.org/debian"
 RELEASE = "bookworm"
-TO_BOOT = "systemd,dbus,python3"
-"""What it needs further to be booted, and for the package's client."""
+TO_BOOT = "systemd,dbus,python3,haproxy,openssl,procps"
+"""What it needs further to be booted, for the package's client, and for a proxy in front, whose reload calls kill."""
+TO_TALK = "netcat-openbsd"
+"""What the pages' commands need further."""
 GROUPS = Path("/sys/fs/cgroup")
 
 

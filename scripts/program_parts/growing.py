@@ -43,11 +43,11 @@ def try_refused(folder: Path) -> None:
         (folder / "dump").write_text(text)
         same(ran(folder, MWINIT, "--from", "dump", "new.mw", 4, 2), (1, "", f"mwinit: {why}\n"), f"mwinit of the dump {number}, {text[:40]!r}")
         same((folder / "new.mw").exists(), False, f"that there is no file of the dump {number}")
-    for dump in ("nowhere", "."):
-        same(ran(folder, MWINIT, "--from", dump, "new.mw", 4, 2), (1, "", "mwinit: cannot read the dump\n"), f"mwinit --from {dump}")
+    for dump, why in (("nowhere", "No such file or directory (os error 2)"), (".", "Is a directory (os error 21)")):
+        same(ran(folder, MWINIT, "--from", dump, "new.mw", 4, 2), (1, "", f"mwinit: cannot read the dump\nmwinit: {why}\n"), f"mwinit --from {dump}")
     (folder / "dump").write_text(WHOLE)
     (folder / "kept").write_text("kept")
-    same(ran(folder, MWINIT, "--from", "dump", "kept", 4, 2), (1, "", "mwinit: cannot make\n"), "mwinit of a file that is there")
+    same(ran(folder, MWINIT, "--from", "dump", "kept", 4, 2), (1, "", "mwinit: cannot make\nmwinit: the file: File exists (os error 17)\n"), "mwinit of a file that is there")
     same((folder / "kept").read_text(), "kept", "a file that was there")
 
 

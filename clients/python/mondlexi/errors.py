@@ -32,8 +32,9 @@ class Lost(Error):
 class Full(Lost):
     """The server closed a new connection before it gave any reply. The client has no connection, and nothing was changed.
 
-    A server closes a connection so if no session becomes free for it within the server's own limit of waiting (`--wait`).
-    Connect again later. A server that ends at that moment looks the same."""
+    A server closes a connection so if no session becomes free for it within the server's own limit of waiting (`--wait`), and so
+    does a proxy, at once if the server is down. Connect again later. A server that ends at that moment looks the same. A
+    proxy with the configuration of `contrib` tells a client that may not speak for the tenant so: `Refused`, number 5."""
 
 
 class Unknown(Error):
@@ -66,7 +67,7 @@ class Refused(Error):
     """The server refuses a line and has done nothing.
 
     `line`: what was sent; `number`: that of its `ERR`; `meaning`: what this stands for, a text. This client checks all else
-    before it sends, so the usual number is 5: no tenant has the name."""
+    before it sends, so the usual number is 5: no tenant has the name, or, at a proxy, not for this client."""
 
     def __init__(self, line: str, number: int) -> None:
         super().__init__(line, number)

@@ -1,0 +1,5 @@
+-- Answers a client that haproxy.cfg refuses, and closes: no tenant has this name, for this client.
+-- Without it the connection would end as that to a full server does, and the client would ask on.
+core.register_service("mondlexi_refused", "tcp", function(applet)
+    applet:send("ERR 5\n")
+end)
