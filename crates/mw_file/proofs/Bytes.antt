@@ -16,7 +16,7 @@ use Rattle.mw_file.specs.declared.place_states.PlaceState.{PlaceState}
 use Rattle.mw_file.specs.declared.place_states.Stage.{Stage}
 use Rattle.mw_file.specs.declared.place_states.Stage.TheVariants.{Free, Prepared, Sealed}
 use Rattle.mw_file.specs.PlaceStates.{stage_of, writes_of_place, IsStaged}
-use Rattle.mw_file.specs.Stores.{PlacedAs}
+use Rattle.mw_file.specs.Stores.{PlacedAs, IsWritten}
 use Rattle.mw_file.proofs.Parts.{PartStores}
 
 -- bytes outside the changed ones are the same
@@ -74,6 +74,12 @@ placed_same b c words place Prepared w same few was =
       formed = was.formed;
       values = was.values;
     }
+
+-- a record after a clear commit byte stays, if the bytes of its place do
+pub written_same : (b c : List ℕ) (words place : ℕ) (w : Pairs) → SameBytes (place_size Second) (place_at Second words place) (place_at Second words place) c b
+    → IsWritten b words place w → IsWritten c words place w
+written_same b c words place w same was =
+    placed_same b c words place Prepared w same (λ ps is. absurd (let e : ⊥ = cc (was.shut, is) in e)) was
 
 -- One place has a new stage, and the bytes of the other places stayed: the bytes match the new states.
 pub stores_staged : (b c : List ℕ) (words : ℕ) (before after : List ℕ) (states new : List PlaceState) (place : ℕ) (stage : Stage) (writes : Pairs)

@@ -7,12 +7,14 @@ pub mod Grown
 pub mod RollLoop
 pub mod Migrated
 pub mod Opened
+pub mod NewPlaces
 pub mod Parts
 pub mod Places
 pub mod Ran
 pub mod Ready
 pub mod Recalled
 pub mod Reopened
+pub mod RecordWrites
 pub mod Rolled
 pub mod RollForwardLaws
 pub mod Safety

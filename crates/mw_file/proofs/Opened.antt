@@ -1,7 +1,7 @@
 -- The opening of a file keeps its promises, although it reads no more than the first MAX_FILE bytes of the disk.
 -- Used by: the proof of TenantFile::open. It may change freely as long as this crate checks.
 use Rattle.std.proofs.Common.{◌≡◌, ℕ, ◌+◌, ◌<◌, ◌≤◌, Bool, true, false, List, ◌++◌, length, take, drop, min, Some, None, is_none, if◌then◌else◌, IsTrue, refl, sym, ap, ◌∙◌, arith, subst, inl, inr}
-use Rattle.std.proofs.lemmas.List.{take-append-le, take_all, ext_get_or, get_or-take, get_or-drop, length-take}
+use Rattle.std.proofs.lemmas.List.{take-append-le, take_all, get_or-take, get_or-drop, length-take}
 use Rattle.std.proofs.lemmas.Bool.{cases_lt, cases_Bool}
 use Rattle.mw_disk.specs.Facts.{Facts, IsSynced}
 use Rattle.mw_disk.specs.Runs.{SameBut, Later, Touched, LeavesOnly}
@@ -26,6 +26,7 @@ use Rattle.mw_file.specs.RecoveryInvariant.{IsFile}
 use Rattle.mw_file.specs.Migration.{CanGrow, InSwitch, Grown, given_second}
 use Rattle.mw_file.specs.OpeningEnds.{front, SameFile, Unchanged, SparesFirst, KeepsFirst, TellsSecond, GivesSecond, read_calls, ready_calls, open_calls, begins_at, CanOpen, OpensAs}
 use Rattle.mw_file.proofs.Grown.{grown_more, grown_touched}
+use Rattle.mw_file.proofs.Parts.{same_all}
 use Rattle.mw_file.proofs.Ready.{second_as}
 
 -- the first n of n elements and more are those n
@@ -69,10 +70,6 @@ untouched_trans a b c later ab bc = record {
   same = λ honest. bc.same (still_honest a b later honest) ∙ ab.same honest;
   nothing_new = λ honest image left. ab.nothing_new honest image (bc.nothing_new (still_honest a b later honest) image left);
 }
-
--- lists that differ nowhere are equal
-same_all : (a b : List ℕ) → SameBut Nowhere a b → b ≡ a
-same_all a b same = ext_get_or 0 b a same.size (λ k lt. same.outside k (λ z. z))
 
 module _ (f0 f1 : Facts) (touched : Touched Nowhere f0 f1) (rest : IsSynced f0) where
   pub reads_stay : f1.reads ≡ f0.reads

@@ -16,7 +16,7 @@ use Rattle.mw_record.proofs.ReadAgain.{mark_same}
 use Rattle.mw_file.specs.declared.place_states.PlaceState.{PlaceState}
 use Rattle.mw_file.specs.PlaceStates.{stage_of, writes_of_place}
 use Rattle.mw_file.specs.Stores.{PlacedAs, Stores}
-use Rattle.mw_file.specs.RollForward.{Behind}
+use Rattle.mw_file.specs.RollForward.{Nowhere, Behind}
 
 -- a byte of the part has its offset from where the part begins
 pub byte_of : (at : ℕ) (b : List ℕ) (k : ℕ) → slice_index (drop at b) k ≡ slice_index b (at + k)
@@ -37,6 +37,10 @@ module _ (at : ℕ) (S : ℕ → Type 0) (b c : List ℕ) (same : SameBut (Behin
   -- the bytes before the part have not changed
   pub front_same : (n : ℕ) → n ≤ at → SameBytes n 0 0 c b
   front_same n low k lt = same.outside (0 + k) (λ s. omega (arith, s.from, low, lt))
+
+-- lists that differ nowhere are equal
+pub same_all : (a b : List ℕ) → SameBut Nowhere a b → b ≡ a
+same_all a b same = ext_get_or 0 b a same.size (λ k lt. same.outside k (λ z. z))
 
 -- on a disk, only bytes from the part's beginning on may have changed
 pub behind_alone : (at : ℕ) (S : ℕ → Type 0) (old new : Facts) → Touched (Behind at S) old new → Touched (λ k. at ≤ k) old new

@@ -39,7 +39,7 @@ closed r ps none some = let e : ⊥ = cc (none, some) in e
 
 module _ (b c : List ℕ) (words : ℕ) (contents : List ℕ) (states : List PlaceState) (place : ℕ) (was : PartStores b words contents states) (within : place < length states) where
   -- if only bytes of one place changed, the bytes of the others stay
-  others_same : (at n : ℕ) → place_at Second words place ≤ at → at + n ≤ place_at Second words place + place_size Second → SameBut (InRange at n) b c
+  pub others_same : (at n : ℕ) → place_at Second words place ≤ at → at + n ≤ place_at Second words place + place_size Second → SameBut (InRange at n) b c
       → (other : ℕ) → other < length states → (other ≡ place → ⊥) → SameBytes (place_size Second) (place_at Second words other) (place_at Second words other) c b
   others_same at n low high same other lt ne =
       same_bytes (InRange at n) b c (place_size Second) (place_at Second words other) same (apart words place other at n low high ne)
@@ -60,20 +60,26 @@ module _ (b c : List ℕ) (words : ℕ) (contents : List ℕ) (states : List Pla
       ])
       (λ a lt. inl (home_missed words (length states) contents b c S was.has same a (λ k l s. omega (arith, s.from, l, lt))))
 
-  -- After the whole record was written, the place is prepared.
-  pub prepare_done : (entries : List Entry) (new : List PlaceState) → SameBut (InRange (place_at Second words place + 1) BODY_SIZE) b c → record_at Second b words place ≡ None
-      → is_change words entries ≡ true → SameBytes BODY_SIZE (place_at Second words place + 1) 0 c (body entries)
-      → IsStaged states new place Prepared (pairs_of entries) → PartStores c words contents new
-  prepare_done entries new same shut change written staged =
+  -- So the bytes match the states as before, if the place is free.
+  pub still_stored : SameBut (InRange (place_at Second words place + 1) BODY_SIZE) b c → record_at Second b words place ≡ None → stage_of states place ≡ Free → PartStores c words contents states
+  still_stored same shut free =
+      let at : ℕ = place_at Second words place in
+      stores_staged b c words contents contents states states place Free (writes_of_place states place) was
+      (record { count = refl; stage_here = free; writes_here = refl; stage_there = λ other ne. refl; writes_there = λ other ne. refl }) (prepare_torn same shut)
+      (others_same (at + 1) BODY_SIZE (omega arith) (omega arith) same) (shut_stays Second c b words place (same.outside at (λ s. omega (arith, s.from))) shut)
+
+  -- After the whole record was written, it is in the place.
+  pub record_written : (entries : List Entry) → SameBut (InRange (place_at Second words place + 1) BODY_SIZE) b c → record_at Second b words place ≡ None
+      → is_change words entries ≡ true → SameBytes BODY_SIZE (place_at Second words place + 1) 0 c (body entries) → IsWritten c words place (pairs_of entries)
+  record_written entries same shut change written =
       let at : ℕ = place_at Second words place in
       let fit : words ≤ MAX_WORDS = omega (arith, was.has.head.words_are, (sizes_are Second b was.has.head.sizes).words_fit) in
-      stores_staged b c words contents contents states new place Prepared (pairs_of entries) was staged (prepare_torn same shut)
-      (others_same (at + 1) BODY_SIZE (omega arith) (omega arith) same) (record {
+      record {
         shut = shut_stays Second c b words place (same.outside at (λ s. omega (arith, s.from))) shut;
         behind = body_again c at entries (length_of_change words entries change) (numbers_of_change words entries fit change) written;
         formed = record_of_change words entries change;
         values = values_of_change words entries change;
-      })
+      }
 
   -- The commit byte of a prepared place was written, and has any value.
   module _ (writes : Pairs) (behind : IsWritten b words place writes) (same : SameBut (InRange (place_at Second words place) 1) b c) where

@@ -25,6 +25,11 @@ pub ran_badly : {T E : Type 0} (m n : ℕ) (a b : Facts) (r : Result T E) → m 
 ran_badly m n a b (Ok x) same badly ran = absurd (cc)
 ran_badly m n a b (Err e) same badly ran = subst (λ (t : ℕ). Bad t a b) same ran
 
+-- a run that stopped at a fault, as one of more calls that answers an error
+pub ran_err : {T E : Type 0} (m k : ℕ) (a b : Facts) (r : Result T E) → m ≤ k → Bad m a b → IsErr r → Ran k a b r
+ran_err m k a b (Ok x) within bad err = absurd (cc)
+ran_err m k a b (Err e) within bad err = bad_wider m k a b within bad
+
 -- a run of one call
 pub ran_one : {T E : Type 0} (n : ℕ) (a b : Facts) (r : Result T E) → n ≡ 1 → Called a b (is_ok r) → (IsTrue a.honest → Spares a b (is_ok r)) → Ran n a b r
 ran_one n a b (Ok x) is call spares = subst (λ (t : ℕ). Good t a b) (sym is) (good_call a b call)

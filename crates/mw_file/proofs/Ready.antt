@@ -19,7 +19,7 @@ use Rattle.mw_file.specs.PlaceStates.{stage_of, writes_of_place, all_free}
 use Rattle.mw_file.specs.RecoveryInvariant.{IsFile}
 use Rattle.mw_file.specs.Migration.{migration_calls, CanMigrate, CanGrow, IsMigrated}
 use Rattle.mw_file.specs.OpeningEnds.{repair_calls, ready_calls, begins_at, CanOpen, OpensAs}
-use Rattle.mw_file.specs.RollForward.{CanRoll, CanFinish, IsRolled}
+use Rattle.mw_file.specs.RollForward.{CanRepair, CanFinish, IsRolled}
 use Rattle.mw_file.specs.Stores.{IsDurable}
 use Rattle.mw_file.proofs.Free.{stage_of-all_free}
 use Rattle.mw_file.proofs.Bytes.{placed_as}
@@ -32,9 +32,9 @@ second_as P at at2 words words2 places places2 is_at is_words is_places p =
     subst (λ (k : ℕ). P k words2 places2) is_at (subst (λ (n : ℕ). P at n places2) is_words (subst (λ (n : ℕ). P at words n) is_places p))
 
 pub roll_as : (f : Facts) (at at2 words words2 : ℕ) (states : List PlaceState) (contents : List ℕ) → at ≡ at2 → words ≡ words2
-    → CanRoll f at2 words2 (length states) 0 states contents → CanRoll f at words (length states) 0 states contents
+    → CanRepair f at2 words2 (length states) states contents → CanRepair f at words (length states) states contents
 roll_as f at at2 words words2 states contents is_at is_words can =
-    second_as (λ k n p. CanRoll f k n (length states) 0 states contents) at2 at words2 words 0 0 (sym is_at) (sym is_words) refl can
+    second_as (λ k n p. CanRepair f k n (length states) states contents) at2 at words2 words 0 0 (sym is_at) (sym is_words) refl can
 
 pub rolled_as : (f f2 : Facts) (at at2 words words2 : ℕ) (states : List PlaceState) → at ≡ at2 → words ≡ words2 → IsRolled at words 0 states f f2 → IsRolled at2 words2 0 states f f2
 rolled_as f f2 at at2 words words2 states is_at is_words rolled =

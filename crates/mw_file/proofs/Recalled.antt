@@ -17,10 +17,11 @@ use Rattle.mw_file.specs.declared.place_states.Stage.TheVariants.{Free, Prepared
 use Rattle.mw_file.specs.PlaceStates.{stage_of, stage_at, writes_in, writes_of_place, if_sealed, home_writes, home_writes_of, commit_writes, commit_writes_of, roll_calls, all_free}
 use Rattle.mw_file.proofs.Free.{stage_of-all_free}
 use Rattle.mw_file.specs.Stores.{PlacedAs, Stores, IsDurable}
-use Rattle.mw_file.specs.RollForward.{if_open, IsRecalled, CanRoll, CanFinish, IsRolled}
+use Rattle.mw_file.specs.RollForward.{if_open, IsRecalled, CanRepair, CanFinish, IsRolled}
 use Rattle.mw_file.specs.OpeningEnds.{entries_in, entries_below, records_below, open_entries, open_records, repair_calls}
 use Rattle.mw_file.proofs.Parts.{part_stores}
 use Rattle.mw_file.proofs.SettledFiles.{tells_all}
+use Rattle.mw_file.proofs.Rolled.{can_roll}
 use Rattle.mw_file.proofs.Safety.{open_durable}
 
 -- an element that was read is within the list, and follows the first ones
@@ -133,13 +134,13 @@ module _ (image : List ℕ) (states : List PlaceState) (recalled : IsRecalled im
           placed_recalled place (stage_of states place) (writes_of_place states place) (recalled.none_prepared place low) (recalled.each place low ∙ sym (can.same place low));
     }
 
-    pub roll_recalled : CanRoll f (at_of image) (words_of image) (length states) 0 states contents
+    pub roll_recalled : CanRepair f (at_of image) (words_of image) (length states) states contents
     roll_recalled = record {
-      honest = can.honest;
       rest = can.rest;
-      has = stores_recalled.has;
-      within = omega arith;
-      recorded = (tells_all (drop (at_of image) f.reads) (words_of image) contents states (part_stores f.reads (at_of image) (words_of image) contents states stores_recalled)).recorded;
+      roll = can_roll f (at_of image) (words_of image) (length states) 0 states contents can.honest can.rest (omega arith) (record {
+        has = stores_recalled.has;
+        recorded = (tells_all (drop (at_of image) f.reads) (words_of image) contents states (part_stores f.reads (at_of image) (words_of image) contents states stores_recalled)).recorded;
+      });
     }
 
     -- after the roll forward the bytes match states that are all free

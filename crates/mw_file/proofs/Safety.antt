@@ -1,11 +1,11 @@
 -- A crash during a call on a file leaves what the call's contract says, because each of its writes does.
 -- Used by: the proofs of all calls of TenantFile. It may change freely as long as this crate checks.
-use Rattle.std.proofs.Common.{◌≡◌, ℕ, ◌+◌, ◌<◌, ◌≤◌, List, [], ◌∷◌, length, drop, Some, None, true, false, IsTrue, slice_index, slice_get, refl, sym, ap, ◌∙◌, inl, inr, arith, subst}
+use Rattle.std.proofs.Common.{◌≡◌, ◌≢◌, ℕ, ◌+◌, ◌<◌, ◌≤◌, List, [], ◌∷◌, length, drop, Some, None, true, false, IsTrue, slice_index, slice_get, refl, sym, ap, ◌∙◌, inl, inr, arith, subst}
 use Rattle.mw_words.specs.declared.jobs.Entry.{Entry}
 use Rattle.mw_words.specs.Change.{is_change}
 use Rattle.mw_disk.specs.Facts.{Facts, IsSynced, MayLeave}
 use Rattle.mw_disk.specs.Runs.{SameBut, Touched, Fits, LeavesOnly}
-use Rattle.mw_disk.proofs.RunLaws.{touched_none, touched_wider, same_but_wider, fits_rest, leaves, leaves_same, leaves_now, leaves_wider}
+use Rattle.mw_disk.proofs.RunLaws.{touched_none, touched_wider, same_but_wider, leaves_same, leaves_now, leaves_wider}
 use Rattle.mw_record.specs.declared.layout.TheConstants.{BODY_SIZE, COMMITTED}
 use Rattle.mw_record.specs.declared.layout.Layout.TheVariants.{Second}
 use Rattle.mw_record.specs.Layout.{place_at, patched, body, pairs_of}
@@ -17,12 +17,14 @@ use Rattle.mw_file.specs.declared.place_states.PlaceState.{PlaceState}
 use Rattle.mw_file.specs.declared.place_states.Stage.TheVariants.{Free, Prepared, Sealed}
 use Rattle.mw_file.specs.declared.tenant_file.TenantFile.{TenantFile}
 use Rattle.mw_file.specs.PlaceStates.{stage_of, writes_of_place, IsStaged, MaySeal}
-use Rattle.mw_file.specs.Stores.{PlacedAs, IsWritten, Stores, IsDurable}
+use Rattle.mw_file.specs.Stores.{PlacedAs, IsWritten, Stores, IsStored, IsDurable}
 use Rattle.mw_file.specs.RollForward.{Behind, InRange, CanRoll, IsRolled}
 use Rattle.mw_file.specs.File.{disk_of, at_of, words_of as number_of, states_of, has_failed, IsCopy}
 use Rattle.mw_file.specs.RecoveryInvariant.{IsFile, IsBeforeOrAfter, RecoversTo, CrashSafe, FirstStays}
 use Rattle.mw_file.proofs.Parts.{PartStores, part_stores, part_same, byte_of, long_there, second_stays, stores_stay}
-use Rattle.mw_file.proofs.PlaceWrites.{prepare_torn, prepare_done, seal_torn, seal_done, cancel_done}
+use Rattle.mw_file.proofs.Bytes.{written_same}
+use Rattle.mw_file.proofs.PlaceWrites.{still_stored, record_written, others_same, seal_torn, seal_done, cancel_done}
+use Rattle.mw_file.proofs.Rolled.{can_roll}
 use Rattle.mw_file.proofs.SettledFiles.{settle_done, open_done, tells_one}
 
 -- a file with a second layout is a file of its words
@@ -82,11 +84,20 @@ safe_untouched facts old contents doubt was = record { moments = leaves_same (fa
 pub first_untouched : {D : Type 0} (facts : D → Facts) (old : TenantFile D) → FirstStays facts old old
 first_untouched facts old honest contents doubt was = touched_none (λ k. at_of old ≤ k) (facts (disk_of old))
 
+-- on a synced disk a crash leaves what a read gives
+pub stored_at_rest : (f : Facts) (at words : ℕ) (contents : List ℕ) (states : List PlaceState) → IsDurable f at words contents states → IsStored f at words contents states
+stored_at_rest f at words contents states durable = record {
+  stores = durable.stores;
+  left = λ image left. subst (λ (c : List ℕ). Stores c at words contents states) (sym (durable.rest image left)) durable.stores;
+}
+
 -- the disk has all bytes of each place of a file
-pub place_fits : (f : Facts) (at words place there n : ℕ) (contents : List ℕ) (states : List PlaceState) → IsDurable f at words contents states → place < length states
+pub place_fits : (f : Facts) (at words place there n : ℕ) (contents : List ℕ) (states : List PlaceState) → IsStored f at words contents states → place < length states
     → there + n ≤ at + place_at Second words (place + 1) → Fits f (there + n)
-place_fits f at words place there n contents states durable lt low =
-    fits_rest f (there + n) durable.rest (let l = long_there at words (length states) contents f.reads durable.stores.has in omega (arith, l, lt, low))
+place_fits f at words place there n contents states stored lt low = record {
+  reads = let l = long_there at words (length states) contents f.reads stored.stores.has in omega (arith, l, lt, low);
+  left = λ c left. let l = long_there at words (length states) contents c (stored.left c left).has in omega (arith, l, lt, low);
+}
 
 -- the bytes have the record of a prepared place, and a free place is closed
 placed_at : (part : List ℕ) (words : ℕ) (contents : List ℕ) (states : List PlaceState) (place : ℕ) → PartStores part words contents states → place < length states → stage_of states place ≡ Prepared
@@ -108,93 +119,108 @@ range_behind at there x n m b c is_there size_is same =
 pub range_alone : (at there x n : ℕ) (old new : Facts) → there ≡ at + x → Touched (InRange there n) old new → Touched (λ k. at ≤ k) old new
 range_alone at there x n old new is_there touched = touched_wider (InRange there n) (λ k. at ≤ k) old new (λ k s. omega (arith, s.from, is_there)) touched
 
+-- the writes of a prepare and of a seal, in bytes of such a file
+module _ (b : List ℕ) (at words : ℕ) (contents : List ℕ) (states : List PlaceState) (place : ℕ) (was : Stores b at words contents states) (lt : place < length states) where
+  part : PartStores (drop at b) words contents states
+  part = part_stores b at words contents states was
+
+  long : at + place_at Second words (length states) ≤ length b
+  long = long_there at words (length states) contents b was.has
+
+  -- a prepare wrote a record after a clear commit byte
+  module _ (n : ℕ) (size_is : n ≡ BODY_SIZE) (there : ℕ) (is_there : there ≡ at + place_at Second words place + 1) (free : stage_of states place ≡ Free) (c : List ℕ) (same : SameBut (InRange there n) b c) where
+    abbrev prepared : ℕ → Type 0
+    prepared = InRange (place_at Second words place + 1) BODY_SIZE
+
+    prepare_same : SameBut (Behind at prepared) b c
+    prepare_same = range_behind at there (place_at Second words place + 1) n BODY_SIZE b c (omega (arith, is_there)) size_is same
+
+    part_prepared : SameBut prepared (drop at b) (drop at c)
+    part_prepared = part_same at prepared b c prepare_same
+
+    shut : record_at Second (drop at b) words place ≡ None
+    shut = closed_at (drop at b) words contents states place part lt free
+
+    -- if it is torn in any way, the bytes match the states as before
+    pub prepare_stores : Stores c at words contents states
+    prepare_stores =
+        stores_stay at words contents contents states states b c prepared was prepare_same
+        (still_stored (drop at b) (drop at c) words contents states place part lt part_prepared shut free) refl
+
+    -- the record of any other closed place stays
+    pub prepare_others : (other : ℕ) (writes : Pairs) → other < length states → other ≢ place → IsWritten (drop at b) words other writes → IsWritten (drop at c) words other writes
+    prepare_others other writes within ne written =
+        written_same (drop at b) (drop at c) words other writes
+        (others_same (drop at b) (drop at c) words contents states place part lt (place_at Second words place + 1) BODY_SIZE (omega arith) (omega arith) part_prepared other within ne) written
+
+    -- if it is whole, the record is in its place
+    pub prepare_written : (entries : List Entry) (block : List ℕ) → is_change words entries ≡ true → block ≡ body entries → length block ≡ n → c ≡ patched b there block
+        → IsWritten (drop at c) words place (pairs_of entries)
+    prepare_written entries block change is_block size bytes =
+        let fits : there + n ≤ length b = omega (arith, long, lt, size_is, is_there) in
+        record_written (drop at b) (drop at c) words contents states place part lt entries part_prepared shut change
+        (λ k l.
+        byte_of at c (place_at Second words place + 1 + k)
+        ∙ ap (λ bs. slice_index bs (at + (place_at Second words place + 1 + k))) bytes
+        ∙ ap (slice_index (patched b there block)) (let e : at + (place_at Second words place + 1 + k) ≡ there + k = omega (arith, is_there) in e)
+        ∙ get_patched b there block k (omega (arith, fits)) (omega (arith, l, size, size_is)) ∙ ap (λ bs. slice_index bs k) is_block
+        ∙ ap (slice_index (body entries)) (let e : k ≡ 0 + k = omega arith in e))
+
+  -- a seal wrote a commit byte
+  module _ (there : ℕ) (is_there : there ≡ at + place_at Second words place) (may : MaySeal states place) (c : List ℕ) (same : SameBut (InRange there 1) b c) where
+    abbrev sealed : ℕ → Type 0
+    sealed = InRange (place_at Second words place) 1
+
+    seal_same : SameBut (Behind at sealed) b c
+    seal_same = range_behind at there (place_at Second words place) 1 1 b c is_there refl same
+
+    part_sealed : SameBut sealed (drop at b) (drop at c)
+    part_sealed = part_same at sealed b c seal_same
+
+    was_written : IsWritten (drop at b) words place (writes_of_place states place)
+    was_written = placed_at (drop at b) words contents states place part lt may.prepared
+
+    -- if it has any value, the file has the words before or after
+    pub seal_either : IsBeforeOrAfter (length states) contents (writes_of_place states place) c
+    seal_either =
+        let writes : Pairs = writes_of_place states place in
+        let is : (after : List ℕ) → HasWords Second words (length states) after (drop at c) → IsFile (length states) after c = λ after has.
+        is_file at words (length states) after c (second_stays at words (length states) contents after b c sealed was.has seal_same has) in
+        elim (seal_torn (drop at b) (drop at c) words contents states place part lt writes was_written part_sealed may refl) [
+          | inl before ↦ inl (is contents before)
+          | inr after ↦ inr (is (put_pairs writes contents) after)
+        ]
+
+    -- the record of any other closed place stays
+    pub seal_others : (other : ℕ) (writes : Pairs) → other < length states → other ≢ place → IsWritten (drop at b) words other writes → IsWritten (drop at c) words other writes
+    seal_others other writes within ne written =
+        written_same (drop at b) (drop at c) words other writes
+        (others_same (drop at b) (drop at c) words contents states place part lt (place_at Second words place) 1 (omega arith) (omega arith) part_sealed other within ne) written
+
+    -- if it is set, the place is sealed
+    pub seal_stores : (next : List PlaceState) → c ≡ patched b there (COMMITTED ∷ []) → IsStaged states next place Sealed (writes_of_place states place)
+        → Stores c at words (put_pairs (writes_of_place states place) contents) next
+    seal_stores next bytes staged =
+        let fits : there + 1 ≤ length b = omega (arith, long, lt, is_there) in
+        let block : List ℕ = COMMITTED ∷ [] in
+        let writes : Pairs = writes_of_place states place in
+        stores_stay at words contents (put_pairs writes contents) states next b c sealed was seal_same
+        (seal_done (drop at b) (drop at c) words contents states place part lt writes was_written part_sealed next may refl
+        (byte_of at c (place_at Second words place) ∙ ap (λ bs. slice_index bs (at + place_at Second words place)) bytes
+        ∙ ap (λ k. slice_index (patched b there block) k) (let e : at + place_at Second words place ≡ there + 0 = omega (arith, is_there) in e)
+        ∙ get_patched b there block 0 (omega (arith, fits)) (omega arith)) staged) staged.count
+
 module _ (old new : Facts) (at words : ℕ) (contents : List ℕ) (states : List PlaceState) (place : ℕ) (durable : IsDurable old at words contents states) (lt : place < length states) where
   stored : PartStores (drop at old.reads) words contents states
   stored = part_stores old.reads at words contents states durable.stores
 
-  long : at + place_at Second words (length states) ≤ length old.reads
-  long = long_there at words (length states) contents old.reads durable.stores.has
-
-  -- a prepare wrote a record after a clear commit byte
-  module _ (n : ℕ) (size_is : n ≡ BODY_SIZE) (there : ℕ) (is_there : there ≡ at + place_at Second words place + 1) (free : stage_of states place ≡ Free) (touched : Touched (InRange there n) old new) where
-    abbrev prepared : ℕ → Type 0
-    prepared = InRange (place_at Second words place + 1) BODY_SIZE
-
-    prepare_same : (c : List ℕ) → SameBut (InRange there n) old.reads c → SameBut (Behind at prepared) old.reads c
-    prepare_same c same = range_behind at there (place_at Second words place + 1) n BODY_SIZE old.reads c (omega (arith, is_there)) size_is same
-
-    pub prepare_moments : LeavesOnly old new (IsFile (length states) contents)
-    prepare_moments = leaves (InRange there n) old new durable.rest touched (λ c same.
-        is_file at words (length states) contents c
-        (second_stays at words (length states) contents contents old.reads c prepared durable.stores.has (prepare_same c same)
-        (prepare_torn (drop at old.reads) (drop at c) words contents states place stored lt (part_same at prepared old.reads c (prepare_same c same))
-        (closed_at (drop at old.reads) words contents states place stored lt free))))
-
-    pub prepare_durable : (entries : List Entry) (block : List ℕ) (next : List PlaceState) → IsSynced new → is_change words entries ≡ true → block ≡ body entries → length block ≡ n
-        → new.reads ≡ patched old.reads there block → IsStaged states next place Prepared (pairs_of entries) → IsDurable new at words contents next
-    prepare_durable entries block next rest change is_block size reads staged =
-        let fits : there + n ≤ length old.reads = omega (arith, long, lt, size_is, is_there) in
-        let same : SameBut (Behind at prepared) old.reads new.reads = prepare_same new.reads touched.seen in
-        record {
-          rest = rest;
-          stores = stores_stay at words contents contents states next old.reads new.reads prepared durable.stores same
-              (prepare_done (drop at old.reads) (drop at new.reads) words contents states place stored lt entries next (part_same at prepared old.reads new.reads same)
-              (closed_at (drop at old.reads) words contents states place stored lt free) change
-              (λ k l.
-              byte_of at new.reads (place_at Second words place + 1 + k)
-              ∙ ap (λ b. slice_index b (at + (place_at Second words place + 1 + k))) reads
-              ∙ ap (slice_index (patched old.reads there block)) (let e : at + (place_at Second words place + 1 + k) ≡ there + k = omega (arith, is_there) in e)
-              ∙ get_patched old.reads there block k (omega (arith, fits)) (omega (arith, l, size, size_is)) ∙ ap (λ b. slice_index b k) is_block
-              ∙ ap (slice_index (body entries)) (let e : k ≡ 0 + k = omega arith in e)) staged) staged.count;
-        }
-
-  -- a seal set a commit byte
-  module _ (there : ℕ) (is_there : there ≡ at + place_at Second words place) (may : MaySeal states place) (touched : Touched (InRange there 1) old new) where
-    abbrev sealed : ℕ → Type 0
-    sealed = InRange (place_at Second words place) 1
-
-    seal_same : (c : List ℕ) → SameBut (InRange there 1) old.reads c → SameBut (Behind at sealed) old.reads c
-    seal_same c same = range_behind at there (place_at Second words place) 1 1 old.reads c is_there refl same
-
-    was_written : IsWritten (drop at old.reads) words place (writes_of_place states place)
-    was_written = placed_at (drop at old.reads) words contents states place stored lt may.prepared
-
-    pub seal_moments : LeavesOnly old new (IsBeforeOrAfter (length states) contents (writes_of_place states place))
-    seal_moments = leaves (InRange there 1) old new durable.rest touched (λ c same.
-        let writes : Pairs = writes_of_place states place in
-        let is : (after : List ℕ) → HasWords Second words (length states) after (drop at c) → IsFile (length states) after c = λ after has.
-        is_file at words (length states) after c (second_stays at words (length states) contents after old.reads c sealed durable.stores.has (seal_same c same) has) in
-        elim (seal_torn (drop at old.reads) (drop at c) words contents states place stored lt writes was_written (part_same at sealed old.reads c (seal_same c same)) may refl) [
-          | inl before ↦ inl (is contents before)
-          | inr after ↦ inr (is (put_pairs writes contents) after)
-        ])
-
-    pub seal_durable : (next : List PlaceState) → IsSynced new → new.reads ≡ patched old.reads there (COMMITTED ∷ []) → IsStaged states next place Sealed (writes_of_place states place)
-        → IsDurable new at words (put_pairs (writes_of_place states place) contents) next
-    seal_durable next rest reads staged =
-        let fits : there + 1 ≤ length old.reads = omega (arith, long, lt, is_there) in
-        let block : List ℕ = COMMITTED ∷ [] in
-        let writes : Pairs = writes_of_place states place in
-        let same : SameBut (Behind at sealed) old.reads new.reads = seal_same new.reads touched.seen in
-        record {
-          rest = rest;
-          stores = stores_stay at words contents (put_pairs writes contents) states next old.reads new.reads sealed durable.stores same
-              (seal_done (drop at old.reads) (drop at new.reads) words contents states place stored lt writes was_written (part_same at sealed old.reads new.reads same) next may refl
-              (byte_of at new.reads (place_at Second words place) ∙ ap (λ b. slice_index b (at + place_at Second words place)) reads
-              ∙ ap (λ k. slice_index (patched old.reads there block) k) (let e : at + place_at Second words place ≡ there + 0 = omega (arith, is_there) in e)
-              ∙ get_patched old.reads there block 0 (omega (arith, fits)) (omega arith)) staged) staged.count;
-        }
-
   -- a settle rolled one sealed change forward
   module _ (honest : IsTrue old.honest) (s : PlaceState) (item : slice_get states place ≡ Some s) where
     pub settle_can : CanRoll old at words (length states) place (s ∷ []) contents
-    settle_can = record {
-      honest = honest;
-      rest = durable.rest;
+    settle_can = can_roll old at words (length states) place (s ∷ []) contents honest durable.rest (omega (arith, lt)) (record {
       has = durable.stores.has;
-      within = omega (arith, lt);
       recorded = (tells_one (drop at old.reads) words contents states place s stored lt item).recorded;
-    }
+    })
 
     pub settle_moments : LeavesOnly old new (HasSecond at words (length states) contents) → LeavesOnly old new (IsFile (length states) contents)
     settle_moments moments = leaves_wider old new (is_file at words (length states) contents) moments

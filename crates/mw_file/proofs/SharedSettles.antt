@@ -20,10 +20,10 @@ use Rattle.mw_file.specs.declared.place_states.Stage.{Stage}
 use Rattle.mw_file.specs.declared.place_states.Stage.TheVariants.{Free, Prepared, Sealed}
 use Rattle.mw_file.specs.PlaceStates.{stage_of, stage_at, writes_in, writes_of_place, if_sealed, home_writes_of, commit_writes_of, roll_calls, freed, IsStaged, AreFreed, IsOnlySealed}
 use Rattle.mw_file.specs.DeviceCalls.{commit_at, home_call, home_calls, clear_call, clear_calls, if_sealed_calls, roll_device_calls, settle_calls}
-use Rattle.mw_file.specs.Stores.{PlacedAs, IsDurable}
-use Rattle.mw_file.specs.RollForward.{InHomes, AtCommits, CanRoll, IsRolled}
+use Rattle.mw_file.specs.Stores.{PlacedAs, IsWritten, Stores, IsStored, IsDurable}
+use Rattle.mw_file.specs.RollForward.{InHomes, AtCommits, HasSealed, CanRoll, IsRolled}
 use Rattle.mw_file.proofs.Parts.{PartStores, part_stores, part_same}
-use Rattle.mw_file.proofs.Bytes.{placed_as, placed_same}
+use Rattle.mw_file.proofs.Bytes.{placed_as, placed_same, written_same}
 use Rattle.mw_file.proofs.Places.{staged}
 use Rattle.mw_file.proofs.RollForwardLaws.{Tells, sealed_or_not, rolled_others, rolled_shut}
 use Rattle.mw_file.proofs.SettledFiles.{tells_all}
@@ -119,14 +119,17 @@ freed_done b c words contents states new was same shut has are =
           ]);
     }
 
-module _ (old : Facts) (at words : ℕ) (contents : List ℕ) (states : List PlaceState) (durable : IsDurable old at words contents states) where
+module _ (old : Facts) (at words : ℕ) (contents : List ℕ) (states : List PlaceState) (stored : IsStored old at words contents states) where
+  -- a file's bytes have the records of its sealed places
+  has_sealed : (image : List ℕ) → Stores image at words contents states → HasSealed at words (length states) 0 states contents image
+  has_sealed image is = record { has = is.has; recorded = (tells_all (drop at image) words contents states (part_stores image at words contents states is)).recorded }
+
   pub settle_all_can : IsTrue old.honest → CanRoll old at words (length states) 0 states contents
   settle_all_can honest = record {
     honest = honest;
-    rest = durable.rest;
-    has = durable.stores.has;
     within = omega arith;
-    recorded = (tells_all (drop at old.reads) words contents states (part_stores old.reads at words contents states durable.stores)).recorded;
+    read = has_sealed old.reads stored.stores;
+    left = λ image left. has_sealed image (stored.left image left);
   }
 
   pub settle_all_durable : (new : Facts) (next : List PlaceState) → HasSecond at words (length states) contents new.reads → IsRolled at words 0 states old new → AreFreed states next
@@ -135,10 +138,20 @@ module _ (old : Facts) (at words : ℕ) (contents : List ℕ) (states : List Pla
     rest = rolled.rest;
     stores = record {
       has = subst (λ (n : ℕ). HasSecond at words n contents new.reads) (sym are.count) has;
-      placed = (freed_done (drop at old.reads) (drop at new.reads) words contents states next (part_stores old.reads at words contents states durable.stores)
+      placed = (freed_done (drop at old.reads) (drop at new.reads) words contents states next (part_stores old.reads at words contents states stored.stores)
           (part_same at _ old.reads new.reads rolled.same) rolled.shut has.part are).placed;
     };
   }
+
+  -- the record of a place that is free stays
+  pub settle_all_others : (new : Facts) (place : ℕ) (writes : Pairs) → IsRolled at words 0 states old new → place < length states → stage_of states place ≡ Free
+      → IsWritten (drop at old.reads) words place writes → IsWritten (drop at new.reads) words place writes
+  settle_all_others new place writes rolled lt free written =
+      let was = part_stores old.reads at words contents states stored.stores in
+      written_same (drop at old.reads) (drop at new.reads) words place writes
+      (rolled_others (drop at old.reads) words (length states) 0 states contents was.has (omega arith) (tells_all (drop at old.reads) words contents states was) (drop at new.reads)
+      (part_same at _ old.reads new.reads rolled.same) place
+      (λ low high is. let e : Free ≡ Sealed = sym free ∙ ap (stage_of states) (let z : place ≡ place - 0 = omega arith in z) ∙ is in absurd (cc))) written
 
 -- ---- just one place is sealed
 
@@ -216,6 +229,16 @@ sums_one g (s ∷ states) zero only =
 sums_one g (s ∷ states) (suc place) only =
     let first : if_counted g s ≡ 0 = no_number s.stage (g s.writes.items) (first_other s states place only) in
     omega (arith, sum_by-cons (if_counted g) s states, first, sums_one g states place (only_rest s states place only))
+
+-- it is free after a settle of all, and all else is as it was
+pub freed_one : (old new : List PlaceState) (place : ℕ) → IsOnlySealed old place → AreFreed old new → IsStaged old new place Free (writes_of_place old place)
+freed_one old new place only are = record {
+  count = are.count;
+  stage_here = are.stages place ∙ ap freed only.sealed;
+  writes_here = are.writes place;
+  stage_there = λ other ne. are.stages other ∙ kept_stage (stage_of old other) (only.others other ne);
+  writes_there = λ other ne. are.writes other;
+}
 
 -- the device calls are those of a settle of that place
 pub one_calls : (at words : ℕ) (states : List PlaceState) (place : ℕ) → IsOnlySealed states place → roll_device_calls at words 0 states ≡ settle_calls at words place (writes_of_place states place)

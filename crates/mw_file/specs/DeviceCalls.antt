@@ -8,6 +8,7 @@ use Rattle.mw_record.specs.declared.layout.Layout.TheVariants.{Second}
 use Rattle.mw_record.specs.declared.layout.TheConstants.{WORD_SIZE, COMMITTED, NOT_COMMITTED}
 use Rattle.mw_record.specs.Layout.{place_at, home_at, number_bytes, body}
 use Rattle.mw_record.specs.Records.{Pairs}
+use Rattle.mw_file.specs.declared.new_changes.NewChange.{NewChange}
 use Rattle.mw_file.specs.declared.place_states.PlaceState.{PlaceState}
 use Rattle.mw_file.specs.declared.place_states.Stage.{Stage}
 use Rattle.mw_file.specs.declared.place_states.Stage.TheVariants.{Free, Prepared, Sealed}
@@ -23,6 +24,14 @@ commit_at at words place = at + place_at Second words place
 -- prepare: the bytes of the record after the place's commit byte are written, then a sync
 abbrev pub prepare_calls : ℕ → ℕ → ℕ → List Entry → List DeviceCall
 prepare_calls at words place entries = WriteAt (commit_at at words place + 1) (body entries) ∷ Sync ∷ []
+
+-- the bytes of a change's record are written, after the commit byte of its place
+abbrev pub record_call : ℕ → ℕ → NewChange → DeviceCall
+record_call at words change = WriteAt (commit_at at words change.place.0 + 1) (body change.entries.items)
+
+-- the records of these changes are written, in order
+abbrev pub record_calls : ℕ → ℕ → List NewChange → List DeviceCall
+record_calls at words changes = map (record_call at words) changes
 
 -- seal: the place's commit byte is set, then a sync
 abbrev pub seal_calls : ℕ → ℕ → ℕ → List DeviceCall

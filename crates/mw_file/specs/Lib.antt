@@ -8,4 +8,5 @@ pub mod RollForward
 pub mod Run
 pub mod PlaceStates
 pub mod Stores
+pub mod NewChanges
 pub mod Taken

@@ -2,7 +2,7 @@
 -- Used by: Migration, OpeningEnds, the contracts of calls.rt, migration.rt, opening.rt and roll.rt. Callers do not see it: it
 -- may change with roll.rt and with the writes of calls.rt.
 use Rattle.std.specs.Prelude.{◌≡◌, ◌⊎◌, ◌<◌, ◌≤◌, ℕ, ◌+◌, ◌-◌, true, Option, Some, None, List, length, drop, slice_index, IsTrue}
-use Rattle.mw_disk.specs.Facts.{Facts, IsSynced}
+use Rattle.mw_disk.specs.Facts.{Facts, MayLeave, IsSynced}
 use Rattle.mw_disk.specs.Runs.{Fits, SameBut}
 use Rattle.mw_record.specs.declared.layout.TheConstants.{WORD_SIZE}
 use Rattle.mw_record.specs.declared.layout.Layout.TheVariants.{Second}
@@ -82,14 +82,23 @@ pub record HasHomes (f : Facts) (at words : ℕ) : Type 0 where
 abbrev pub AreBelow : ℕ → List PlaceState → Type 0
 AreBelow words states = (place : ℕ) → place < length states → IsBelow words (kept_of states place)
 
--- These places may be rolled forward. The disk is honest and synced. A read gives a file with a second layout at this offset and
--- these words. The record of each sealed place is open there; state i is that of place first + i.
+-- These bytes are a file with a second layout at this offset and these words. The record of each sealed place is open there; state i
+-- is that of place first + i.
+pub record HasSealed (at words places first : ℕ) (states : List PlaceState) (contents image : List ℕ) : Type 0 where
+  pub has : HasSecond at words places contents image
+  pub recorded : (place : ℕ) → place < length states → stage_of states place ≡ Sealed → record_at Second (drop at image) words (first + place) ≡ Some (writes_of_place states place)
+
+-- These places may be rolled forward. The disk is honest. A read gives such a file, and so does whatever a crash leaves now.
 pub record CanRoll (f : Facts) (at words places first : ℕ) (states : List PlaceState) (contents : List ℕ) : Type 0 where
   pub honest : IsTrue f.honest
-  pub rest : IsSynced f
-  pub has : HasSecond at words places contents f.reads
   pub within : first + length states ≤ places
-  pub recorded : (place : ℕ) → place < length states → stage_of states place ≡ Sealed → record_at Second (drop at f.reads) words (first + place) ≡ Some (writes_of_place states place)
+  pub read : HasSealed at words places first states contents f.reads
+  pub left : (image : List ℕ) → MayLeave f image → HasSealed at words places first states contents image
+
+-- An opening may roll these places forward: the disk is synced too.
+pub record CanRepair (f : Facts) (at words places : ℕ) (states : List PlaceState) (contents : List ℕ) : Type 0 where
+  pub rest : IsSynced f
+  pub roll : CanRoll f at words places 0 states contents
 
 -- These places were rolled forward. The disk is synced. Only bytes of the sealed places' home words and commit bytes may have
 -- changed, in the second layout at this offset, and those commit bytes are 0.

@@ -2,7 +2,7 @@
 -- Used by: RecoveryInvariant, mw_engine, the contracts of opening.rt. It ties memory and bytes: a new field of PlaceState needs
 -- a clause here if the bytes have it.
 use Rattle.std.specs.Prelude.{◌≡◌, ◌<◌, ℕ, true, Some, None, List, length, drop}
-use Rattle.mw_disk.specs.Facts.{Facts, IsSynced}
+use Rattle.mw_disk.specs.Facts.{Facts, MayLeave, IsSynced}
 use Rattle.mw_record.specs.declared.layout.Layout.TheVariants.{Second}
 use Rattle.mw_record.specs.Layout.{place_at}
 use Rattle.mw_record.specs.Records.{Pairs, record_at, body_at, is_record, has_values}
@@ -36,3 +36,8 @@ pub record Stores (image : List ℕ) (at words : ℕ) (contents : List ℕ) (sta
 pub record IsDurable (f : Facts) (at words : ℕ) (contents : List ℕ) (states : List PlaceState) : Type 0 where
   pub rest : IsSynced f
   pub stores : Stores f.reads at words contents states
+
+-- A read gives such a file, and so does whatever a crash leaves now. The disk may have writes that are not synced.
+pub record IsStored (f : Facts) (at words : ℕ) (contents : List ℕ) (states : List PlaceState) : Type 0 where
+  pub stores : Stores f.reads at words contents states
+  pub left : (image : List ℕ) → MayLeave f image → Stores image at words contents states

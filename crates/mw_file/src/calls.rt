@@ -6,7 +6,7 @@
 //! `specs/PlaceStates` says which calls may be made, `specs/File` and `specs/RecoveryInvariant` how they end.
 //! docs/FILES tells the order of the device calls: change them together. docs/PROMISES cites `prepare_at`, `seal` and
 //! `settle_all`.
-ghost use Rattle.std.specs.Prelude.{◌≡◌, ◌+◌, ◌≤◌, ◌<◌, ◌^◌, Some, length, IsTrue, IsSome, IfSome, is_some, is_ok, ℕ, [], ◌∷◌, IfOk, OnOk, OnErr};
+ghost use Rattle.std.specs.Prelude.{◌≡◌, ◌+◌, ◌≤◌, ◌<◌, ◌^◌, Some, length, IsTrue, IsSome, IfSome, is_some, is_ok, ℕ, [], ◌∷◌, ◌++◌, IfOk, OnOk, OnErr};
 ghost use Rattle.mw_disk.specs.DeviceCalls.{WriteAt, Sync, Makes};
 ghost use Rattle.mw_disk.specs.Facts.{IsSynced, patched};
 ghost use Rattle.mw_disk.specs.Runs.{Later, Touched, Fits};
@@ -16,17 +16,18 @@ ghost use Rattle.mw_words.specs.Change.{is_change};
 ghost use Rattle.mw_record.specs.Layout.{pairs_of};
 ghost use Rattle.mw_file.specs.PlaceStates as spec;
 ghost use Rattle.mw_file.specs.PlaceStates.{stage_of, writes_of_place, roll_calls, IsStaged, AreFreed, MaySeal};
+ghost use Rattle.mw_file.specs.NewChanges.{MayPrepare, ArePrepared, IsSealedWith, AreSettledWith};
 
-use crate::place_states::{PlaceState, Stage, writes_to};
+use crate::new_changes::{NewChange, set_prepared, sync_commit, sync_records, sync_rolled};
+use crate::place_states::{PlaceState, Stage};
 use crate::roll::roll_forward;
 use crate::tenant_file::{FileFault, Place, TenantFile};
 use mw_disk::{Disk, DiskFault};
-use mw_record::{COMMITTED, body, place_at};
-use mw_words::Entries;
+use mw_words::{Entries, copy_of};
 use std::slice;
 
 impl<D: Disk> TenantFile<D> {
-    ghost use Rattle.mw_file.specs.DeviceCalls.{prepare_calls, seal_calls, settle_calls, roll_device_calls, MadeCalls};
+    ghost use Rattle.mw_file.specs.DeviceCalls.{prepare_calls, record_calls, seal_calls, settle_calls, roll_device_calls, MadeCalls};
     ghost use Rattle.mw_file.specs.File.{states_of, words_of, at_of, disk_of, Ends};
     ghost use Rattle.mw_file.specs.RecoveryInvariant.{ContentsStay, ChangeIsSealed, FirstStays};
 
@@ -108,18 +109,38 @@ impl<D: Disk> TenantFile<D> {
         ensures safe { ContentsStay D.facts self.old self.new }
         ensures first { FirstStays D.facts self.old self.new }
     {
+        let change = NewChange {
+            place,
+            entries: copy_of(entries),
+        };
+        self.prepare_all(slice::from_ref(&change))
+    }
+
+    /// Writes the record of each change into its place, in order, and syncs once. The changes aren't in the file
+    /// yet: a crash at any moment of the call leaves the words as they were. The places must be the file's, free
+    /// and pairwise different, and each change must be well formed for the file's words.
+    ///
+    /// # Errors
+    ///
+    /// - [`FileFault::Disk`] if the device fails. The places stay free.
+    /// - [`FileFault::Failed`] if the file had failed before. The call did nothing.
+    pub fn prepare_all(&mut self, changes: &[NewChange]) -> Result<(), FileFault>
+        requires { MayPrepare (words_of self.old) (states_of self.old) changes.now }
+        ensures ends { Ends D.facts (length changes.now + 1) self.old self.new result }
+        ensures staged { OnOk result (ArePrepared (states_of self.old) (states_of self.new) changes.now) }
+        ensures made { MadeCalls D.made (record_calls (at_of self.old) (words_of self.old) changes.now ++ Sync ∷ []) self.old self.new result }
+        ensures later { Later (D.facts (disk_of self.old)) (D.facts (disk_of self.new)) }
+        ensures safe { ContentsStay D.facts self.old self.new }
+        ensures first { FirstStays D.facts self.old self.new }
+    {
         if self.failed {
             return Err(FileFault::Failed);
         }
-        let at = place_at(self.at, self.words, place.0) + 1;
-        if write_and_sync(&mut self.disk, at, &body(entries)).is_err() {
+        if sync_records(&mut self.disk, self.at, self.words, changes).is_err() {
             self.failed = true;
             return Err(FileFault::Disk);
         }
-        self.states[place.0 as usize] = PlaceState {
-            stage: Stage::Prepared,
-            writes: writes_to(entries),
-        };
+        set_prepared(&mut self.states, changes);
         Ok(())
     }
 
@@ -141,15 +162,40 @@ impl<D: Disk> TenantFile<D> {
         ensures safe { ChangeIsSealed D.facts self.old self.new (writes_of_place (states_of self.old) place.0) result }
         ensures first { FirstStays D.facts self.old self.new }
     {
+        self.seal_with(place, &[])
+    }
+
+    /// Commits a prepared change as `seal` does, and prepares the changes `ahead` by the same sync: writes their
+    /// records first, as `prepare_all` does, then sets the commit byte of `place`, and syncs once. A crash at any
+    /// moment of the call leaves the words before it, or these with the whole change of `place`. This change
+    /// must be prepared, and must share no address with a sealed change. The places of `ahead` must be the
+    /// file's, free and pairwise different, and each of its changes must be well formed for the file's words.
+    ///
+    /// # Errors
+    ///
+    /// - [`FileFault::Disk`] if the device fails. The next opening may find the change of `place`, or may not.
+    ///   The places of `ahead` stay free.
+    /// - [`FileFault::Failed`] if the file had failed before. The call did nothing.
+    pub fn seal_with(&mut self, place: Place, ahead: &[NewChange]) -> Result<(), FileFault>
+        requires seal { MaySeal (states_of self.old) place.0 }
+        requires ahead { MayPrepare (words_of self.old) (states_of self.old) ahead.now }
+        ensures ends { Ends D.facts (length ahead.now + 2) self.old self.new result }
+        ensures staged { OnOk result (IsSealedWith (states_of self.old) (states_of self.new) place.0 ahead.now) }
+        ensures made { MadeCalls D.made (record_calls (at_of self.old) (words_of self.old) ahead.now
+            ++ seal_calls (at_of self.old) (words_of self.old) place.0) self.old self.new result }
+        ensures later { Later (D.facts (disk_of self.old)) (D.facts (disk_of self.new)) }
+        ensures safe { ChangeIsSealed D.facts self.old self.new (writes_of_place (states_of self.old) place.0) result }
+        ensures first { FirstStays D.facts self.old self.new }
+    {
         if self.failed {
             return Err(FileFault::Failed);
         }
-        let at = place_at(self.at, self.words, place.0);
-        if write_and_sync(&mut self.disk, at, &[COMMITTED]).is_err() {
+        if sync_commit(&mut self.disk, self.at, self.words, place, ahead).is_err() {
             self.failed = true;
             return Err(FileFault::Disk);
         }
         self.states[place.0 as usize].stage = Stage::Sealed;
+        set_prepared(&mut self.states, ahead);
         Ok(())
     }
 
@@ -185,18 +231,22 @@ impl<D: Disk> TenantFile<D> {
     }
 
     /// Writes the values of all sealed changes into their home words and syncs once, then clears their commit
-    /// bytes and syncs once. Then their places are free. Prepared changes stay prepared. A crash at any moment
-    /// of the call leaves the words as they were, with all these changes. If none is sealed, the call only
-    /// syncs twice.
+    /// bytes and syncs once. Then their places are free. Prepared changes stay prepared. The first sync also
+    /// prepares the changes `ahead`, whose records are written first, as `prepare_all` does. A crash at any
+    /// moment of the call leaves the words as they were, with all sealed changes. If none is sealed, the call
+    /// writes the records and syncs twice. The places of `ahead` must be the file's, free and pairwise
+    /// different, and each of its changes must be well formed for the file's words.
     ///
     /// # Errors
     ///
-    /// - [`FileFault::Disk`] if the device fails. The changes stay sealed.
+    /// - [`FileFault::Disk`] if the device fails. The sealed changes stay sealed, the places of `ahead` free.
     /// - [`FileFault::Failed`] if the file had failed before. The call did nothing.
-    pub fn settle_all(&mut self) -> Result<(), FileFault>
-        ensures ends { Ends D.facts (roll_calls (states_of self.old)) self.old self.new result }
-        ensures freed { OnOk result (AreFreed (states_of self.old) (states_of self.new)) }
-        ensures made { MadeCalls D.made (roll_device_calls (at_of self.old) (words_of self.old) 0 (states_of self.old)) self.old self.new result }
+    pub fn settle_all(&mut self, ahead: &[NewChange]) -> Result<(), FileFault>
+        requires { MayPrepare (words_of self.old) (states_of self.old) ahead.now }
+        ensures ends { Ends D.facts (length ahead.now + roll_calls (states_of self.old)) self.old self.new result }
+        ensures freed { OnOk result (AreSettledWith (states_of self.old) (states_of self.new) ahead.now) }
+        ensures made { MadeCalls D.made (record_calls (at_of self.old) (words_of self.old) ahead.now
+            ++ roll_device_calls (at_of self.old) (words_of self.old) 0 (states_of self.old)) self.old self.new result }
         ensures later { Later (D.facts (disk_of self.old)) (D.facts (disk_of self.new)) }
         ensures safe { ContentsStay D.facts self.old self.new }
         ensures first { FirstStays D.facts self.old self.new }
@@ -204,11 +254,12 @@ impl<D: Disk> TenantFile<D> {
         if self.failed {
             return Err(FileFault::Failed);
         }
-        if roll_forward(&mut self.disk, self.at, self.words, &self.states, 0).is_err() {
+        if sync_rolled(&mut self.disk, self.at, self.words, &self.states, ahead).is_err() {
             self.failed = true;
             return Err(FileFault::Disk);
         }
         free_sealed(&mut self.states);
+        set_prepared(&mut self.states, ahead);
         Ok(())
     }
 

@@ -3,7 +3,7 @@
 //!
 //! Nothing that runs calls them. The law `a_restart_goes_on` of mw_plain calls `crash_of_a_file`, and proofs of
 //! mw_plain cite `proofs/TakenCounts`: a statement may change with mw_plain. docs/PROMISES cites the laws of a crash.
-ghost use Rattle.std.specs.Prelude.{◌≡◌, ◌⊎◌, ◌+◌, ◌<◌, ◌≤◌, ℕ, min, List, length, is_some, nat_lt, Vec, Result, IsTrue};
+ghost use Rattle.std.specs.Prelude.{◌≡◌, ◌⊎◌, ◌+◌, ◌<◌, ◌≤◌, ℕ, min, List, length, is_some, nat_lt, Vec, Result, IsTrue, []};
 ghost use Rattle.std.specs.declared.alloc.Global.{Global};
 ghost use Rattle.mw_disk.specs.Facts.{IsSynced, MayLeave, MayHaveLeft, most_counted};
 ghost use Rattle.mw_record.specs.Records.{Pairs};
@@ -16,7 +16,8 @@ ghost use Rattle.mw_file.specs.Reopenings.{Holds};
 ghost use Rattle.mw_file.specs.Run.{FailsAtCall};
 ghost use Rattle.mw_file.specs.declared.place_states.PlaceState.{PlaceState};
 ghost use Rattle.mw_file.specs.declared.place_states.Stage.{Stage};
-ghost use Rattle.mw_file.specs.PlaceStates.{free_place, stage_of, writes_of_place, roll_calls, IsStaged, AreFreed, IsOnlySealed};
+ghost use Rattle.mw_file.specs.PlaceStates.{free_place, stage_of, writes_of_place, roll_calls, IsStaged, IsOnlySealed};
+ghost use Rattle.mw_file.specs.NewChanges.{AreSettledWith};
 ghost use Rattle.mw_file.specs.DeviceCalls.{settle_calls, roll_device_calls};
 ghost use Rattle.mw_file.specs.Taken.{taken, if_taken};
 
@@ -67,13 +68,13 @@ pub fn the_device_fails_where_it_is_told<D: Disk>()
         → ((met.made.well ≡ k) × (k < calls)) ⊎ ((D.facts (disk_of new)).refused ≡ min ((D.facts (disk_of old)).refused + 1) most_counted) }
 {}
 
-/// If just one place is sealed, `settle_all` makes the device calls that `settle` of this place makes, in the
-/// same order, and leaves the same states.
+/// If just one place is sealed, and no change is prepared ahead, `settle_all` makes the device calls that
+/// `settle` of this place makes, in the same order, and leaves the same states.
 pub fn one_sealed_place_settles_alone()
     ensures calls { (at words : ℕ) (states : List PlaceState) (place : ℕ) → IsOnlySealed states place
         → roll_device_calls at words 0 states ≡ settle_calls at words place (writes_of_place states place) }
     ensures count { (states : List PlaceState) (place : ℕ) → IsOnlySealed states place
         → roll_calls states ≡ length (writes_of_place states place) + 3 }
-    ensures freed { (old new : List PlaceState) (place : ℕ) → IsOnlySealed old place → AreFreed old new
+    ensures freed { (old new : List PlaceState) (place : ℕ) → IsOnlySealed old place → AreSettledWith old new []
         → IsStaged old new place Stage.Free (writes_of_place old place) }
 {}

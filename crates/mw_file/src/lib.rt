@@ -29,6 +29,7 @@ mod calls;
 mod laws;
 mod memory;
 mod migration;
+mod new_changes;
 mod opening;
 mod place_states;
 mod roll;
@@ -38,6 +39,7 @@ pub use laws::{
     crash_in_an_opening, crash_of_a_file, one_sealed_place_settles_alone, places_are_counted,
     the_device_fails_where_it_is_told,
 };
+pub use new_changes::NewChange;
 pub use opening::OpenFault;
 pub use place_states::{PlaceState, Stage, Writes};
 pub use tenant_file::{FileFault, Place, TenantFile};

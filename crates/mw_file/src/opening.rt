@@ -16,7 +16,7 @@ ghost use Rattle.mw_file.specs.RecoveryInvariant.{IsFile};
 ghost use Rattle.mw_file.specs.Migration.{migration_calls, InSwitch, Grown, given_second, CanGrow, IsMigrated};
 ghost use Rattle.mw_file.specs.OpeningEnds as spec;
 ghost use Rattle.mw_file.specs.OpeningEnds.{repair_calls, ready_calls, CanOpen};
-ghost use Rattle.mw_file.specs.RollForward.{CanRoll, CanFinish, IsRolled, IsRecalled, Nowhere, record_of};
+ghost use Rattle.mw_file.specs.RollForward.{CanRepair, CanFinish, IsRolled, IsRecalled, Nowhere, record_of};
 ghost use Rattle.mw_file.specs.Run.{Ran, IsUntouched};
 ghost use Rattle.mw_file.specs.PlaceStates.{all_free, commit_writes, roll_calls};
 ghost use Rattle.mw_file.specs.Stores.{IsDurable};
@@ -345,13 +345,13 @@ fn repair<D: Disk>(
     requires few { length states.now < 2 ^ 16 }
     ensures calls { Ran (if commit_writes states.now == 0 then 0 else roll_calls states.now) (D.facts disk.old) (D.facts disk.new) result }
     ensures later { Later (D.facts disk.old) (D.facts disk.new) }
-    ensures moments { (contents : List ℕ) → CanRoll (D.facts disk.old) at words (length states.now) 0 states.now contents
+    ensures moments { (contents : List ℕ) → CanRepair (D.facts disk.old) at words (length states.now) states.now contents
         → LeavesOnly (D.facts disk.old) (D.facts disk.new) (HasSecond at words (length states.now) contents) }
-    ensures read { (contents : List ℕ) → CanRoll (D.facts disk.old) at words (length states.now) 0 states.now contents
+    ensures read { (contents : List ℕ) → CanRepair (D.facts disk.old) at words (length states.now) states.now contents
         → HasSecond at words (length states.now) contents (D.facts disk.new).reads }
-    ensures done { OnOk result ((contents : List ℕ) → CanRoll (D.facts disk.old) at words (length states.now) 0 states.now contents
+    ensures done { OnOk result ((contents : List ℕ) → CanRepair (D.facts disk.old) at words (length states.now) states.now contents
         → IsRolled at words 0 states.now (D.facts disk.old) (D.facts disk.new)) }
-    ensures touched { (contents : List ℕ) → CanRoll (D.facts disk.old) at words (length states.now) 0 states.now contents
+    ensures touched { (contents : List ℕ) → CanRepair (D.facts disk.old) at words (length states.now) states.now contents
         → Touched (λ k. at ≤ k) (D.facts disk.old) (D.facts disk.new) }
 {
     if !has_sealed(states) {

@@ -14,7 +14,7 @@ use Rattle.mw_file.proofs.opening.repair.Goals as goal
 pub returns-then-not-has_sealed-clause-moments : goal.returns-then-not-has_sealed-clause-moments
 returns-then-not-has_sealed-clause-moments g c contents can =
     let f = g.D.Disk.facts c.args.disk.now in
-    leaves_same f (at_rest_has f c.args.at c.args.words (length c.args.states.now) 0 c.args.states.now contents can)
+    leaves_same f (at_rest_has f c.args.at c.args.words (length c.args.states.now) c.args.states.now contents can)
 
 pub returns-then-not-has_sealed-clause-done : goal.returns-then-not-has_sealed-clause-done
 returns-then-not-has_sealed-clause-done g c contents can =
@@ -28,16 +28,16 @@ returns-then-not-has_sealed-clause-done g c contents can =
     }
 
 pub returns-clause-moments : goal.returns-clause-moments
-returns-clause-moments g c contents can = c.roll_forward.ensures.moments (length c.args.states.now) contents can
+returns-clause-moments g c contents can = c.roll_forward.ensures.moments (length c.args.states.now) contents can.roll
 
 pub returns-clause-read : goal.returns-clause-read
-returns-clause-read g c contents can = c.roll_forward.ensures.read (length c.args.states.now) contents can
+returns-clause-read g c contents can = c.roll_forward.ensures.read (length c.args.states.now) contents can.roll
 
 pub returns-clause-done : goal.returns-clause-done
-returns-clause-done g c = on_ok _ _ c.roll_forward.result (λ done contents can. done (length c.args.states.now) contents can) c.roll_forward.ensures.done
+returns-clause-done g c = on_ok _ _ c.roll_forward.result (λ done contents can. done (length c.args.states.now) contents can.roll) c.roll_forward.ensures.done
 
 pub returns-then-not-has_sealed-clause-touched : goal.returns-then-not-has_sealed-clause-touched
 returns-then-not-has_sealed-clause-touched g c contents can = touched_none (λ k. c.args.at ≤ k) (g.D.Disk.facts c.args.disk.now)
 
 pub returns-clause-touched : goal.returns-clause-touched
-returns-clause-touched g c contents can = c.roll_forward.ensures.touched (length c.args.states.now) contents can
+returns-clause-touched g c contents can = c.roll_forward.ensures.touched (length c.args.states.now) contents can.roll
