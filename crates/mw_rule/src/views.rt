@@ -163,7 +163,7 @@ pub struct View {
     /// The same, as another thread told it.
     pub told: LinkedList<LinkedList<Sealed>>,
     /// The table's run at the latest step or load of this thread, or of a thread that it met. Before any of these, it
-    /// is the run when the table was made at a start. `None` before any of these, if the table was made of a world.
+    /// is the run when the table was made, as the table's maker told it. `None`: no run was told.
     pub known_run: Option<KnownRun>,
     /// The same, as another thread told it, or as it was known with a file that this thread took.
     pub learned_run: Option<KnownRun>,

@@ -22,15 +22,16 @@ use Rattle.mw_rule.specs.Splits.{maker}
 use Rattle.mw_rule.specs.Layout.{words_of}
 use Rattle.mw_rule.specs.Rule.{TableInvariant}
 use Rattle.mw_rule.specs.Prefixes.{Gave, opening_at}
+use Rattle.mw_rule.proofs.KnownRunLaws.{stays}
 use Rattle.mw_rule.proofs.SplitLaws.{starts}
 use Rattle.mw_table.specs.declared.new_table.PassState.{PassState}
 use Rattle.mw_table.specs.declared.origin.WorkerSoFar.{WorkerSoFar}
 use Rattle.mw_table.specs.NewPasses.{ArePassStates, IsPassState, pass_state_of}
-use Rattle.mw_table.specs.Runs.{AreAfterRun, IsToldOf, LastStart, LedTo, opening_after, openings_from, worker_state_at, worker_state_so_far, up_after}
+use Rattle.mw_table.specs.Runs.{AreAfterRun, IsToldOf, LastStart, LedTo, basis_of_run, opening_after, openings_from, worker_state_at, worker_state_so_far, up_after}
 use Rattle.mw_table.proofs.OpenedFiles.{run_told}
 
 -- A run from a new world of this configuration, and what its first start gave.
-module _ (config : Config) (made : IsConfig config) (lasts : List LastStart) (worker_states : List WorkerState) (before : List WorldEvent) (led : LedTo config lasts worker_states (first_openings config) before) where
+module _ (config : Config) (made : IsConfig config) (lasts : List LastStart) (worker_states : List WorkerState) (before : List WorldEvent) (led : LedTo config lasts worker_states before (first_openings config) before) where
   -- it is an execution of a server
   played : IsExecution config (first_openings config) before led.state
   played = record { made = made; starts = new_worlds_start config made; runs = led.runs }
@@ -61,7 +62,7 @@ openings_at config first (one ∷ lasts) (suc tenant) last is =
     openings_at config (first + 1) lasts tenant last is ∙ ap (λ (n : ℕ). opening_after (first_openings config n) last) here
 
 -- the tenant's state agrees with what the last start gave
-gave_so : (config : Config) (lasts : List LastStart) (worker_states : List WorkerState) (before : List WorldEvent) (led : LedTo config lasts worker_states (first_openings config) before) → length lasts ≡ tenants_of config
+gave_so : (config : Config) (lasts : List LastStart) (worker_states : List WorkerState) (before : List WorldEvent) (led : LedTo config lasts worker_states before (first_openings config) before) → length lasts ≡ tenants_of config
     → (tenant : ℕ) → tenant < tenants_of config → Gave (first_openings config) led.state tenant (opening_at (openings_from config 0 lasts) tenant)
 gave_so config lasts worker_states before led one_each tenant low = by_last (slice_get_cases lasts tenant).1
   where
@@ -85,12 +86,14 @@ gave_so config lasts worker_states before led one_each tenant low = by_last (sli
     by_last (inr past) = absurd (omega (arith, past.0, low, one_each))
 
 -- the rule holds of the new table
-pub first_table : (config : Config) (lasts : List LastStart) (worker_states : List WorkerState) (words : List ℕ) → IsConfig config → length lasts ≡ tenants_of config → length words ≡ words_of config
-    → AreAfterRun config lasts worker_states words → TableInvariant config (LedTo config lasts worker_states) (opening {S = ActorState} words [] (maker config (openings_from config 0 lasts) None (worker_state_at worker_states) []))
-first_table config lasts worker_states words made one_each long run =
+pub first_table : (config : Config) (lasts : List LastStart) (worker_states : List WorkerState) (before : List WorldEvent) (words : List ℕ) → IsConfig config → length lasts ≡ tenants_of config → length words ≡ words_of config
+    → AreAfterRun config lasts worker_states before words
+    → TableInvariant config (LedTo config lasts worker_states before) (opening {S = ActorState} words [] (maker config (openings_from config 0 lasts) (Some (basis_of_run config lasts worker_states before).known_run) (worker_state_at worker_states) []))
+first_table config lasts worker_states before words made one_each long run =
     let led = run.led in
-    starts config (LedTo config lasts worker_states) (first_openings config) run.before led.state (openings_from config 0 lasts) None (worker_state_at worker_states) [] words led tt
-    (played config made lasts worker_states run.before led) (gave_so config lasts worker_states run.before led one_each) led.workers tt (λ tenant. omega arith) long run.ties
+    let known = Some (basis_of_run config lasts worker_states before).known_run in
+    starts config (LedTo config lasts worker_states before) (first_openings config) before led.state (openings_from config 0 lasts) known (worker_state_at worker_states) [] words led (stays known)
+    (played config made lasts worker_states before led) (gave_so config lasts worker_states before led one_each) led.workers tt (λ tenant. omega arith) long run.ties
 
 -- what the passes say of their workers is true
 pass_state_tells : (workers : List WorkerSoFar) (index : ℕ) (other : PassState) → index < length workers

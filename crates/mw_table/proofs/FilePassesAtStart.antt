@@ -50,7 +50,7 @@ held_once pool given tenant first (suc left) = by_test (first == tenant) refl (h
 
 -- what is left to give from a tenant on
 abbrev pub files_from : Basis → ℕ → ℕ → Me ActorState View
-files_from basis tenants tenant = (knows basis.config basis.openings basis.known_run [] (held_from basis.config.pool basis.openings tenant (tenants - tenant)), [])
+files_from basis tenants tenant = (knows basis.config basis.openings (Some basis.known_run) [] (held_from basis.config.pool basis.openings tenant (tenants - tenant)), [])
 
 one_less : (n k : ℕ) → k < n → n - k ≡ suc (n - (k + 1))
 one_less n k low = omega arith
@@ -60,13 +60,13 @@ pub files_next : (basis : Basis) (tenants tenant : ℕ) (old new : Me ActorState
     → new ≡ files_from basis tenants (tenant + 1)
 files_next basis tenants tenant old new low left is =
     is ∙ (ap (λ (me : Me ActorState View). (without_file me.0, me.1)) left
-    ∙ ap (λ (k : ℕ). (without_file (knows basis.config basis.openings basis.known_run [] (held_from basis.config.pool basis.openings tenant k)), [])) (one_less tenants tenant low))
+    ∙ ap (λ (k : ℕ). (without_file (knows basis.config basis.openings (Some basis.known_run) [] (held_from basis.config.pool basis.openings tenant k)), [])) (one_less tenants tenant low))
 
 pub file_given : (basis : Basis) (tenants tenant : ℕ) (old new : Me ActorState View) → tenant < tenants → old ≡ files_from basis tenants tenant → new ≡ (with_file_given old.0, [])
-    → new ≡ (knows basis.config basis.openings basis.known_run [] (held_given basis.config.pool basis.openings tenant ∷ []), [])
+    → new ≡ (knows basis.config basis.openings (Some basis.known_run) [] (held_given basis.config.pool basis.openings tenant ∷ []), [])
 file_given basis tenants tenant old new low left is =
     is ∙ (ap (λ (me : Me ActorState View). (with_file_given me.0, [])) left
-    ∙ ap (λ (k : ℕ). (with_file_given (knows basis.config basis.openings basis.known_run [] (held_from basis.config.pool basis.openings tenant k)), [])) (one_less tenants tenant low))
+    ∙ ap (λ (k : ℕ). (with_file_given (knows basis.config basis.openings (Some basis.known_run) [] (held_from basis.config.pool basis.openings tenant k)), [])) (one_less tenants tenant low))
 
 -- with one more
 abbrev some_in : {A : Type 0} → A → Option A → A

@@ -19,3 +19,4 @@ pub mod PassesAtStart
 pub mod PlacesAtIndexes
 pub mod LearnedNotes
 pub mod SeenFiles
+pub mod Fieldless

@@ -21,7 +21,7 @@ use Rattle.mw_table.specs.Origins.{basis_of}
 
 -- what is left from a worker on
 abbrev pub left_at : Basis → ℕ → Me ActorState View
-left_at basis worker = (knows basis.config basis.openings basis.known_run (tokens_from basis.worker_states worker (basis.config.workers - worker)) basis.files, [])
+left_at basis worker = (knows basis.config basis.openings (Some basis.known_run) (tokens_from basis.worker_states worker (basis.config.workers - worker)) basis.files, [])
 
 one_less : (n w : ℕ) → w < n → n - w ≡ suc (n - (w + 1))
 one_less n w low = omega arith
@@ -30,19 +30,19 @@ one_less n w low = omega arith
 pub left_next : (basis : Basis) (worker : ℕ) (old new : Me ActorState View) → worker < basis.config.workers → old ≡ left_at basis worker → new ≡ (left_over old.0, old.1) → new ≡ left_at basis (worker + 1)
 left_next basis worker old new low left is =
     is ∙ (ap (λ (me : Me ActorState View). (left_over me.0, me.1)) left
-    ∙ ap (λ (k : ℕ). (left_over (knows basis.config basis.openings basis.known_run (tokens_from basis.worker_states worker k) basis.files), [])) (one_less basis.config.workers worker low))
+    ∙ ap (λ (k : ℕ). (left_over (knows basis.config basis.openings (Some basis.known_run) (tokens_from basis.worker_states worker k) basis.files), [])) (one_less basis.config.workers worker low))
 
 pub dealt_view : (basis : Basis) (worker : ℕ) (old new : Me ActorState View) → worker < basis.config.workers → old ≡ left_at basis worker → new ≡ (dealt old.0, []) → new.0 ≡ view_of basis worker
 dealt_view basis worker old new low left is =
     ap (λ (me : Me ActorState View). me.0) is
     ∙ (ap (λ (me : Me ActorState View). dealt me.0) left
-    ∙ ap (λ (k : ℕ). dealt (knows basis.config basis.openings basis.known_run (tokens_from basis.worker_states worker k) basis.files)) (one_less basis.config.workers worker low))
+    ∙ ap (λ (k : ℕ). dealt (knows basis.config basis.openings (Some basis.known_run) (tokens_from basis.worker_states worker k) basis.files)) (one_less basis.config.workers worker low))
 
 -- what is left after all are given
 pub left_last : (basis : Basis) (worker : ℕ) (me : Me ActorState View) → worker ≡ basis.config.workers → me ≡ left_at basis worker → me ≡ (left_of basis, [])
 left_last basis worker me last left =
     let none : basis.config.workers - worker ≡ 0 = omega (arith, last) in
-    left ∙ ap (λ (k : ℕ). (knows basis.config basis.openings basis.known_run (tokens_from basis.worker_states worker k) basis.files, [])) none
+    left ∙ ap (λ (k : ℕ). (knows basis.config basis.openings (Some basis.known_run) (tokens_from basis.worker_states worker k) basis.files, [])) none
 
 -- the numbers of a new pass
 pub dealt_numbers : (basis : Basis) (worker : ℕ) (view : View) (pass_state : PassState) → view ≡ view_of basis worker → IsPassState (basis.worker_states worker) pass_state → numbers view ≡ (worker, pass_state.attempt) ∷ []

@@ -47,8 +47,8 @@ value_so (first ∷ tenants) (one ∷ found) (suc tenant) address long = value_s
 -- the rule holds of the new table
 pub fresh_table : (config : Config) (found : List FileOpening) (words : List ℕ) → IsConfig config → IsStart config (start_given config found) → length words ≡ words_of config
     → BitsMatch config (world_given config found).cells words
-    → TableInvariant config (StartedWith config found) (opening {S = ActorState} words [] (maker config (openings_given config.tenants.items found) (basis_of_start config found).known_run (λ worker. idle_worker_state) (basis_of_start config found).files))
+    → TableInvariant config (StartedWith config found) (opening {S = ActorState} words [] (maker config (openings_given config.tenants.items found) (Some (basis_of_start config found).known_run) (λ worker. idle_worker_state) (basis_of_start config found).files))
 fresh_table config found words made start long ties =
-    starts config (StartedWith config found) (start_given config found) [] (world_given config found) (openings_given config.tenants.items found) (basis_of_start config found).known_run (λ worker. idle_worker_state) (basis_of_start config found).files words
-    (record { given = refl; nothing = refl }) (stays (basis_of_start config found).known_run) (record { made = made; starts = start; runs = refl }) (λ tenant low. record { quota = refl; places = refl; words = refl; is_up = refl }) (λ worker low. refl)
+    starts config (StartedWith config found) (start_given config found) [] (world_given config found) (openings_given config.tenants.items found) (Some (basis_of_start config found).known_run) (λ worker. idle_worker_state) (basis_of_start config found).files words
+    (record { given = refl; nothing = refl }) (stays (Some (basis_of_start config found).known_run)) (record { made = made; starts = start; runs = refl }) (λ tenant low. record { quota = refl; places = refl; words = refl; is_up = refl }) (λ worker low. refl)
     (all_held config (openings_given config.tenants.items found) 0 (tenants_of config) (omega arith)) (λ tenant. held_once config.pool (openings_given config.tenants.items found) tenant 0 (tenants_of config)) long ties

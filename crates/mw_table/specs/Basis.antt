@@ -1,7 +1,7 @@
 -- Defines what a table (array of shared atomic words) begins with, whether it is made at a start or after a run.
 -- Used by: many specs of this crate, mw_core, mw_engine, mw_world_table, mw_table_tests. Contracts use it through these: a
 -- change here changes what they say.
-use Rattle.std.specs.Prelude.{ℕ, List, Option}
+use Rattle.std.specs.Prelude.{ℕ, List}
 use Rattle.mw_world.specs.declared.config.Config.{Config}
 use Rattle.mw_world.specs.Definition.State.{TenantStart, WorkerState}
 use Rattle.mw_rule.specs.KnownRuns.{KnownRun}
@@ -13,8 +13,8 @@ pub record Basis : Type 0 where
   pub config : Config
   -- what the latest start gave each tenant
   pub openings : List TenantStart
-  -- the run that led to it, if it is known
-  pub known_run : Option KnownRun
+  -- the run that led to it
+  pub known_run : KnownRun
   -- the state of each worker
   pub worker_states : ℕ → WorkerState
   -- the files for which it makes passes

@@ -14,7 +14,7 @@ use Rattle.mw_table.specs.TableAtStart.{held_given}
 pub record IsOpened (shared : Shared) (basis : Basis) (tenant : ℕ) (file_pass : FilePass) : Type 0 where
   pub own : IsFilePassOf shared file_pass
   pub whose : file_pass.tenant ≡ tenant
-  pub view : file_pass.seat.me.0 ≡ knows basis.config basis.openings basis.known_run [] (held_given basis.config.pool basis.openings tenant ∷ [])
+  pub view : file_pass.seat.me.0 ≡ knows basis.config basis.openings (Some basis.known_run) [] (held_given basis.config.pool basis.openings tenant ∷ [])
 
 -- there is one for each tenant, in the tenants' order
 pub record AreOpened (shared : Shared) (basis : Basis) (file_passes : List FilePass) : Type 0 where

@@ -16,11 +16,11 @@ use Rattle.mw_table.specs.Passes.{IsOf}
 
 -- what a worker's pass knows at first
 abbrev pub view_of : Basis → ℕ → View
-view_of basis worker = knows basis.config basis.openings basis.known_run (token_of worker (basis.worker_states worker) ∷ []) []
+view_of basis worker = knows basis.config basis.openings (Some basis.known_run) (token_of worker (basis.worker_states worker) ∷ []) []
 
 -- what is known beside the passes: the files are left
 abbrev pub left_of : Basis → View
-left_of basis = knows basis.config basis.openings basis.known_run [] basis.files
+left_of basis = knows basis.config basis.openings (Some basis.known_run) [] basis.files
 
 -- A pass of the table, as it was made. If its worker has a request, the pass carries it, and the words of its next
 -- step or call are there; else the pass is idle. It has seen no change.

@@ -2,7 +2,7 @@
 -- Used by: the contracts of src/after_run.rt, src/at_start.rt, src/file_calls.rt and other code of this crate, specs/FileCalls,
 -- specs/Passes, mw_core, mw_engine, mw_world_table, mw_table_bench, mw_table_tests. A change here changes what these contracts
 -- say.
-use Rattle.std.specs.Prelude.{ℕ, List, map}
+use Rattle.std.specs.Prelude.{ℕ, List, map, Some}
 use Rattle.mw_world.specs.declared.config.Config.{Config}
 use Rattle.mw_world.specs.Definition.Events.{WorldEvent}
 use Rattle.mw_world.specs.Definition.State.{TenantStart}
@@ -17,7 +17,7 @@ use Rattle.mw_table.specs.Runs.{LedTo, basis_of_run, last_start, worker_state_so
 -- what a table of this origin begins with
 abbrev pub basis_of : Origin → Basis
 basis_of (OfStart config found) = basis_of_start config.value found.value.items
-basis_of (OfRun config tenants workers) = basis_of_run config.value (map last_start tenants.value.items) (map worker_state_so_far workers.value.items)
+basis_of (OfRun config tenants workers run) = basis_of_run config.value (map last_start tenants.value.items) (map worker_state_so_far workers.value.items) run.value.events
 
 -- what its world is made of
 abbrev pub config_of : Origin → Config
@@ -30,8 +30,8 @@ openings_of origin = (basis_of origin).openings
 -- The first start may have given this, and these events may have happened before the table was made.
 abbrev pub begun_of : Origin → (ℕ → TenantStart) → List WorldEvent → Type 0
 begun_of (OfStart config found) = StartedWith config.value found.value.items
-begun_of (OfRun config tenants workers) = LedTo config.value (map last_start tenants.value.items) (map worker_state_so_far workers.value.items)
+begun_of (OfRun config tenants workers run) = LedTo config.value (map last_start tenants.value.items) (map worker_state_so_far workers.value.items) run.value.events
 
 -- what the first thread knows
 abbrev pub first_of : Origin → View
-first_of origin = maker (config_of origin) (openings_of origin) (basis_of origin).known_run (basis_of origin).worker_states (basis_of origin).files
+first_of origin = maker (config_of origin) (openings_of origin) (Some (basis_of origin).known_run) (basis_of origin).worker_states (basis_of origin).files

@@ -1,12 +1,13 @@
 -- Defines what a table begins with that is made after a run from a new world.
 -- Used by: the contracts of src/after_run.rt, specs/Origins, mw_world_table. A change here changes what these contracts say.
-use Rattle.std.specs.Prelude.{ℕ, ◌≡◌, ◌<◌, ◌+◌, Bool, List, [], ◌∷◌, slice_get, slice_index_or, Some, None}
+use Rattle.std.specs.Prelude.{ℕ, ◌≡◌, ◌<◌, ◌+◌, Bool, List, [], ◌∷◌, slice_get, slice_index_or, Some}
 use Rattle.mw_lone.specs.declared.marks.Mark.{Mark}
 use Rattle.mw_lone.specs.declared.marks.Mark.TheVariants.{Restart}
 use Rattle.mw_world.specs.declared.config.Config.{Config}
 use Rattle.mw_world.specs.Definition.Events.{WorldEvent}
 use Rattle.mw_world.specs.Definition.State.{TenantState, TenantStart, WorkerState, State, first_openings, idle_worker_state, new_world}
 use Rattle.mw_world.specs.Definition.World.{run}
+use Rattle.mw_rule.specs.KnownRuns.{known_run_of}
 use Rattle.mw_rule.specs.FromLaws.{after_marks, first_abstract_state}
 use Rattle.mw_rule.specs.Rule.{BitsMatch}
 use Rattle.mw_table.specs.declared.origin.TenantSoFar.{TenantSoFar}
@@ -53,9 +54,16 @@ openings_from config tenant (last ∷ lasts) = opening_after (first_openings con
 abbrev pub worker_state_at : List WorkerState → ℕ → WorkerState
 worker_state_at worker_states worker = slice_index_or worker_states worker idle_worker_state
 
--- What a table begins with after a run that led to these tenants and workers. It has no files, and the run isn't known.
-abbrev pub basis_of_run : Config → List LastStart → List WorkerState → Basis
-basis_of_run config lasts worker_states = record { config = config; openings = openings_from config 0 lasts; known_run = None; worker_states = worker_state_at worker_states; files = [] }
+-- What a table begins with after these events from a new world, which led to these tenants and workers. These events are
+-- known as the run before the table, and none has happened since. It has no files.
+abbrev pub basis_of_run : Config → List LastStart → List WorkerState → List WorldEvent → Basis
+basis_of_run config lasts worker_states before = record {
+  config = config;
+  openings = openings_from config 0 lasts;
+  known_run = known_run_of config (first_openings config) before [];
+  worker_states = worker_state_at worker_states;
+  files = [];
+}
 
 -- What is given of a tenant's last start is true of this tenant's state.
 pub record IsToldOf (tenant_state : TenantState) (last : LastStart) : Type 0 where
@@ -63,17 +71,17 @@ pub record IsToldOf (tenant_state : TenantState) (last : LastStart) : Type 0 whe
   pub places : tenant_state.places ≡ last.places
   pub closed : tenant_state.closed ≡ last.closed
 
--- The first start is a new world's. From there these events lead to a world with these workers, and with tenants of
--- whose last starts this is true.
-pub record LedTo (config : Config) (lasts : List LastStart) (worker_states : List WorkerState) (openings : ℕ → TenantStart) (before : List WorldEvent) : Type 0 where
+-- The first start is a new world's, and what happened before the table was made are the given events. From there they
+-- lead to a world with these workers, and with tenants of whose last starts this is true.
+pub record LedTo (config : Config) (lasts : List LastStart) (worker_states : List WorkerState) (given : List WorldEvent) (openings : ℕ → TenantStart) (before : List WorldEvent) : Type 0 where
   pub first : openings ≡ first_openings config
+  pub happened : before ≡ given
   pub state : State
   pub runs : run config (new_world config) before ≡ Some state
   pub tenants : (tenant : ℕ) (last : LastStart) → slice_get lasts tenant ≡ Some last → IsToldOf (state.tenant_states tenant) last
   pub workers : (worker : ℕ) → worker < config.workers → worker_state_at worker_states worker ≡ state.worker_states worker
 
--- Some run from a new world leads to a world with these tenants, these workers and these shared words, each at its index.
-pub record AreAfterRun (config : Config) (lasts : List LastStart) (worker_states : List WorkerState) (words : List ℕ) : Type 0 where
-  pub before : List WorldEvent
-  pub led : LedTo config lasts worker_states (first_openings config) before
+-- These events from a new world lead to a world with these tenants, these workers and these shared words, each at its index.
+pub record AreAfterRun (config : Config) (lasts : List LastStart) (worker_states : List WorkerState) (before : List WorldEvent) (words : List ℕ) : Type 0 where
+  pub led : LedTo config lasts worker_states before (first_openings config) before
   pub ties : BitsMatch config led.state.cells words

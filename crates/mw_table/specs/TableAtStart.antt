@@ -53,7 +53,7 @@ abbrev pub basis_of_start : Config → List FileOpening → Basis
 basis_of_start config found = record {
   config = config;
   openings = openings_given config.tenants.items found;
-  known_run = Some (known_run_of config (start_given config found) [] []);
+  known_run = known_run_of config (start_given config found) [] [];
   worker_states = λ worker. idle_worker_state;
   files = held_from config.pool (openings_given config.tenants.items found) 0 (tenants_of config);
 }

@@ -11,6 +11,7 @@ ghost use Rattle.mw_table.specs.Runs.{AreAfterRun, basis_of_run, last_start, wor
 
 use crate::new_table::PassState;
 use crate::origin::{Origin, TenantSoFar, WorkerSoFar};
+use crate::run_before::RunBefore;
 use crate::shared::{Pass, Shared};
 use mw_world::Config;
 use std::alloc::{AllocError, Global};
@@ -21,7 +22,7 @@ impl Shared {
     /// and workers after that run, and the bits of the shared words, each at its index in a table ([`place_at`]). At
     /// an index without a shared word the bits don't matter. The pass of a worker that has a request carries it, at
     /// the step to which it has come; the other passes are idle. There are no file passes: a request that comes to a
-    /// call on its file stays there.
+    /// call on its file stays there. Each pass knows the events of that run as those before the table.
     ///
     /// If a request has its reply and the reply hasn't been handed out, its worker's pass is of no use: it isn't
     /// idle, and the request has no step left.
@@ -35,15 +36,16 @@ impl Shared {
         tenants: &Vec<TenantSoFar>,
         workers: &Vec<WorkerSoFar>,
         words: &[u64],
+        run: &RunBefore,
     ) -> Result<(Shared, Vec<Pass>), AllocError>
         requires config { IsConfig config.now }
         requires tenants { length tenants.now.items ≡ tenants_of config.now }
         requires workers { length workers.now.items ≡ config.now.workers }
         requires words { length words.now ≡ words_of config.now }
-        requires run { AreAfterRun config.now (map last_start tenants.now.items) (map worker_state_so_far workers.now.items) words.now }
-        ensures table { IfOk result (λ made. basis_of made.0.table.shared.key ≡ basis_of_run config.now (map last_start tenants.now.items) (map worker_state_so_far workers.now.items)) }
+        requires run { AreAfterRun config.now (map last_start tenants.now.items) (map worker_state_so_far workers.now.items) run.now.events words.now }
+        ensures table { IfOk result (λ made. basis_of made.0.table.shared.key ≡ basis_of_run config.now (map last_start tenants.now.items) (map worker_state_so_far workers.now.items) run.now.events) }
         ensures count { IfOk result (λ made. length made.1.items ≡ config.now.workers) }
-        ensures passes { IfOk result (λ made. All (IsDealt made.0 (basis_of_run config.now (map last_start tenants.now.items) (map worker_state_so_far workers.now.items))) made.1.items) }
+        ensures passes { IfOk result (λ made. All (IsDealt made.0 (basis_of_run config.now (map last_start tenants.now.items) (map worker_state_so_far workers.now.items) run.now.events)) made.1.items) }
         ensures order { IfOk result (λ made. AreInOrder made.1.items) }
     {
         let pass_states = pass_states_of(alloc, workers)?;
@@ -51,6 +53,7 @@ impl Shared {
             Snapshot::of(config),
             Snapshot::of(tenants),
             Snapshot::of(workers),
+            Snapshot::of(run),
         );
         let (shared, passes, _) = Shared::open(alloc, words, &origin, config, &pass_states)?;
         Ok((shared, passes))

@@ -4,6 +4,7 @@
 //! far. Its ghost fields use `specs/Origins`: change them together.
 ghost use Rattle.mw_table.specs.Origins.{begun_of, config_of, first_of};
 
+use crate::run_before::RunBefore;
 use mw_actor::Actor;
 use mw_lone::Mark;
 use mw_rule::Begins;
@@ -53,8 +54,13 @@ pub struct WorkerSoFar {
 pub enum Origin {
     /// A start: what the world is made of, and what each tenant's file gave.
     Start(Snapshot<Config>, Snapshot<Vec<FileOpening>>),
-    /// A run from a new world: what the world is made of, and its tenants and workers after the run.
-    Run(Snapshot<Config>, Snapshot<Vec<TenantSoFar>>, Snapshot<Vec<WorkerSoFar>>),
+    /// A run from a new world: what the world is made of, its tenants and workers after the run, and the run.
+    Run(
+        Snapshot<Config>,
+        Snapshot<Vec<TenantSoFar>>,
+        Snapshot<Vec<WorkerSoFar>>,
+        Snapshot<RunBefore>,
+    ),
 }
 
 impl Begins for Origin {

@@ -29,14 +29,14 @@ second_of [] = 0
 second_of (one ∷ rest) = one.1
 
 -- A pass of a new table carries the request that its worker has in the world, if that has no reply yet.
-pub carried_at_first : (shared : Shared) (world : World) (pass : Pass) (actor : ActorState) → IsReached world → IsDealt shared (basis_of_world world) pass
+pub carried_at_first : (shared : Shared) (world : World) (before : List WorldEvent) (pass : Pass) (actor : ActorState) → IsReached world → IsDealt shared (basis_of_world world before) pass
     → ((state : State) → Represents world state → (state.worker_states pass.worker).actor ≡ Some actor) → replied actor ≡ None → IsCarried pass actor
-carried_at_first shared world pass actor reached dealt has running =
+carried_at_first shared world before pass actor reached dealt has running =
     let stands = reached.1 in
-    let seat = (basis_of_world world).worker_states pass.worker in
+    let seat = (basis_of_world world before).worker_states pass.worker in
     let token = token_of pass.worker seat in
     let having : seat.actor ≡ Some actor =
-    ap (λ (one : WorkerState). one.actor) (worker_states_same world stands.state pass.worker stands.shows dealt.there) ∙ has stands.state stands.shows in
+    ap (λ (one : WorkerState). one.actor) (worker_states_same world before stands.state pass.worker stands.shows dealt.there) ∙ has stands.state stands.shows in
     let given : settled token actor ≡ token = ap (settled_as token actor) running ∙ ap (λ (a : Option ActorState). token_of pass.worker (record seat { actor = a })) (sym having) in
     record {
       token = token;

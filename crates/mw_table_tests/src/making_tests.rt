@@ -10,7 +10,7 @@ use crate::worlds::{config, new_world};
 use mw_core::{FileOpening, Pass, Shared};
 use mw_two_tenants::two_tenants;
 use mw_words::{At, Door};
-use mw_world_table::of_world;
+use mw_world_table::{RunBefore, of_world};
 use std::alloc::{AllocError, Global};
 use std::test::Fail;
 
@@ -18,7 +18,7 @@ use std::test::Fail;
 /// None if there isn't an idle pass and a place for a request for each worker, or if memory is refused.
 fn found_in_a_new_world(alloc: Global) -> Option<[u64; 2]> {
     let world = new_world(alloc, config(1, 2, 1))?;
-    let Ok((shared, mut passes, actors)) = of_world(alloc, &world) else {
+    let Ok((shared, mut passes, actors)) = of_world(alloc, &world, &RunBefore::none()) else {
         return None;
     };
     let mut other = passes.pop()?;

@@ -1,7 +1,8 @@
 //! Tests two threads that make the steps of two requests on one table (array of shared atomic words).
 //!
 //! Used by: `reading_tests`. It may change freely as long as this crate checks and its tests pass.
-ghost use Rattle.std.specs.Prelude.{◌≡◌, ◌≤◌, All, IfSome, nat_lt, true};
+ghost use Rattle.std.specs.Prelude.{◌≡◌, ◌≤◌, All, IfSome, List, nat_lt, true};
+ghost use Rattle.mw_world.specs.Definition.Events.{WorldEvent};
 ghost use Rattle.mw_world.specs.Definition.State.{tenant_at, tenants_of};
 ghost use Rattle.mw_core.specs.FromTable.{IsCarried, IsDealt, IsOf, basis_of, config_of, opening_at};
 ghost use Rattle.mw_world_table.specs.Worlds.{basis_of_world};
@@ -14,7 +15,7 @@ use mw_core::{Advance, Core, Pass};
 use mw_look::Kind;
 use mw_simulator::World;
 use mw_words::{At, Door, Gate, Job, Reply, Status, Word};
-use mw_world_table::of_world;
+use mw_world_table::{RunBefore, of_world, run_before};
 use std::alloc::Global;
 use std::test::Fail;
 use std::thread::{Threads, join};
@@ -26,10 +27,11 @@ pub(crate) struct Side {
     pub(crate) actor: Actor,
 }
 
-/// A core on the shared words of a world, and the workers' passes.
+/// A core on the shared words of a world, the workers' passes, and the run that led to the world.
 pub(crate) struct Opened {
     pub(crate) core: Core,
     pub(crate) passes: Vec<Pass>,
+    pub(crate) run: RunBefore,
 }
 
 /// How far a thread drove its request.
@@ -41,9 +43,9 @@ struct Driven {
 }
 
 /// Gives the request that a pass of a new table carries, if it has one without a reply.
-fn request_of(core: &Core, world: &World, pass: &Pass) -> Option<Actor>
+fn request_of(core: &Core, world: &World, run: &RunBefore, pass: &Pass) -> Option<Actor>
     requires reached { IsReached world.now }
-    requires dealt { IsDealt core.now.shared (basis_of_world world.now) pass.now }
+    requires dealt { IsDealt core.now.shared (basis_of_world world.now run.now.events) pass.now }
     ensures { IfSome result (λ actor. IsCarried pass.now actor) }
 {
     let actor = world.actor(pass.worker())?;
@@ -56,13 +58,15 @@ fn request_of(core: &Core, world: &World, pass: &Pass) -> Option<Actor>
 /// Opens the world's shared words, with a pass for each worker. Gives None if memory is refused.
 pub(crate) fn open(alloc: Global, world: &World) -> Option<Opened>
     requires reached { IsReached world.now }
-    ensures world { IfSome result (λ opened. basis_of opened.core.shared.table.shared.key ≡ basis_of_world world.now) }
-    ensures dealt { IfSome result (λ opened. All (IsDealt opened.core.shared (basis_of_world world.now)) opened.passes.items) }
+    ensures world { IfSome result (λ opened. basis_of opened.core.shared.table.shared.key ≡ basis_of_world world.now opened.run.events) }
+    ensures dealt { IfSome result (λ opened. All (IsDealt opened.core.shared (basis_of_world world.now opened.run.events)) opened.passes.items) }
 {
-    match of_world(alloc, world) {
+    let run = run_before(world);
+    match of_world(alloc, world, &run) {
         Ok((shared, passes, _)) => Some(Opened {
             core: Core::new(shared),
             passes,
+            run,
         }),
         Err(_) => None,
     }
@@ -70,30 +74,35 @@ pub(crate) fn open(alloc: Global, world: &World) -> Option<Opened>
 
 /// Takes the last of the passes, with the request that it carries. Gives None if it carries none, or no
 /// pass is left.
-fn take(core: &Core, world: &World, passes: &mut Vec<Pass>) -> Option<Side>
+fn take(core: &Core, world: &World, run: &RunBefore, passes: &mut Vec<Pass>) -> Option<Side>
     requires reached { IsReached world.now }
-    requires dealt { All (IsDealt core.now.shared (basis_of_world world.now)) passes.old.items }
-    ensures left { All (IsDealt core.now.shared (basis_of_world world.now)) passes.new.items }
+    requires dealt { All (IsDealt core.now.shared (basis_of_world world.now run.now.events)) passes.old.items }
+    ensures left { All (IsDealt core.now.shared (basis_of_world world.now run.now.events)) passes.new.items }
     ensures own { IfSome result (λ side. IsOf core.now.shared side.pass) }
     ensures carried { IfSome result (λ side. IsCarried side.pass side.actor) }
 {
     let pass = passes.pop()?;
-    let actor = request_of(core, world, &pass)?;
+    let actor = request_of(core, world, run, &pass)?;
     Some(Side { pass, actor })
 }
 
 /// Gives the last two of the passes, each with the request that it carries, the lower worker's first. Gives
 /// None if one carries none, or there aren't two.
-pub(crate) fn both(core: &Core, world: &World, mut passes: Vec<Pass>) -> Option<(Side, Side)>
+pub(crate) fn both(
+    core: &Core,
+    world: &World,
+    run: &RunBefore,
+    mut passes: Vec<Pass>,
+) -> Option<(Side, Side)>
     requires reached { IsReached world.now }
-    requires dealt { All (IsDealt core.now.shared (basis_of_world world.now)) passes.items }
+    requires dealt { All (IsDealt core.now.shared (basis_of_world world.now run.now.events)) passes.items }
     ensures own_lower { IfSome result (λ sides. IsOf core.now.shared sides.0.pass) }
     ensures carried_lower { IfSome result (λ sides. IsCarried sides.0.pass sides.0.actor) }
     ensures own_higher { IfSome result (λ sides. IsOf core.now.shared sides.1.pass) }
     ensures carried_higher { IfSome result (λ sides. IsCarried sides.1.pass sides.1.actor) }
 {
-    let higher = take(core, world, &mut passes)?;
-    let lower = take(core, world, &mut passes)?;
+    let higher = take(core, world, run, &mut passes)?;
+    let lower = take(core, world, run, &mut passes)?;
     Some((lower, higher))
 }
 
@@ -172,8 +181,8 @@ fn pin_raced(core: &Core, mut wrote: Driven, read: Driven) -> bool
 /// Tells whether a race to a pin ends as it must.
 fn pin_race_ends<R: Threads + Sync>(rt: &R, alloc: Global) -> Option<bool> {
     let world = before_unpin(alloc)?;
-    let Opened { core, passes } = open(alloc, &world)?;
-    let (writer, reader) = both(&core, &world, passes)?;
+    let Opened { core, passes, run } = open(alloc, &world)?;
+    let (writer, reader) = both(&core, &world, &run, passes)?;
     let (wrote, read) = drive_both(rt, &core, writer, reader);
     let ends = pin_raced(&core, wrote, read);
     Some(ends)
@@ -281,9 +290,14 @@ fn plants_raced(core: &Core, mut one: Driven, two: Driven) -> bool
 }
 
 /// Takes the last of the passes, if it is worker 2's and idle.
-fn take_idle(core: &Core, world: &World, passes: &mut Vec<Pass>) -> Option<Pass>
-    requires dealt { All (IsDealt core.now.shared (basis_of_world world.now)) passes.old.items }
-    ensures left { All (IsDealt core.now.shared (basis_of_world world.now)) passes.new.items }
+fn take_idle(
+    core: &Core,
+    world: &World,
+    run: &RunBefore,
+    passes: &mut Vec<Pass>,
+) -> Option<Pass>
+    requires dealt { All (IsDealt core.now.shared (basis_of_world world.now run.now.events)) passes.old.items }
+    ensures left { All (IsDealt core.now.shared (basis_of_world world.now run.now.events)) passes.new.items }
     ensures own { IfSome result (λ pass. IsOf core.now.shared pass) }
     ensures worker { IfSome result (λ pass. pass.worker ≡ 2) }
     ensures idle { IfSome result (λ pass. pass.idle ≡ true) }
@@ -298,7 +312,7 @@ fn take_idle(core: &Core, world: &World, passes: &mut Vec<Pass>) -> Option<Pass>
 
 /// Gives the quota of tenant 0.
 fn quota_of(world: &World) -> u8
-    ensures { result ≡ (opening_at (basis_of_world world.now).openings 0).quota }
+    ensures { (before : List WorldEvent) → result ≡ (opening_at (basis_of_world world.now before).openings 0).quota }
 {
     match world.tenant_states().get(0) {
         Some(tenant) => tenant.quota,
@@ -335,9 +349,13 @@ fn reads_zeros(core: &Core, mut pass: Pass, quota: u8) -> bool
 /// stopped. Then it reads both words, which have their old values until a change is sealed.
 fn plant_race_ends<R: Threads + Sync>(rt: &R, alloc: Global) -> Option<bool> {
     let world = before_plants(alloc)?;
-    let Opened { core, mut passes } = open(alloc, &world)?;
-    let reader = take_idle(&core, &world, &mut passes)?;
-    let (first, second) = both(&core, &world, passes)?;
+    let Opened {
+        core,
+        mut passes,
+        run,
+    } = open(alloc, &world)?;
+    let reader = take_idle(&core, &world, &run, &mut passes)?;
+    let (first, second) = both(&core, &world, &run, passes)?;
     let (one, two) = drive_both(rt, &core, first, second);
     let reads = reads_zeros(&core, reader, quota_of(&world));
     let ends = plants_raced(&core, one, two);

@@ -103,8 +103,8 @@ fn second_reply(core: &Core, mut writer: Side, mut reader: Side) -> Option<Reply
 /// Gives what a read is told that finds a word with an attempt, and then the word held.
 fn told_at_last(alloc: Global) -> Option<Reply> {
     let world = before_confirm(alloc)?;
-    let Opened { core, passes } = open(alloc, &world)?;
-    let (writer, reader) = both(&core, &world, passes)?;
+    let Opened { core, passes, run } = open(alloc, &world)?;
+    let (writer, reader) = both(&core, &world, &run, passes)?;
     second_reply(&core, writer, reader)
 }
 

@@ -2,9 +2,10 @@
 //!
 //! Used by: `making_tests`, `race_tests`, `reading_tests`. It may change freely as long as this crate checks and
 //! its tests pass.
-ghost use Rattle.std.specs.Prelude.{◌≡◌, ◌≤◌, ◌<◌, IfSome};
+ghost use Rattle.std.specs.Prelude.{◌≡◌, ◌≤◌, ◌<◌, [], IfSome};
 ghost use Rattle.mw_words.specs.declared.limits.TheConstants.{MAX_POOL, MAX_QUOTA, MAX_WORDS, MAX_WORKERS};
 ghost use Rattle.mw_world.specs.Definition.State.{IsConfig, tenant_at, tenants_of};
+ghost use Rattle.mw_simulator.specs.Events.{IsAfterRun};
 ghost use Rattle.mw_table_tests.specs.Reached.{IsReached};
 
 use arrayvec::ArrayVec;
@@ -47,6 +48,7 @@ pub(crate) fn config(pool: u8, workers: u8, words: u16) -> Config
 pub(crate) fn new_world(alloc: Global, config: Config) -> Option<World>
     requires { IsConfig config }
     ensures reached { IfSome result IsReached }
+    ensures new { IfSome result (λ world. IsAfterRun world []) }
     ensures config { IfSome result (λ world. world.config ≡ config) }
 {
     match World::new(alloc, config) {

@@ -36,8 +36,8 @@ worker_state_made kept made same world state worker other shows low = by_worker_
     by_worker_state (inr past) = let many = world.workers in absurd (omega (arith, past.0, low, many))
 
 -- a worker state that the table begins with is that of the world
-pub worker_states_same : (world : World) (state : State) (worker : ℕ) → Represents world state → worker < world.config.workers → (basis_of_world world).worker_states worker ≡ state.worker_states worker
-worker_states_same world state worker shows low = worker_state_made worker_state_of (λ (worker_state : WorkerState). worker_state) (λ worker_state. refl) world state worker idle_worker_state shows low
+pub worker_states_same : (world : World) (before : List WorldEvent) (state : State) (worker : ℕ) → Represents world state → worker < world.config.workers → (basis_of_world world before).worker_states worker ≡ state.worker_states worker
+worker_states_same world before state worker shows low = worker_state_made worker_state_of (λ (worker_state : WorkerState). worker_state) (λ worker_state. refl) world state worker idle_worker_state shows low
 
 -- the workers' requests are those of the world
 pub actors_are : (world : World) (state : State) (actors : List (Option ActorState)) → actors ≡ map actor_of world.worker_states.items → Represents world state → AreActors state world.config.workers actors
@@ -59,19 +59,19 @@ told_so (one ∷ tenant_states) (suc tenant) last tenant_state told is = told_so
 
 -- the run that led to the world led to what the table begins with
 pub after_run : (world : World) (before : List WorldEvent) (words : List ℕ) → IsAfterRun world before → ((state : State) → Represents world state → BitsMatch world.config state.cells words)
-    → AreAfterRun world.config (map last_start_of world.tenant_states.items) (map worker_state_of world.worker_states.items) words
+    → AreAfterRun world.config (map last_start_of world.tenant_states.items) (map worker_state_of world.worker_states.items) before words
 after_run world before words stands ties =
     let state = stands.state in
     let shows = stands.shows in record {
-      before = before;
       led = record {
         first = refl;
+        happened = refl;
         state = state;
         runs = stands.runs;
         tenants = λ tenant last is.
             told_so world.tenant_states.items tenant last (state.tenant_states tenant) (λ shown here.
             let so = shows.tenant_states tenant shown here in record { quota = sym so.quota; places = sym so.file_places; closed = sym so.closed }) is;
-        workers = λ worker low. worker_states_same world state worker shows low;
+        workers = λ worker low. worker_states_same world before state worker shows low;
       };
       ties = ties state shows;
     }

@@ -1,8 +1,9 @@
 -- Defines what a table (array of shared atomic words) begins with that is made of a simulated world.
 -- Used by: the contracts of src/copies.rt and src/from_world.rt, mw_table_tests. A change here changes what these contracts
 -- say.
-use Rattle.std.specs.Prelude.{map, Option}
+use Rattle.std.specs.Prelude.{List, map, Option}
 use Rattle.mw_actor.specs.ActorState.{ActorState}
+use Rattle.mw_world.specs.Definition.Events.{WorldEvent}
 use Rattle.mw_world_file.specs.Books.{places_of_file}
 use Rattle.mw_simulator.specs.FromMemory.{TenantState, WorkerState, worker_state_of}
 use Rattle.mw_simulator.specs.declared.world.World.{World}
@@ -17,6 +18,6 @@ last_start_of tenant_state = record { quota = tenant_state.quota; places = place
 abbrev pub actor_of : WorkerState → Option ActorState
 actor_of worker_state = worker_state.actor
 
--- What a table of the world begins with. It gives no file pass. A world in memory doesn't say which run led to it.
-abbrev pub basis_of_world : World → Basis
-basis_of_world world = basis_of_run world.config (map last_start_of world.tenant_states.items) (map worker_state_of world.worker_states.items)
+-- What a table of the world begins with, if these events from a new world led to it. It gives no file pass.
+abbrev pub basis_of_world : World → List WorldEvent → Basis
+basis_of_world world before = basis_of_run world.config (map last_start_of world.tenant_states.items) (map worker_state_of world.worker_states.items) before

@@ -2,13 +2,17 @@
 //! threads.
 //!
 //! [`of_world`] copies the tenants, the workers and the shared words out of the world, and makes the table of
-//! them. `specs/Worlds` says what such a table begins with.
+//! them. [`run_before`] gives the run that led to the world, which the table's passes then know. `specs/Worlds` says
+//! what such a table begins with.
 //!
 //! Used by: mw_table_tests, for tests.
 #![tactic(auto)]
 
 mod copies;
 mod from_world;
+mod runs;
 mod words;
 
 pub use from_world::of_world;
+pub use mw_table::RunBefore;
+pub use runs::run_before;

@@ -14,10 +14,11 @@ pub of_run-requires-clause-run : goal.of_run-requires-clause-run
 of_run-requires-clause-run c =
     let world = c.args.world.now in
     let words = c.deref.result.now in
-    subst (λ (one : Config). AreAfterRun one (map last_start c.in_ok-tenants.tenants.items) (map worker_state_so_far c.in_ok-workers.workers.items) words) (sym c.config.ensures)
-    (subst (λ (lasts : List LastStart). AreAfterRun world.config lasts (map worker_state_so_far c.in_ok-workers.workers.items) words) (sym (c.in_ok-tenants.ensures ∙ ap (map last_start_of) c.tenant_states.ensures))
-    (subst (λ (worker_states : List WorkerState). AreAfterRun world.config (map last_start_of world.tenant_states.items) worker_states words) (sym (c.in_ok-workers.ensures ∙ ap (map worker_state_of) c.worker_states.ensures))
-    (after_run world c.requires.0 words c.requires.1
+    let run = c.args.run.now.events in
+    subst (λ (one : Config). AreAfterRun one (map last_start c.in_ok-tenants.tenants.items) (map worker_state_so_far c.in_ok-workers.workers.items) run words) (sym c.config.ensures)
+    (subst (λ (lasts : List LastStart). AreAfterRun world.config lasts (map worker_state_so_far c.in_ok-workers.workers.items) run words) (sym (c.in_ok-tenants.ensures ∙ ap (map last_start_of) c.tenant_states.ensures))
+    (subst (λ (worker_states : List WorkerState). AreAfterRun world.config (map last_start_of world.tenant_states.items) worker_states run words) (sym (c.in_ok-workers.ensures ∙ ap (map worker_state_of) c.worker_states.ensures))
+    (after_run world run words c.requires
     (λ state shows. subst (λ (bits : List ℕ). BitsMatch world.config state.cells bits) (sym c.deref.ensures.value) (c.in_ok-words.ensures.ties state shows)))))
 
 pub returns-clause-actors : goal.returns-clause-actors

@@ -11,12 +11,12 @@ use Rattle.mw_rule.specs.Rule.{TableInvariant, BitsMatch}
 use Rattle.mw_table.specs.declared.origin.FileOpening.{FileOpening}
 use Rattle.mw_table.specs.TableAtStart.{StartedWith, basis_of_start, openings_given, world_given}
 use Rattle.mw_table.proofs.TableAtStartLaws.{fresh_table}
-use Rattle.std.specs.Prelude.{length}
+use Rattle.std.specs.Prelude.{length, Some}
 use Rattle.mw_table.proofs.shared.Shared.new.Goals as goal
 
 -- the rule of a table that these begin with
 abbrev IsTied : List ℕ → Config → List FileOpening → Type 0
-IsTied words config found = TableInvariant config (StartedWith config found) (opening {S = ActorState} words [] (maker config (openings_given config.tenants.items found) (basis_of_start config found).known_run (λ worker. idle_worker_state) (basis_of_start config found).files))
+IsTied words config found = TableInvariant config (StartedWith config found) (opening {S = ActorState} words [] (maker config (openings_given config.tenants.items found) (Some (basis_of_start config found).known_run) (λ worker. idle_worker_state) (basis_of_start config found).files))
 
 pub open-requires-clause-tied : goal.open-requires-clause-tied
 open-requires-clause-tied c =
