@@ -47,6 +47,8 @@ pub struct Listening {
     pub address: String,
     /// A second address, for the administrator. Its clients have a worker of their own.
     pub admin: Option<String>,
+    /// The address at which a browser and a scraper find the server's pages over HTTP. None: it has no pages.
+    pub http: Option<String>,
     /// The server ends after so many connections to the first address, 1 to [`MAX_CONNECTIONS`]. None: it
     /// serves on.
     pub connections: Option<u32>,
@@ -147,7 +149,7 @@ impl From<clap::Error> for ArgFault {
 /// Reads the command line `args`. Its first argument is the program's own name.
 ///
 /// The form is `mwserve --tenants FILE [--pool P] [--workers N] [--strict] [--verbose]` with either
-/// `--listen ADDR` or `--script FILE`. After `--listen` there may be `[--admin ADDR] [--connections C]
+/// `--listen ADDR` or `--script FILE`. After `--listen` there may be `[--admin ADDR] [--http ADDR] [--connections C]
 /// [--clients M [--readers R]] [--wait SECONDS] [--idle SECONDS] [--line-time SECONDS] [--mode MODE]`.
 /// - P is 1 to [`MAX_POOL`], and [`MAX_POOL`] if it isn't given.
 /// - N is 1 to [`MAX_WORKERS`], and 4 if it isn't given.
@@ -206,8 +208,9 @@ fn mode_of(alloc: Global, matches: &ArgMatches<'_>, workers: u8) -> Result<Mode,
 
 /// Tells whether there is an option for connections only, other than `--listen`.
 fn tell_of_connections(matches: &ArgMatches<'_>) -> bool {
-    matches.get_str("admin").is_some()
-        || matches.get_str("mode").is_some()
+    TEXTS_OF_CONNECTIONS
+        .iter()
+        .any(|name| matches.get_str(name).is_some())
         || OF_CONNECTIONS
             .iter()
             .any(|name| matches.get_one::<u32>(name).is_some())
@@ -231,6 +234,7 @@ fn listen_mode(
     Ok(Mode::Listen(Listening {
         address,
         admin: copy_of(alloc, matches.get_str("admin"))?,
+        http: copy_of(alloc, matches.get_str("http"))?,
         connections: number_of(matches, "connections", MAX_CONNECTIONS),
         shared,
         wait: number_of(matches, "wait", MAX_IDLE),
@@ -320,6 +324,9 @@ enum Given {
     Flag,
 }
 
+/// The options with a text that need `--listen`.
+const TEXTS_OF_CONNECTIONS: [&str; 3] = ["admin", "http", "mode"];
+
 /// The options with a number that need `--listen`.
 const OF_CONNECTIONS: [&str; 6] = [
     "connections",
@@ -331,7 +338,7 @@ const OF_CONNECTIONS: [&str; 6] = [
 ];
 
 /// The options, in the order of the help.
-const CHOICES: [Choice; 15] = [
+const CHOICES: [Choice; 16] = [
     Choice {
         name: "tenants",
         given: Given::Needed("FILE"),
@@ -356,6 +363,11 @@ const CHOICES: [Choice; 15] = [
         name: "admin",
         given: Given::Text("ADDR"),
         help: "where to wait for the administrator, who then has a worker beside the others",
+    },
+    Choice {
+        name: "http",
+        given: Given::Text("ADDR"),
+        help: "where to show the server's pages and figures over HTTP: HOST:PORT or unix:PATH; without it, nowhere",
     },
     Choice {
         name: "script",

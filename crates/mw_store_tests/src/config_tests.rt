@@ -334,23 +334,23 @@ const LINES: [(&str, &str); 6] = [
     ),
     (
         "mwserve --listen a:1 --tenants t",
-        "Args { tenants: \"t\", pool: 256, workers: 4, strict: false, verbose: false, mode: Listen(Listening { address: \"a:1\", admin: None, connections: None, shared: None, wait: None, idle: None, line_time: None, socket_mode: 384 }) }",
+        "Args { tenants: \"t\", pool: 256, workers: 4, strict: false, verbose: false, mode: Listen(Listening { address: \"a:1\", admin: None, http: None, connections: None, shared: None, wait: None, idle: None, line_time: None, socket_mode: 384 }) }",
     ),
     (
         "mwserve --tenants t --pool 1 --workers 64 --listen a:1 --connections 1000000 --idle 86400 --mode 777",
-        "Args { tenants: \"t\", pool: 1, workers: 64, strict: false, verbose: false, mode: Listen(Listening { address: \"a:1\", admin: None, connections: Some(1000000), shared: None, wait: None, idle: Some(86400), line_time: Some(86400), socket_mode: 511 }) }",
+        "Args { tenants: \"t\", pool: 1, workers: 64, strict: false, verbose: false, mode: Listen(Listening { address: \"a:1\", admin: None, http: None, connections: Some(1000000), shared: None, wait: None, idle: Some(86400), line_time: Some(86400), socket_mode: 511 }) }",
     ),
     (
         "mwserve --tenants t --pool=256 --workers=1 --listen=a:1 --connections=1 --strict --idle=1 --admin=a:2 --verbose --mode=0660",
-        "Args { tenants: \"t\", pool: 256, workers: 1, strict: true, verbose: true, mode: Listen(Listening { address: \"a:1\", admin: Some(\"a:2\"), connections: Some(1), shared: None, wait: None, idle: Some(1), line_time: Some(1), socket_mode: 432 }) }",
+        "Args { tenants: \"t\", pool: 256, workers: 1, strict: true, verbose: true, mode: Listen(Listening { address: \"a:1\", admin: Some(\"a:2\"), http: None, connections: Some(1), shared: None, wait: None, idle: Some(1), line_time: Some(1), socket_mode: 432 }) }",
     ),
     (
-        "mwserve --tenants t --workers 2 --listen a:1 --clients 1 --wait 1 --line-time 86400",
-        "Args { tenants: \"t\", pool: 256, workers: 2, strict: false, verbose: false, mode: Listen(Listening { address: \"a:1\", admin: None, connections: None, shared: Some(SharedWorkers { clients: 1, readers: 1 }), wait: Some(1), idle: None, line_time: Some(86400), socket_mode: 384 }) }",
+        "mwserve --tenants t --workers 2 --listen a:1 --clients 1 --wait 1 --line-time 86400 --http unix:h",
+        "Args { tenants: \"t\", pool: 256, workers: 2, strict: false, verbose: false, mode: Listen(Listening { address: \"a:1\", admin: None, http: Some(\"unix:h\"), connections: None, shared: Some(SharedWorkers { clients: 1, readers: 1 }), wait: Some(1), idle: None, line_time: Some(86400), socket_mode: 384 }) }",
     ),
     (
         "mwserve --tenants t --workers 64 --listen a:1 --clients 4096 --readers 63 --wait 86400 --idle 9 --line-time 2",
-        "Args { tenants: \"t\", pool: 256, workers: 64, strict: false, verbose: false, mode: Listen(Listening { address: \"a:1\", admin: None, connections: None, shared: Some(SharedWorkers { clients: 4096, readers: 63 }), wait: Some(86400), idle: Some(9), line_time: Some(2), socket_mode: 384 }) }",
+        "Args { tenants: \"t\", pool: 256, workers: 64, strict: false, verbose: false, mode: Listen(Listening { address: \"a:1\", admin: None, http: None, connections: None, shared: Some(SharedWorkers { clients: 4096, readers: 63 }), wait: Some(86400), idle: Some(9), line_time: Some(2), socket_mode: 384 }) }",
     ),
 ];
 
@@ -377,6 +377,7 @@ mwserve --tenants t --listen a:1 --script s --readers 1",
 mwserve --tenants t --script s --connections 1
 mwserve --tenants t --script s --idle 1
 mwserve --tenants t --script s --admin a
+mwserve --tenants t --script s --http a
 mwserve --tenants t --script s --mode 600
 mwserve --tenants t --script s --mode 8
 mwserve --tenants t --script s --clients 1
@@ -467,6 +468,7 @@ const OPTIONS: &str = "\
 --strict
 --version
 --admin <ADDR>
+--http <ADDR>
 --clients <M>
 --readers <R>
 --wait <SECONDS>
