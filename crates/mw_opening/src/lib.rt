@@ -1,13 +1,14 @@
 //! Opens what a server needs before it serves: the tenants file, and each tenant's own file under a lock.
 //!
 //! [`read_tenants_file`] reads the tenants, and [`open_files`] opens their files. [`WatchedFile`] keeps the last error
-//! that the system told of such a file, and [`TrackedFile`] which file it is. [`open_plain`] opens a file only if it is
-//! plain. [`Notes`] writes notes.
+//! that the system told of such a file, and [`TrackedFile`] which file it is. [`MeteredFile`] times its calls and counts
+//! them. [`open_plain`] opens a file only if it is plain. [`Notes`] writes notes.
 //!
 //! Used by: mw_programs. docs/OPERATING lists the notes and says which files a server opens: change them together.
 #![tactic(auto)]
 
 mod file_state;
+mod metered_file;
 mod notes;
 mod opening;
 mod plain_file;
@@ -15,8 +16,11 @@ mod tracked_file;
 mod watched_file;
 
 pub use file_state::{FileState, FileStates, SeenFile};
+pub use metered_file::MeteredFile;
 pub use notes::{Notes, note_cause, note_place};
-pub use opening::{Cause, Opened, TenantsFault, are_all_open, open_files, read_tenants_file};
+pub use opening::{
+    Cause, Opened, TenantDisk, TenantsFault, are_all_open, open_files, read_tenants_file,
+};
 pub use plain_file::{ReadFault, open_plain};
 pub use tracked_file::TrackedFile;
 pub use watched_file::{LastError, LastErrors, WatchedFile};

@@ -2,13 +2,14 @@
 //!
 //! Used by: mw_programs, which calls these before it serves. docs/OPERATING.md lists the texts of the notes: change
 //! both together. A new kind of [`Cause`] needs a case in `Cause::tell`. docs/PROMISES cites `open_files`.
-ghost use Rattle.std.specs.Prelude.{◌≡◌, ◌≤◌, length, is_some, IfOk, Some};
+ghost use Rattle.std.specs.Prelude.{◌≡◌, ◌<◌, ◌≤◌, length, is_some, IfOk, Some};
 ghost use Rattle.std.specs.List.{list_all};
 ghost use Rattle.mw_config.specs.Limits.{ArePermitted};
 ghost use Rattle.mw_words.specs.declared.limits.TheConstants.{MAX_TENANTS};
 ghost use Rattle.mw_engine.specs.OpenedFiles.{FitsLine, FitLines};
 
 use crate::file_state::{FileState, FileStates};
+use crate::metered_file::MeteredFile;
 use crate::notes::{note_cause, note_place};
 use crate::plain_file::{ReadFault, open_plain};
 use crate::tracked_file::TrackedFile;
@@ -18,6 +19,8 @@ use log::{Log, info, warn};
 use mw_config::{FormRule, Refusal, TenantLine, broken_rule, read_tenants};
 use mw_disk::{Disk, FileDisk};
 use mw_file::{OpenFault, TenantFile};
+use mw_meters::Meters;
+use mw_metrics::TenantCounters;
 use mw_words::{MAX_TENANTS, MAX_TENANTS_FILE};
 use std::alloc::{AllocError, Global};
 use std::fs::{File, OpenOptions, TryLockError};
@@ -25,6 +28,7 @@ use std::io::{self, Read};
 use std::os::fd::AsRawFd;
 use std::rt::Files;
 use std::str;
+use std::time::Clock;
 use thiserror::Error;
 
 /// The room for a tenants file, in bytes: the most that it may have, and one more, which shows that it is
@@ -220,42 +224,57 @@ impl FileFault {
     }
 }
 
-/// Opens the tenants' files, in the order of their lines, each by [`open_file`].
+/// Opens the tenants' files, in the order of their lines, each by [`open_file`]. The meters, if there are any, count the
+/// calls of each file.
 ///
 /// # Errors
 ///
 /// Memory was refused.
-pub fn open_files<'a, R: Files<File = File> + AllocGlobal, L: Log>(
-    rt: &R,
+pub fn open_files<'a, R: Files<File = File> + AllocGlobal + Clock, L: Log>(
+    rt: &'a R,
     notes: &L,
     lines: &[TenantLine],
     errors: &'a LastErrors,
     states: &'a FileStates,
-) -> Result<Vec<Option<Opened<'a>>>, AllocError>
+    meters: Option<&'a Meters>,
+) -> Result<Vec<Option<Opened<'a, R>>>, AllocError>
     requires { length lines.now ≤ MAX_TENANTS }
-    ensures { IfOk result (λ files. FitLines ⟦<FileDisk<WatchedFile<'a, TrackedFile<'a, File>>> as Disk>⟧.facts lines.now files.items) }
+    ensures { IfOk result (λ files. FitLines ⟦<FileDisk<WatchedFile<'a, TrackedFile<'a, MeteredFile<'a, File, R>>>> as Disk>⟧.facts lines.now files.items) }
 {
     let mut files = Vec::with_capacity(rt.alloc(), lines.len())?;
     for line in lines {
         let tenant = files.len();
-        let file = open_file(rt, notes, line, errors.of(tenant), states.of(tenant))?;
+        let counters = counters_of(meters, tenant);
+        let (last, state) = (errors.of(tenant), states.of(tenant));
+        let file = open_file(rt, notes, line, last, state, counters)?;
         files.push(file)?;
     }
     Ok(files)
 }
 
+/// Gives what counts the calls of the file of the tenant of this number, if they are counted.
+fn counters_of<'a>(meters: Option<&'a Meters>, tenant: usize) -> Option<&'a TenantCounters>
+    requires { tenant < MAX_TENANTS }
+{
+    match meters {
+        Some(meters) => Some(meters.tenant(tenant)),
+        None => None,
+    }
+}
+
 /// Tells whether each tenant's file has opened.
-pub fn are_all_open(files: &[Option<Opened<'_>>]) -> bool
+pub fn are_all_open<R>(files: &[Option<Opened<'_, R>>]) -> bool
     ensures { result ≡ list_all (λ file. is_some file) files.now }
 {
     files.iter().all(|file| file.is_some())
 }
 
+/// The disk of a tenant's file: it keeps the last error, which file it is, and how long its calls took. `R` is the clock.
+pub type TenantDisk<'a, R> =
+    FileDisk<WatchedFile<'a, TrackedFile<'a, MeteredFile<'a, File, R>>>>;
+
 /// A tenant's file, and the words that it had when it was opened.
-pub type Opened<'a> = (
-    TenantFile<FileDisk<WatchedFile<'a, TrackedFile<'a, File>>>>,
-    Vec<u64>,
-);
+pub type Opened<'a, R> = (TenantFile<TenantDisk<'a, R>>, Vec<u64>);
 
 /// Opens the file of a tenant. Gives None, and writes a note, if the file doesn't open, is in use or isn't
 /// as the tenants file says. Then every request of the tenant is answered FAULT.
@@ -263,16 +282,17 @@ pub type Opened<'a> = (
 /// # Errors
 ///
 /// Memory was refused.
-pub fn open_file<'a, R: Files<File = File> + AllocGlobal, L: Log>(
-    rt: &R,
+pub fn open_file<'a, R: Files<File = File> + AllocGlobal + Clock, L: Log>(
+    rt: &'a R,
     notes: &L,
     line: &TenantLine,
     last: &'a LastError,
     state: &'a FileState,
-) -> Result<Option<Opened<'a>>, AllocError>
-    ensures { IfOk result (λ file. FitsLine ⟦<FileDisk<WatchedFile<'a, TrackedFile<'a, File>>> as Disk>⟧.facts line.now file) }
+    counters: Option<&'a TenantCounters>,
+) -> Result<Option<Opened<'a, R>>, AllocError>
+    ensures { IfOk result (λ file. FitsLine ⟦<FileDisk<WatchedFile<'a, TrackedFile<'a, MeteredFile<'a, File, R>>>> as Disk>⟧.facts line.now file) }
 {
-    match open_fitting(rt, line, last, state) {
+    match open_fitting(rt, line, last, state, counters) {
         Ok(opened) => Ok(Some(opened)),
         Err(FileFault::Memory) => Err(AllocError),
         Err(fault) => {
@@ -289,15 +309,16 @@ pub fn open_file<'a, R: Files<File = File> + AllocGlobal, L: Log>(
 /// # Errors
 ///
 /// As [`FileFault`] tells. The file is closed, and so its lock is released.
-fn open_fitting<'a, R: Files<File = File> + AllocGlobal>(
-    rt: &R,
+fn open_fitting<'a, R: Files<File = File> + AllocGlobal + Clock>(
+    rt: &'a R,
     line: &TenantLine,
     last: &'a LastError,
     state: &'a FileState,
-) -> Result<Opened<'a>, FileFault>
-    ensures { IfOk result (λ opened. FitsLine ⟦<FileDisk<WatchedFile<'a, TrackedFile<'a, File>>> as Disk>⟧.facts line.now (Some opened)) }
+    counters: Option<&'a TenantCounters>,
+) -> Result<Opened<'a, R>, FileFault>
+    ensures { IfOk result (λ opened. FitsLine ⟦<FileDisk<WatchedFile<'a, TrackedFile<'a, MeteredFile<'a, File, R>>>> as Disk>⟧.facts line.now (Some opened)) }
 {
-    let file = open_locked(rt, line.path.as_str())?;
+    let file = MeteredFile::new(open_locked(rt, line.path.as_str())?, rt, counters);
     open_synced(
         rt.alloc(),
         FileDisk::new(WatchedFile::new(TrackedFile::new(file, state), last)),

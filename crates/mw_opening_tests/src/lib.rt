@@ -7,6 +7,8 @@
 #[cfg(test)]
 mod fake_file;
 #[cfg(test)]
+mod metered_tests;
+#[cfg(test)]
 mod same;
 #[cfg(test)]
 mod tracked_tests;

@@ -4,11 +4,16 @@
 //! both together.
 ghost use Rattle.std.specs.Prelude.{◌<◌, vec_len};
 
+use crate::pages::{PagesDoor, show_pages};
 use crate::replaced::{FileLook, PERIOD, Stop, look_on};
 use crate::serving::ServeFault;
 use log::{Log, warn};
 use mw_config::Listening;
-use mw_connections::{ClientListener, Closer, Patient, RoomWatch, TimeLimits, listen_at, port_of};
+use mw_connections::{
+    ClientListener, Closer, MeteredListener, Patient, RoomWatch, TimeLimits, listen_at, port_of,
+};
+use mw_http_server::Pages;
+use mw_metrics::ServerCounters;
 use mw_opening::note_cause;
 use mw_session::Service;
 use mw_workers::{Desk, ServeEnd, serve_all, serve_beside};
@@ -36,11 +41,12 @@ impl<L: Log> RoomWatch for RoomNotes<'_, '_, L> {
     }
 }
 
-/// Listens at this address.
+/// Listens at this address. The counters count the bytes of its clients, if there are pages that tell them.
 fn listen<'r, 'a, R>(
     rt: &'r R,
     address: &'a str,
     listening: &Listening,
+    counters: &'r ServerCounters,
 ) -> Result<ClientListener<'r, R>, ServeFault<'a>>
 where
     R: Files<File = File> + Net<Listener = TcpListener, Stream = TcpStream>,
@@ -50,6 +56,7 @@ where
         line: listening.line_time,
     };
     match listen_at(rt, address, listening.socket_mode, limits) {
+        Ok(clients) if listening.http.is_some() => Ok(clients.counted_by(counters)),
         Ok(clients) => Ok(clients),
         Err(error) => Err(ServeFault::CannotListen(address, error)),
     }
@@ -60,11 +67,12 @@ fn listen_for_admin<'r, 'a, R>(
     rt: &'r R,
     address: &'a str,
     listening: &Listening,
+    counters: &'r ServerCounters,
 ) -> Result<(ClientListener<'r, R>, Closer), ServeFault<'a>>
 where
     R: Files<File = File> + Net<Listener = TcpListener, Stream = TcpStream>,
 {
-    let clients = listen(rt, address, listening)?;
+    let clients = listen(rt, address, listening, counters)?;
     match clients.closer() {
         Ok(closer) => Ok((clients, closer)),
         Err(error) => Err(ServeFault::CannotListen(address, error)),
@@ -79,10 +87,22 @@ fn tell_place<'a, K, O: Write>(
     clients: &ClientListener<'_, K>,
     address: &'a str,
 ) -> Result<(), ServeFault<'a>> {
-    let told = match port_of(clients) {
-        Ok(Some(port)) => tell_line(out, word, &port),
-        Ok(None) => tell_line(out, word, &address),
-        Err(error) => return Err(ServeFault::CannotListen(address, error)),
+    match port_of(clients) {
+        Ok(port) => tell_at(out, word, port, address),
+        Err(error) => Err(ServeFault::CannotListen(address, error)),
+    }
+}
+
+/// Writes to `out` this word, and after it the port, or the address if it has none.
+pub(crate) fn tell_at<'a, O: Write>(
+    out: &mut O,
+    word: &str,
+    port: Option<u16>,
+    address: &'a str,
+) -> Result<(), ServeFault<'a>> {
+    let told = match port {
+        Some(port) => tell_line(out, word, &port),
+        None => tell_line(out, word, &address),
     };
     if told.is_ok() {
         Ok(())
@@ -99,11 +119,12 @@ fn tell_line<O: Write, P: Display>(out: &mut O, word: &str, place: &P) -> io::Re
 
 /// Writes to `out` where it listens, and serves clients, each by one of these services. If there is an address for the
 /// administrator, the last of them serves only the clients of that address. Meanwhile a thread looks at the tenants'
-/// files.
+/// files, and if there are pages another one shows them.
 pub(crate) fn serve_clients<
     'e,
     'a,
     S: Service + Send + Drop,
+    P: Pages + Send + Drop,
     R,
     O: Write,
     L: Log + Sync,
@@ -111,10 +132,12 @@ pub(crate) fn serve_clients<
 >(
     rt: &'e R,
     services: Vec<S>,
+    pages: Option<P>,
     listening: &'a Listening,
     out: &mut O,
     notes: &L,
     watch: &'e T,
+    counters: &'e ServerCounters,
 ) -> Result<(), ServeFault<'a>>
 where
     R: Files<File = File>
@@ -140,8 +163,93 @@ where
             {
                 return Err(ServeFault::Memory);
             }
-            let ended = serve_services(rt, services, listening, out, notes);
+            let ended = serve_and_show(rt, services, pages, listening, out, notes, counters);
             stop.ask(rt);
+            ended
+        },
+    )
+}
+
+/// Serves clients, and shows the pages, if there are any and they have an address.
+fn serve_and_show<
+    'a,
+    S: Service + Send + Drop,
+    P: Pages + Send + Drop,
+    R,
+    O: Write,
+    L: Log + Sync,
+>(
+    rt: &R,
+    services: Vec<S>,
+    pages: Option<P>,
+    listening: &'a Listening,
+    out: &mut O,
+    notes: &L,
+    counters: &ServerCounters,
+) -> Result<(), ServeFault<'a>>
+where
+    R: Files<File = File>
+        + AllocGlobal
+        + Net<Listener = TcpListener, Stream = TcpStream>
+        + Threads
+        + Wait
+        + Clock
+        + Sync,
+    requires { 0 < vec_len services }
+{
+    match (pages, &listening.http) {
+        (Some(pages), Some(address)) => {
+            let door = PagesDoor::open(rt, address.as_str(), listening, out)?;
+            serve_beside_pages(rt, services, door, pages, listening, out, notes, counters)
+        }
+        _ => serve_services(rt, services, listening, out, notes, counters),
+    }
+}
+
+/// Serves clients, while a thread shows the pages. When serving has ended the pages end too.
+fn serve_beside_pages<
+    'a,
+    S: Service + Send + Drop,
+    P: Pages + Send + Drop,
+    R,
+    O: Write,
+    L: Log + Sync,
+>(
+    rt: &R,
+    services: Vec<S>,
+    door: PagesDoor<'_, R>,
+    pages: P,
+    listening: &'a Listening,
+    out: &mut O,
+    notes: &L,
+    counters: &ServerCounters,
+) -> Result<(), ServeFault<'a>>
+where
+    R: Files<File = File>
+        + AllocGlobal
+        + Net<Listener = TcpListener, Stream = TcpStream>
+        + Threads
+        + Wait
+        + Clock
+        + Sync,
+    requires { 0 < vec_len services }
+{
+    let PagesDoor { listener, end } = door;
+    let end = &end;
+    thread::scope(
+        thread::scope_env(),
+        rt,
+        |scope| -> Result<(), ServeFault>
+            requires { 0 < vec_len services }
+        {
+            if scope
+                .spawn(move || show_pages(rt, listener, pages, end))
+                .is_err()
+            {
+                return Err(ServeFault::Memory);
+            }
+            let ended = serve_services(rt, services, listening, out, notes, counters);
+            end.end();
             ended
         },
     )
@@ -154,6 +262,7 @@ fn serve_services<'a, S: Service + Send + Drop, R, O: Write, L: Log + Sync>(
     listening: &'a Listening,
     out: &mut O,
     notes: &L,
+    counters: &ServerCounters,
 ) -> Result<(), ServeFault<'a>>
 where
     R: Files<File = File>
@@ -166,8 +275,10 @@ where
     requires { 0 < vec_len services }
 {
     match &listening.admin {
-        Some(admin) => serve_both(rt, services, listening, admin.as_str(), out, notes),
-        None => serve_one(rt, services, listening, out, notes),
+        Some(admin) => {
+            serve_both(rt, services, listening, admin.as_str(), out, notes, counters)
+        }
+        None => serve_one(rt, services, listening, out, notes, counters),
     }
 }
 
@@ -178,6 +289,7 @@ fn serve_one<'a, S: Service + Send + Drop, R, O: Write, L: Log + Sync>(
     listening: &'a Listening,
     out: &mut O,
     notes: &L,
+    counters: &ServerCounters,
 ) -> Result<(), ServeFault<'a>>
 where
     R: Files<File = File>
@@ -189,7 +301,7 @@ where
         + Sync,
     requires { 0 < vec_len services }
 {
-    let clients = open_listener(rt, listening, out)?;
+    let clients = MeteredListener::new(open_listener(rt, listening, out, counters)?, counters);
     let address = listening.address.as_str();
     let room = RoomNotes { notes, address };
     let clients = Patient::new(clients, rt, &room);
@@ -209,12 +321,13 @@ fn open_listener<'r, 'a, R, O: Write>(
     rt: &'r R,
     listening: &'a Listening,
     out: &mut O,
+    counters: &'r ServerCounters,
 ) -> Result<ClientListener<'r, R>, ServeFault<'a>>
 where
     R: Files<File = File> + Net<Listener = TcpListener, Stream = TcpStream>,
 {
     let address = listening.address.as_str();
-    let clients = listen(rt, address, listening)?;
+    let clients = listen(rt, address, listening, counters)?;
     tell_place(out, "ready", &clients, address)?;
     Ok(clients)
 }
@@ -228,6 +341,7 @@ fn serve_both<'a, S: Service + Send + Drop, R, O: Write, L: Log + Sync>(
     admin: &'a str,
     out: &mut O,
     notes: &L,
+    counters: &ServerCounters,
 ) -> Result<(), ServeFault<'a>>
 where
     R: Files<File = File>
@@ -241,7 +355,7 @@ where
     let Some(both) = BothServices::new(services) else {
         return Err(ServeFault::Memory);
     };
-    let doors = open_listeners(rt, listening, admin, out)?;
+    let doors = open_listeners(rt, listening, admin, out, counters)?;
     let room = RoomNotes {
         notes,
         address: listening.address.as_str(),
@@ -250,7 +364,7 @@ where
         notes,
         address: admin,
     };
-    served(serve_doors(rt, doors, both, listening, &room, &own_room))
+    served(serve_doors(rt, doors, both, listening, &room, &own_room, counters))
 }
 
 /// The services for clients, and the one for the administrator.
@@ -291,13 +405,14 @@ fn open_listeners<'r, 'a, R, O: Write>(
     listening: &'a Listening,
     admin: &'a str,
     out: &mut O,
+    counters: &'r ServerCounters,
 ) -> Result<Listeners<'r, R>, ServeFault<'a>>
 where
     R: Files<File = File> + Net<Listener = TcpListener, Stream = TcpStream>,
 {
     let address = listening.address.as_str();
-    let clients = listen(rt, address, listening)?;
-    let (own, closer) = listen_for_admin(rt, admin, listening)?;
+    let clients = listen(rt, address, listening, counters)?;
+    let (own, closer) = listen_for_admin(rt, admin, listening, counters)?;
     let doors = Listeners {
         clients,
         own,
@@ -326,6 +441,7 @@ fn serve_doors<S: Service + Send + Drop, R, L: Log + Sync>(
     listening: &Listening,
     room: &RoomNotes<'_, '_, L>,
     own_room: &RoomNotes<'_, '_, L>,
+    counters: &ServerCounters,
 ) -> ServeEnd
 where
     R: Files<File = File>
@@ -337,12 +453,13 @@ where
         + Sync,
 {
     let desk = Desk {
-        listener: doors.own,
+        listener: MeteredListener::new(doors.own, counters),
         service: both.admin_service,
         closer: doors.closer,
         watch: own_room,
     };
-    let clients = Patient::new(doors.clients, rt, room);
+    let clients = MeteredListener::new(doors.clients, counters);
+    let clients = Patient::new(clients, rt, room);
     let (end, _) = serve_beside(
         rt,
         rt.alloc(),

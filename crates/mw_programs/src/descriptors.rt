@@ -16,6 +16,9 @@ pub(crate) const STREAMS: u64 = 3;
 /// wait for their turn, and one that is being accepted.
 pub(crate) const FOR_ADMIN: u64 = 3 + DESK_QUEUE as u64;
 
+/// How many more are needed for the address of the pages: its listener, and what ends the wait there.
+pub(crate) const FOR_PAGES: u64 = 2;
+
 /// How many are needed for connections that no session serves yet: those that wait for one, and one that is being accepted.
 /// If they wait for a limited time, one more is on its way to a session.
 fn needed_to_wait(is_limited: bool) -> u64
@@ -28,20 +31,24 @@ fn needed_to_wait(is_limited: bool) -> u64
     }
 }
 
-/// Gives how many descriptors a server needs: for the standard streams, the tenants' files, the listener, a connection
-/// of each session, and the connections that wait for a session, for ever or for a limited time. With an address for the
-/// administrator it needs more.
-pub(crate) fn needed(tenants: usize, sessions: u16, is_limited: bool, has_admin: bool) -> u64
+/// Gives how many descriptors a server needs: for the standard streams, the tenants' files, the listener, each connection
+/// that is served at once, and the connections that wait for a session, for ever or for a limited time. With an address for
+/// the administrator it needs more, and with one for the pages too.
+pub(crate) fn needed(
+    tenants: usize,
+    served: u16,
+    is_limited: bool,
+    has_admin: bool,
+    has_pages: bool,
+) -> u64
     requires { tenants ≤ MAX_TENANTS }
-    ensures { result ≡ needed tenants sessions is_limited has_admin }
+    ensures { result ≡ needed tenants served is_limited has_admin has_pages }
 {
-    let connections = u64::from(sessions) + needed_to_wait(is_limited);
+    let connections = u64::from(served) + needed_to_wait(is_limited);
     let clients = STREAMS + tenants as u64 + 1 + connections;
-    if has_admin {
-        clients + FOR_ADMIN
-    } else {
-        clients
-    }
+    let admin = if has_admin { FOR_ADMIN } else { 0 };
+    let pages = if has_pages { FOR_PAGES } else { 0 };
+    clients + admin + pages
 }
 
 /// Gives how many descriptors the system lets this program have, or None if it doesn't tell.

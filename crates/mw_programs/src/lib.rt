@@ -5,6 +5,7 @@
 
 mod clients;
 mod descriptors;
+mod pages;
 mod replaced;
 mod services;
 mod serving;

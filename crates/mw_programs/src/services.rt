@@ -1,4 +1,5 @@
-//! Makes the services that answer clients: a worker for each pass, or with `--clients` a borrower for each client.
+//! Makes the services that answer clients: a worker for each pass, or with `--clients` a borrower for each client. Makes the
+//! pages too, with `--http`, and has the requests counted for them.
 //!
 //! Used by: `serving`, if the command line says `--listen`. docs/OPERATING tells how many of each there are: change both
 //! together.
@@ -6,14 +7,19 @@ ghost use Rattle.std.specs.Prelude.{ℕ, ◌≡◌, ◌≤◌, ◌<◌, ◌+◌,
 ghost use Rattle.mw_engine.specs.Passes.{IsNew};
 
 use crate::clients::serve_clients;
+use crate::pages::version;
 use crate::replaced::FileLook;
 use crate::serving::ServeFault;
 use log::Log;
 use mw_config::{Listening, SharedWorkers};
-use mw_disk::{Disk, FileDisk};
+use mw_disk::Disk;
 use mw_engine::{Engine, EngineBrand, NoHold, Pass};
-use mw_opening::{TrackedFile, WatchedFile};
-use mw_service::{Borrower, FaultWatch, PassPool, ReadPool, Worker};
+use mw_http_server::Pages;
+use mw_meters::Meters;
+use mw_metrics::ServerCounters;
+use mw_opening::TenantDisk;
+use mw_server_pages::ServerPages;
+use mw_service::{Borrower, FaultWatch, MeteredService, PassPool, ReadPool, Worker};
 use std::alloc::AllocError;
 use std::fs::File;
 use std::io::Write;
@@ -23,8 +29,15 @@ use std::sync::Wait;
 use std::thread::Threads;
 use std::time::Clock;
 
-/// Serves clients by a worker for each pass, or if they share the workers by a borrower for each of them. If there is an
-/// address for the administrator, the last pass is for the clients of that address.
+/// Gives the meters if there are pages that tell what they count.
+pub(crate) fn counted<'m>(listening: &Listening, meters: &'m Meters) -> Option<&'m Meters> {
+    match &listening.http {
+        Some(_) => Some(meters),
+        None => None,
+    }
+}
+
+/// Serves clients, and shows the pages if there is an address for them. The last pass is then for the pages.
 pub(crate) fn serve_all_clients<
     'e,
     'a,
@@ -35,12 +48,13 @@ pub(crate) fn serve_all_clients<
     T: FaultWatch + FileLook + Sync,
 >(
     rt: &'e R,
-    engine: &'e Engine<J, FileDisk<WatchedFile<'_, TrackedFile<'_, File>>>, NoHold>,
+    engine: &'e Engine<J, TenantDisk<'_, R>, NoHold>,
     passes: Vec<Pass>,
     listening: &'a Listening,
     out: &mut O,
     notes: &L,
     watch: &'e T,
+    meters: &'e Meters,
 ) -> Result<(), ServeFault<'a>>
 where
     J: EngineBrand + Send + Sync,
@@ -52,36 +66,118 @@ where
         + Clock
         + Sync,
     requires new { All (IsNew J.identity) passes.items }
-    requires some { 0 < vec_len passes }
     requires clients { IfSome listening.now.shared (λ shared. 1 ≤ shared.clients) }
 {
+    let mut passes = passes;
+    let pages = pages_for(rt, engine, &mut passes, listening, watch, meters)?;
+    if passes.is_empty() {
+        return Err(ServeFault::Memory);
+    }
     match &listening.shared {
         None => {
-            let workers = workers_for(rt, engine, passes, watch)?;
-            serve_clients(rt, workers, listening, out, notes, watch)
+            let meter = counted(listening, meters);
+            let workers = workers_for(rt, engine, passes, watch, meter)?;
+            let counters = meters.server();
+            serve_clients(
+                rt, workers, pages, listening, out, notes, watch, counters,
+            )
         }
-        Some(shared) => {
-            let has_admin = listening.admin.is_some();
-            let pools = Pools::new(rt, passes, shared.readers, has_admin)?;
-            let borrowers = borrowers_for(rt, engine, &pools, shared.clients, watch)?;
-            serve_clients(rt, borrowers, listening, out, notes, watch)
-        }
+        Some(shared) => serve_shared(
+            rt, engine, passes, pages, listening, *shared, out, notes, watch, meters,
+        ),
     }
 }
 
-/// Makes a worker for each pass.
+/// Serves clients that share the passes, by a borrower for each of them. If there is an address for the administrator, the
+/// last pass is for the clients of that address.
+fn serve_shared<
+    'e,
+    'a,
+    J,
+    R,
+    O: Write,
+    L: Log + Sync,
+    P: Pages + Send + Drop,
+    T: FaultWatch + FileLook + Sync,
+>(
+    rt: &'e R,
+    engine: &'e Engine<J, TenantDisk<'_, R>, NoHold>,
+    passes: Vec<Pass>,
+    pages: Option<P>,
+    listening: &'a Listening,
+    shared: SharedWorkers,
+    out: &mut O,
+    notes: &L,
+    watch: &'e T,
+    meters: &'e Meters,
+) -> Result<(), ServeFault<'a>>
+where
+    J: EngineBrand + Send + Sync,
+    R: Files<File = File>
+        + AllocGlobal
+        + Net<Listener = TcpListener, Stream = TcpStream>
+        + Threads
+        + Wait
+        + Clock
+        + Sync,
+    requires new { All (IsNew J.identity) passes.items }
+    requires clients { 1 ≤ shared.clients }
+{
+    let has_admin = listening.admin.is_some();
+    let meter = counted(listening, meters);
+    let pools = Pools::new(rt, passes, shared.readers, has_admin, meter)?;
+    let borrowers = borrowers_for(rt, engine, &pools, shared.clients, watch, meter)?;
+    let counters = meters.server();
+    serve_clients(
+        rt, borrowers, pages, listening, out, notes, watch, counters,
+    )
+}
+
+/// Makes the pages if they have an address. A worker with the last of these passes gives their figures.
+///
+/// # Errors
+///
+/// [`AllocError`] if memory is out, or there is no pass.
+fn pages_for<'a, J: EngineBrand, D: Disk, H, R: AllocGlobal + Clock, T>(
+    rt: &'a R,
+    engine: &'a Engine<J, D, H>,
+    passes: &mut Vec<Pass>,
+    listening: &Listening,
+    watch: &'a T,
+    meters: &'a Meters,
+) -> Result<Option<ServerPages<'a, Worker<'a, J, D, H, R, T>, R>>, AllocError>
+    requires { All (IsNew J.identity) passes.old.items }
+    ensures left { All (IsNew J.identity) passes.new.items }
+{
+    if listening.http.is_none() {
+        return Ok(None);
+    }
+    let own = cut::<J>(passes, 1)?;
+    let Some(pass) = own.into_iter().next() else {
+        return Err(AllocError);
+    };
+    let worker = Worker::new(engine, pass, rt, watch);
+    Ok(Some(ServerPages::new(worker, meters, rt, version())))
+}
+
+/// Makes a worker for each pass. The meters, if there are any, count their requests.
 fn workers_for<'a, J: EngineBrand, D: Disk, H, R: AllocGlobal, T>(
     rt: &'a R,
     engine: &'a Engine<J, D, H>,
     passes: Vec<Pass>,
     watch: &'a T,
-) -> Result<Vec<Worker<'a, J, D, H, R, T>>, AllocError>
+    meters: Option<&'a Meters>,
+) -> Result<Vec<MeteredService<'a, Worker<'a, J, D, H, R, T>, R>>, AllocError>
     requires new { All (IsNew J.identity) passes.items }
     ensures { IfOk result (λ workers. vec_len workers ≡ vec_len passes) }
 {
     let mut workers = Vec::with_capacity(rt.alloc(), passes.len())?;
     for pass in passes {
-        if workers.push(Worker::new(engine, pass, rt, watch)).is_err() {
+        let worker = Worker::new(engine, pass, rt, watch);
+        if workers
+            .push(MeteredService::new(worker, rt, meters))
+            .is_err()
+        {
             return Err(AllocError);
         }
     }
@@ -90,15 +186,15 @@ fn workers_for<'a, J: EngineBrand, D: Disk, H, R: AllocGlobal, T>(
 
 /// The passes that clients borrow.
 #[derive(Drop)]
-struct Pools<J: EngineBrand> {
+struct Pools<'a, J: EngineBrand> {
     reads: ReadPool<J>,
-    changes: PassPool<J>,
+    changes: PassPool<'a, J>,
     /// The administrator's own.
-    admin: Option<PassPool<J>>,
+    admin: Option<PassPool<'a, J>>,
 }
 
-impl<J: EngineBrand> Pools<J> {
-    /// Makes the pools of these passes. If there is an address for the administrator, the last pass is for its clients.
+impl<'a, J: EngineBrand> Pools<'a, J> {
+    /// Makes the pools of these passes, which the meters count, if there are any. If there is an address for the administrator, the last pass is for its clients.
     /// Of the others so many are for reads, but at least one is left for changes.
     ///
     /// # Errors
@@ -109,22 +205,32 @@ impl<J: EngineBrand> Pools<J> {
         passes: Vec<Pass>,
         readers: u8,
         has_admin: bool,
+        meters: Option<&'a Meters>,
     ) -> Result<Self, AllocError>
         requires new { All (IsNew J.identity) passes.items }
         ensures { IfOk result (λ pools. is_some pools.admin ≡ has_admin) }
     {
+        let counters = server_of(meters);
         let (mut passes, mut admin) = (passes, None);
         if has_admin {
             let own = cut::<J>(&mut passes, 1)?;
-            admin = Some(pool_of(rt, own)?);
+            admin = Some(pool_of(rt, own, counters)?);
         }
         let most = passes.len().saturating_sub(1);
         let reads = cut::<J>(&mut passes, most.min(usize::from(readers)))?;
         Ok(Pools {
             reads: read_pool_of(rt, reads)?,
-            changes: pool_of(rt, passes)?,
+            changes: pool_of(rt, passes, counters)?,
             admin,
         })
+    }
+}
+
+/// Gives what counts for the whole server, if something is counted.
+fn server_of<'m>(meters: Option<&'m Meters>) -> Option<&'m ServerCounters> {
+    match meters {
+        Some(meters) => Some(meters.server()),
+        None => None,
     }
 }
 
@@ -144,21 +250,22 @@ fn cut<J: EngineBrand>(passes: &mut Vec<Pass>, count: usize) -> Result<Vec<Pass>
     }
 }
 
-/// Makes a pool of these passes.
+/// Makes a pool of these passes, which these counters count.
 ///
 /// # Errors
 ///
 /// [`AllocError`] if memory is out, or there is no pass.
-fn pool_of<J: EngineBrand, R: AllocGlobal + Wait>(
+fn pool_of<'a, J: EngineBrand, R: AllocGlobal + Wait>(
     rt: &R,
     passes: Vec<Pass>,
-) -> Result<PassPool<J>, AllocError>
+    counters: Option<&'a ServerCounters>,
+) -> Result<PassPool<'a, J>, AllocError>
     requires new { All (IsNew J.identity) passes.items }
 {
     if passes.is_empty() {
         return Err(AllocError);
     }
-    PassPool::new(rt, rt.alloc(), passes)
+    PassPool::new(rt, rt.alloc(), passes, counters)
 }
 
 /// Makes a pool of these passes that only read.
@@ -179,7 +286,7 @@ fn read_pool_of<J: EngineBrand, R: AllocGlobal>(
 }
 
 /// Makes a borrower for each client that is served at once, and one more for the administrator, if there are passes for
-/// the administrator.
+/// the administrator. The meters, if there are any, count their requests.
 ///
 /// # Errors
 ///
@@ -187,10 +294,11 @@ fn read_pool_of<J: EngineBrand, R: AllocGlobal>(
 fn borrowers_for<'a, J: EngineBrand, D: Disk, H, R: AllocGlobal, T>(
     rt: &'a R,
     engine: &'a Engine<J, D, H>,
-    pools: &'a Pools<J>,
+    pools: &'a Pools<'a, J>,
     clients: u16,
     watch: &'a T,
-) -> Result<Vec<Borrower<'a, J, D, H, R, T>>, AllocError>
+    meters: Option<&'a Meters>,
+) -> Result<Vec<MeteredService<'a, Borrower<'a, J, D, H, R, T>, R>>, AllocError>
     ensures { IfOk result (λ made. vec_len made ≡ clients + (if is_some pools.now.admin then 1 else 0)) }
 {
     let mut made = Vec::with_capacity(rt.alloc(), usize::from(clients) + 1)?;
@@ -203,13 +311,19 @@ fn borrowers_for<'a, J: EngineBrand, D: Disk, H, R: AllocGlobal, T>(
             rt,
             watch,
         );
-        if made.push(borrower).is_err() {
+        if made
+            .push(MeteredService::new(borrower, rt, meters))
+            .is_err()
+        {
             return Err(AllocError);
         }
     }
     if let Some(own) = &pools.admin {
         let borrower = Borrower::new(0, engine, None, own, rt, watch);
-        if made.push(borrower).is_err() {
+        if made
+            .push(MeteredService::new(borrower, rt, meters))
+            .is_err()
+        {
             return Err(AllocError);
         }
     }

@@ -9,19 +9,20 @@ ghost use Rattle.mw_words.specs.declared.limits.TheConstants.{MAX_TENANTS, MAX_W
 ghost use Rattle.mw_engine.specs.OpenedFiles.{FitLines};
 ghost use Rattle.mw_engine.specs.Passes.{IsNew};
 ghost use Rattle.mw_engine.specs.Parts.{identity_of};
-ghost use Rattle.mw_programs.specs.WorkerCount.{session_count, worker_count};
+ghost use Rattle.mw_programs.specs.WorkerCount.{one_for, own_workers, served_count, worker_count};
 
 use crate::descriptors::{has_descriptors, needed};
 use crate::replaced::{FileLook, SeesPaths};
-use crate::services::serve_all_clients;
+use crate::services::{counted, serve_all_clients};
 use crate::tenants::TenantNotes;
 use log::{Log, warn};
 use mw_config::{ArgFault, Args, Listening, Mode, Refusal, TenantLine, read_args};
 use mw_disk::{Disk, FileDisk};
 use mw_engine::{Engine, EngineBrand, EngineParts, NoHold, Pass};
+use mw_meters::Meters;
 use mw_opening::{
-    Cause, FileStates, LastErrors, Notes, Opened, ReadFault, TenantsFault, TrackedFile,
-    WatchedFile, are_all_open, note_cause, open_files, open_plain, read_tenants_file,
+    Cause, FileStates, LastErrors, MeteredFile, Notes, Opened, ReadFault, TenantDisk, TenantsFault,
+    TrackedFile, WatchedFile, are_all_open, note_cause, open_files, open_plain, read_tenants_file,
 };
 use mw_service::{FaultWatch, Worker};
 use mw_session::{Duplex, Ended, RecordedStream};
@@ -110,11 +111,12 @@ impl From<TenantsFault> for ServeFault<'_> {
 ///
 /// The form is `mwserve --tenants FILE [--pool P] [--workers N] [--strict] [--verbose]`, with one of these:
 /// - `--script FILE` runs one session from the script to `out`.
-/// - `--listen ADDR [--admin ADDR] [--connections C] [--clients M [--readers R]] [--wait SECONDS] [--idle SECONDS]
-///   [--line-time SECONDS] [--mode MODE]` writes `ready PORT`, or `ready unix:PATH`, to `out`. Then N workers serve
-///   clients, or M clients share the N workers' passes, until C connections are served. With `--admin`, one worker
-///   more is for the clients of that address, if N is below [`MAX_WORKERS`]; else one of the N is. `admin PORT`, or
-///   `admin unix:PATH`, is written before `ready`.
+/// - `--listen ADDR [--admin ADDR] [--http ADDR] [--connections C] [--clients M [--readers R]] [--wait SECONDS]
+///   [--idle SECONDS] [--line-time SECONDS] [--mode MODE]` writes `ready PORT`, or `ready unix:PATH`, to `out`. Then N
+///   workers serve clients, or M clients share the N workers' passes, until C connections are served. With `--admin`,
+///   one worker more is for the clients of that address, if N is below [`MAX_WORKERS`]; else one of the N is. `admin
+///   PORT`, or `admin unix:PATH`, is written before `ready`. With `--http`, a thread shows the server's pages there until
+///   the server ends, and one worker more is for them in the same way. `http PORT`, or `http unix:PATH`, is written first.
 ///
 /// Gives the exit status:
 /// - 0 if the session ended by `QUIT`, with the script, or at a line that was too long, or if all
@@ -197,7 +199,9 @@ where
 {
     let lines = read_tenants_file(rt, args.tenants.as_str(), args.pool)?;
     let (errors, states) = (LastErrors::new(), FileStates::new());
-    let files = open_files(rt, notes, &lines, &errors, &states)?;
+    let meters = Meters::new(rt);
+    let meter = counted_in(&args.mode, &meters);
+    let files = open_files(rt, notes, &lines, &errors, &states, meter)?;
     if args.strict && !are_all_open(&files) {
         return Err(ServeFault::NotAll);
     }
@@ -205,7 +209,15 @@ where
         return Err(ServeFault::FewDescriptors);
     }
     let watch = TenantNotes::new(rt, notes, &lines, &errors, &states, &files, args.strict);
-    serve_files(rt, args, &lines, files, out, notes, &watch)
+    serve_files(rt, args, &lines, files, out, notes, &watch, &meters)
+}
+
+/// Gives the meters if there are pages that tell what they count.
+fn counted_in<'m>(mode: &Mode, meters: &'m Meters) -> Option<&'m Meters> {
+    match mode {
+        Mode::Listen(listening) => counted(listening, meters),
+        Mode::Script(_) => None,
+    }
 }
 
 /// Tells whether the limit of descriptors leaves room for the clients of so many tenants, and writes a note if not. A
@@ -217,26 +229,37 @@ fn has_room<L: Log>(notes: &L, args: &Args, tenants: usize) -> bool
     match &args.mode {
         Mode::Script(_) => true,
         Mode::Listen(listening) => {
-            let has_admin = listening.admin.is_some();
-            let sessions = sessions_of(args, listening);
-            has_descriptors(
-                notes,
-                needed(tenants, sessions, listening.wait.is_some(), has_admin),
-            )
+            let served = served_at_once(args, listening);
+            let needed = needed(
+                tenants,
+                served,
+                listening.wait.is_some(),
+                listening.admin.is_some(),
+                listening.http.is_some(),
+            );
+            has_descriptors(notes, needed)
         }
     }
 }
 
-/// Gives how many sessions there are at once, the administrator's included.
-fn sessions_of(args: &Args, listening: &Listening) -> u16
+/// Gives how many connections are served at once, those of the administrator and of the pages included.
+fn served_at_once(args: &Args, listening: &Listening) -> u16
     requires args { ArePermittedArgs args.now }
     requires mode { args.now.mode ≡ Listen listening.now }
-    ensures count { result ≡ session_count args.now listening.now }
+    ensures count { result ≡ served_count args.now listening.now }
 {
     match &listening.shared {
-        Some(shared) => shared.clients + u16::from(listening.admin.is_some()),
+        Some(shared) => shared.clients + u16::from(for_further(listening)),
         None => u16::from(workers_of(args)),
     }
+}
+
+/// Gives how many workers there are for further addresses: one for the administrator's, and one for that of the pages.
+fn for_further(listening: &Listening) -> u8
+    ensures count { result ≡ one_for listening.now.admin + one_for listening.now.http }
+    ensures few { result ≤ 2 }
+{
+    u8::from(listening.admin.is_some()) + u8::from(listening.http.is_some())
 }
 
 /// Serves the tenants with these lines from their files. A tenant whose file didn't open answers FAULT.
@@ -244,10 +267,11 @@ fn serve_files<'a, 'f, R, O: Write, L: Log + Sync, T: FaultWatch + FileLook + Sy
     rt: &R,
     args: &'a Args,
     lines: &[TenantLine],
-    files: Vec<Option<Opened<'f>>>,
+    files: Vec<Option<Opened<'f, R>>>,
     out: &mut O,
     notes: &L,
     watch: &T,
+    meters: &Meters,
 ) -> Result<(), ServeFault<'a>>
 where
     R: Files<File = File>
@@ -259,7 +283,7 @@ where
         + Sync,
     requires args { ArePermittedArgs args.now }
     requires lines { ArePermitted args.now.pool lines.now }
-    requires files { FitLines ⟦<FileDisk<WatchedFile<'f, TrackedFile<'f, File>>> as Disk>⟧.facts lines.now files.items }
+    requires files { FitLines ⟦<FileDisk<WatchedFile<'f, TrackedFile<'f, MeteredFile<'f, File, R>>>> as Disk>⟧.facts lines.now files.items }
 {
     let (parts, passes) = EngineParts::new(
         rt.alloc(),
@@ -269,19 +293,26 @@ where
         workers_of(args),
         NoHold,
     )?;
-    serve_engine::<Brand, _, _, _, _>(rt, parts, passes, args, out, notes, watch)
+    serve_engine::<Brand, _, _, _, _>(rt, parts, passes, args, out, notes, watch, meters)
 }
 
-/// Gives the number of workers: as many as were asked for, or with a listener for the administrator one more, but at
-/// most [`MAX_WORKERS`].
+/// Gives the number of workers: as many as were asked for, and one for each further address, but at most [`MAX_WORKERS`].
 fn workers_of(args: &Args) -> u8
     requires { ArePermittedArgs args.now }
     ensures range { (1 ≤ result) × (result ≤ MAX_WORKERS) }
     ensures count { result ≡ worker_count args.now }
 {
-    match &args.mode {
-        Mode::Listen(listening) if listening.admin.is_some() => MAX_WORKERS.min(args.workers + 1),
-        _ => args.workers,
+    MAX_WORKERS.min(args.workers + own_workers(&args.mode))
+}
+
+/// Gives how many workers there are for further addresses. A script has none.
+fn own_workers(mode: &Mode) -> u8
+    ensures count { result ≡ own_workers mode.now }
+    ensures few { result ≤ 2 }
+{
+    match mode {
+        Mode::Listen(listening) => for_further(listening),
+        Mode::Script(_) => 0,
     }
 }
 
@@ -295,12 +326,13 @@ fn serve_engine<
     T: FaultWatch + FileLook + Sync,
 >(
     rt: &R,
-    parts: EngineParts<FileDisk<WatchedFile<'_, TrackedFile<'_, File>>>, NoHold>,
+    parts: EngineParts<TenantDisk<'_, R>, NoHold>,
     passes: Vec<Pass>,
     args: &'a Args,
     out: &mut O,
     notes: &L,
     watch: &T,
+    meters: &Meters,
 ) -> Result<(), ServeFault<'a>>
 where
     R: Files<File = File>
@@ -319,7 +351,9 @@ where
     match &args.mode {
         Mode::Script(path) => run_script(rt, &engine, passes, path.as_str(), out, watch),
         Mode::Listen(listening) => {
-            serve_all_clients(rt, &engine, passes, listening, out, notes, watch)
+            serve_all_clients(
+                rt, &engine, passes, listening, out, notes, watch, meters,
+            )
         }
     }
 }
@@ -327,14 +361,14 @@ where
 /// Runs one session, from the script to `out`, by the first worker.
 fn run_script<'e, 'a, J: EngineBrand, R, O: Write, T: FaultWatch>(
     rt: &'e R,
-    engine: &'e Engine<J, FileDisk<WatchedFile<'_, TrackedFile<'_, File>>>, NoHold>,
+    engine: &'e Engine<J, TenantDisk<'_, R>, NoHold>,
     passes: Vec<Pass>,
     path: &'a str,
     out: &mut O,
     watch: &'e T,
 ) -> Result<(), ServeFault<'a>>
 where
-    R: Files<File = File> + AllocGlobal + Wait,
+    R: Files<File = File> + AllocGlobal + Wait + Clock,
     requires new { All (IsNew J.identity) passes.items }
     requires some { 0 < vec_len passes }
 {

@@ -33,13 +33,13 @@ pub struct TenantNotes<'r, 'n, 'l, 'e, L, R> {
 impl<'r, 'n, 'l, 'e, L: Log, R: Wait> TenantNotes<'r, 'n, 'l, 'e, L, R> {
     /// Makes the notes on the tenants with these lines. A tenant whose file didn't open has its note
     /// already. If it is strict, a file that was replaced is given up.
-    pub fn new(
+    pub fn new<K>(
         rt: &'r R,
         notes: &'n L,
         lines: &'l [TenantLine],
         errors: &'e LastErrors,
         states: &'e FileStates,
-        files: &[Option<Opened<'_>>],
+        files: &[Option<Opened<'_, K>>],
         strict: bool,
     ) -> Self {
         let mut told = [false; MAX_TENANTS];

@@ -22,7 +22,7 @@ pub struct Borrower<'a, J: EngineBrand, D: Disk, H, R, T> {
     /// The passes for reads and reports. None: these take from `passes` too.
     reads: Option<&'a ReadPool<J>>,
     /// The passes for changes.
-    passes: &'a PassPool<J>,
+    passes: &'a PassPool<'a, J>,
     /// Its number among the sessions, which says which pass it reads with.
     number: usize,
     /// What its sessions have seen. None before the first reply to a job and the first figures.
@@ -39,7 +39,7 @@ impl<'a, J: EngineBrand, D: Disk, H, R, T> Borrower<'a, J, D, H, R, T> {
         number: usize,
         engine: &'a Engine<J, D, H>,
         reads: Option<&'a ReadPool<J>>,
-        passes: &'a PassPool<J>,
+        passes: &'a PassPool<'a, J>,
         rt: &'a R,
         watch: &'a T,
     ) -> Self {

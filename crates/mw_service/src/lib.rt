@@ -7,6 +7,9 @@
 //! that it borrows learns from the note before the request. So a value, a YES and a NO are right at a place in the
 //! tenant's history that is no earlier than what the session has seen, whichever passes it borrows.
 //!
+//! A [`MeteredService`] is a service over another one, which times its requests and counts them. A [`PassPool`] counts its
+//! passes that are in use, and the requests that waited for one.
+//!
 //! `specs/Served` says what a worker answers, `specs/Borrowed` what a borrower answers, and `specs/SessionOrder` that its
 //! replies come in order.
 //!
@@ -17,6 +20,7 @@ mod borrower;
 mod idle_pass;
 mod laws;
 mod locked_passes;
+mod metered;
 mod pass_pool;
 mod read_pool;
 mod served;
@@ -26,6 +30,7 @@ mod worker;
 pub use borrower::Borrower;
 pub use idle_pass::IdlePass;
 pub use laws::replies_are_in_order;
+pub use metered::MeteredService;
 pub use pass_pool::PassPool;
 pub use read_pool::ReadPool;
 pub use watch::FaultWatch;

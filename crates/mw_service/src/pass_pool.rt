@@ -12,29 +12,36 @@ use crate::locked_passes::LockedPasses;
 use crossbeam_channel::{Receiver, Sender};
 use mw_disk::Disk;
 use mw_engine::{Engine, EngineBrand, Hold, Note, Pass};
+use mw_metrics::ServerCounters;
 use mw_report::Figures;
 use mw_words::{Job, Reply};
 use std::alloc::{AllocError, Global};
 use std::sync::Wait;
 
 /// Passes of an engine, which sessions borrow. Who has a pass's ticket takes its lock without waiting; while all tickets
-/// are out, sessions wait for one.
+/// are out, sessions wait for one. If there are counters, they count the passes that are in use and the waits.
 #[derive(Drop)]
-pub struct PassPool<J: EngineBrand> {
+pub struct PassPool<'a, J: EngineBrand> {
     passes: LockedPasses<J>,
     /// The tickets of the passes that are free: their numbers.
     free: Receiver<usize>,
     /// Where tickets are returned.
     returned: Sender<usize>,
+    counters: Option<&'a ServerCounters>,
 }
 
-impl<J: EngineBrand> PassPool<J> {
-    /// Makes a pool of these passes.
+impl<'a, J: EngineBrand> PassPool<'a, J> {
+    /// Makes a pool of these passes, which these counters count.
     ///
     /// # Errors
     ///
     /// [`AllocError`] if memory is out. The passes are dropped.
-    pub fn new<R: Wait>(rt: &R, alloc: Global, passes: Vec<Pass>) -> Result<PassPool<J>, AllocError>
+    pub fn new<R: Wait>(
+        rt: &R,
+        alloc: Global,
+        passes: Vec<Pass>,
+        counters: Option<&'a ServerCounters>,
+    ) -> Result<Self, AllocError>
         requires new { All (IsNew J.identity) passes.items }
         requires some { 0 < vec_len passes }
         ensures { IfOk result (λ pool. vec_len pool.passes.passes ≡ vec_len passes) }
@@ -49,6 +56,7 @@ impl<J: EngineBrand> PassPool<J> {
             passes,
             free,
             returned,
+            counters,
         })
     }
 
@@ -92,14 +100,29 @@ impl<J: EngineBrand> PassPool<J> {
         counted
     }
 
-    /// Waits for a ticket.
+    /// Takes a ticket, and waits for it if none is there. It is counted as in use from then on.
     fn take<R: Wait>(&self, rt: &R) -> usize {
+        let (ticket, waited) = match self.free.try_recv(rt) {
+            Ok(ticket) => (ticket, false),
+            Err(_) => (self.wait(rt), true),
+        };
+        if let Some(counters) = self.counters {
+            counters.record_pass_taken(waited);
+        }
+        ticket
+    }
+
+    /// Waits for a ticket.
+    fn wait<R: Wait>(&self, rt: &R) -> usize {
         // The pool keeps a sender and a receiver, so the channel doesn't end. If it did, all would share the first pass.
         self.free.recv(rt).unwrap_or(0)
     }
 
     /// Returns a ticket. There is room for each.
     fn give_back<R: Wait>(&self, rt: &R, ticket: usize) {
+        if let Some(counters) = self.counters {
+            counters.record_pass_left();
+        }
         let _ = self.returned.send(rt, ticket);
     }
 }

@@ -137,6 +137,12 @@ new s
 mwserve --tenants DIR/tenants --listen unix:
 gives 1 |mwserve: cannot listen;
 mwserve --tenants DIR/tenants --listen unix:DIR/no/s
-gives 1 |mwserve: cannot listen;",
+gives 1 |mwserve: cannot listen;
+mwserve --tenants DIR/tenants --listen unix:DIR/a --http unix:DIR/s
+gives 1 |mwserve: cannot listen;
+new s
+absent a
+mwserve --tenants DIR/tenants --listen unix:DIR/s --http unix:DIR/h
+gives 1 http unix:DIR/h;|mwserve: cannot listen;",
     )
 }

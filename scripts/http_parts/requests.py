@@ -1,0 +1,133 @@
+"""Right, wrong, slow and mutated requests to a server's pages."""
+import random
+import shutil
+import socket
+import subprocess
+import time
+from pathlib import Path
+from typing import Dict, List
+
+from .server import PATIENCE, TYPES, Server, Wrong, answer_of, connected, figures, get, heard, said, same
+
+END = b" HTTP/1.1\r\nHost: a\r\n\r\n"
+LONGEST = 8192
+"""The most bytes of a head."""
+REQUEST_SECONDS, WHOLE_SECONDS = 2, 10
+"""How long a client may take for its request, and for all."""
+WRONG = [
+    (b"POST /" + END, 405), (b"DELETE /metrics" + END, 405), (b"POST /nothing" + END, 404), (b"BREW /" + END, 501),
+    (b"get /" + END, 501), (b"GET /nothing" + END, 404), (b"GET /healthz/" + END, 404), (b"GET //" + END, 404),
+    (b"GET /tenants/a/file" + END, 404), (b"GET /tenants/../file" + END, 404), (b"GET nothing" + END, 400),
+    (b"GET / HTTP/1.1\r\n\r\n", 400), (b"GET / HTTP/1.1\r\nHost: a\r\nHost: b\r\n\r\n", 400), (b"GET / HTTP/2.0\r\nHost: a\r\n\r\n", 400),
+    (b"GET / HTTP/1.1\r\nHost : a\r\n\r\n", 400), (b"GET / HTTP/1.1\r\nHost: a\r\n b\r\n\r\n", 400), (b"\0\1\2\r\n\r\n", 400),
+    (b"GET / HTTP/1.1\r\nHost: a\r\nContent-Length: 1\r\nContent-Length: 2\r\n\r\n", 400),
+    (b"GET /" + b"a" * LONGEST, 414), (b"GET / HTTP/1.1\r\nHost: a\r\nX: " + b"a" * LONGEST, 431),
+]
+"""Requests that are refused, and by which status."""
+SILENT = [b"", b"GET / HTTP/1.1\r\n", b"GET /"]
+"""Requests that are not whole: a client that sends no more after them hears nothing."""
+
+
+def right(server: Server) -> None:
+    """Each page to GET and to HEAD, by each form of its address."""
+    for path, kind in TYPES.items():
+        for target in (path, f"{path}?x=1", f"http://localhost{path}"):
+            answer, head = get(server.pages, target), get(server.pages, target, "HEAD")
+            same((answer.status, head.status), (200, 200), target)
+            same((answer.fields["Content-Type"], head.fields["Content-Type"]), (kind, kind), target)
+    same(get(server.pages, "/healthz").body, b"ok\n", "/healthz")
+    page = get(server.pages, "/").body.decode()
+    for part in ("<td>a</td><td>up</td>", "All tenants are up", "Free slots of the pool"):
+        if part not in page:
+            raise Wrong(f"the status page has no {part!r}")
+    for part in ("<script", "src=", "http://", "https://", "@import"):
+        if part in page:
+            raise Wrong(f"the status page has {part!r}")
+
+
+def by_curl(server: Server) -> None:
+    """The pages by curl, if it is there."""
+    if shutil.which("curl"):
+        words = ["curl", "-sf", "--unix-socket", str(server.pages), "http://localhost/healthz"]
+        same(subprocess.run(words, stdout=subprocess.PIPE, timeout=PATIENCE, check=True).stdout, b"ok\n", "curl")
+
+
+def wrong(server: Server) -> None:
+    """Each wrong request is refused by its status, and what is no whole request is not answered."""
+    for text, status in WRONG:
+        answer = answer_of(said(server.pages, text), not text.startswith(b"HEAD"))
+        same(answer.status, status, repr(text[:60]))
+        same(answer.body, b"", repr(text[:60]))
+        same("Allow" in answer.fields, status == 405, "Allow")
+    for text in SILENT:
+        same(said(server.pages, text), b"", repr(text))
+
+
+def slow(server: Server) -> None:
+    """Clients that are silent or slow are answered 408, others wait for them, and one that takes no answer is closed."""
+    begun = time.monotonic()
+    same(answer_of(said(server.pages, b"GET /", ends=False)).status, 408, "a silent client")
+    silent = time.monotonic() - begun
+    if not REQUEST_SECONDS - 0.5 < silent < REQUEST_SECONDS + 5:
+        raise Wrong(f"a silent client was answered after {silent:.1f} s")
+    with connected(server.pages) as client:
+        for byte in b"GET /metrics HTTP/1.1\r\nHost: a":
+            try:
+                client.sendall(bytes([byte]))
+            except OSError:
+                break
+            time.sleep(0.2)
+        same(answer_of(heard(client)).status, 408, "a slow client")
+    idle = [connected(server.pages) for _ in range(3)]
+    idle[0].sendall(b"GET /metrics" + END)
+    same(get(server.pages, "/healthz").status, 200, "a client behind one that takes no answer and two that are silent")
+    for client in idle:
+        client.close()
+
+
+def mutated(text: bytes, others: List[bytes], rng: random.Random) -> bytes:
+    """A request with some mistakes."""
+    made = bytearray(text)
+    for _ in range(rng.choice((1, 1, 2, 3, 8))):
+        at = rng.randrange(len(made) + 1)
+        kind = rng.randrange(7)
+        if kind == 0 and at < len(made):
+            made[at] = rng.randrange(256)
+        elif kind == 1:
+            made[at:at] = bytes(rng.randrange(256) for _ in range(rng.choice((1, 2, 40))))
+        elif kind == 2:
+            del made[at:at + rng.choice((1, 1, 4, 100))]
+        elif kind == 3:
+            made[at:at] = made[max(0, at - rng.randrange(1, 30)):at]
+        elif kind == 4:
+            made[at:at] = rng.choice((b"\r\n", b"\n", b"\r", b" ", b":", b"\0", b"/../", b"%2e", b"Host: b\r\n", b"HTTP/1.1"))
+        elif kind == 5:
+            del made[at:]
+        else:
+            made[at:] = rng.choice(others)[-rng.randrange(1, 60):]
+    return bytes(made)
+
+
+def fuzz(server: Server, count: int, seed: int) -> Dict[int, int]:
+    """Many mutated requests: each has an answer or none, and nothing else is touched. Gives how many had which status, 0 for none."""
+    rng, found = random.Random(seed), {}
+    bases = [text for text, _ in WRONG if len(text) < 1000] + [f"{method} {path}".encode() + END for method in ("GET", "HEAD") for path in TYPES]
+    bases += [b"GET /metrics HTTP/1.1\r\nHost: localhost:9\r\nUser-Agent: curl/7.88\r\nAccept: */*\r\nConnection: close\r\n\r\n"]
+    before = untouched(server)
+    for number in range(count):
+        text = mutated(rng.choice(bases), bases, rng)
+        got = said(server.pages, text)
+        try:
+            status = answer_of(got, not text.startswith(b"HEAD")).status if got else 0
+        except (Wrong, ValueError, KeyError) as error:
+            raise Wrong(f"mutated request {number} of seed {seed}, {text!r}: {error}") from error
+        found[status] = found.get(status, 0) + 1
+    same(untouched(server), before, "the figures after mutated requests")
+    return found
+
+
+def untouched(server: Server) -> Dict:
+    """The figures, without the time since the start."""
+    found = figures(server.pages)
+    del found["mondlexi_uptime_seconds", ""]
+    return dict(found)

@@ -1,0 +1,141 @@
+"""What a server's figures tell of its clients and its disk."""
+import os
+import socket
+import threading
+import time
+from collections import Counter
+from pathlib import Path
+from typing import Callable, List
+
+from .server import PATIENCE, Client, Server, Wrong, connected, figures, get, heard, room_for, same
+
+YES_CALLS = {"write": 4, "sync": 4}
+"""The calls on its file of a change of one entry that is answered YES, alone."""
+CROWD = 1000
+
+
+def until(holds: Callable[[], bool], what: str) -> None:
+    """Waits until this holds."""
+    for _ in range(PATIENCE * 20):
+        if holds():
+            return
+        time.sleep(0.05)
+    raise Wrong(what)
+
+
+def of_one_client(server: Server) -> None:
+    """The requests of one client, by kind and reply, its device calls, its bytes, and why it was closed."""
+    before = figures(server.pages)
+    client = Client(server.port, "a")
+    for line, reply in (("GET 0", "VAL 0"), ("CAS 0:0:1", "YES"), ("CAS 0:0:1", "NO 0 1"), ("GET 0", "VAL 1"), ("CAS 0:1:0", "YES")):
+        same(client.ask(line), reply, line)
+    same(client.ask("QUIT"), "BYE", "QUIT")
+    client.close()
+    until(lambda: figures(server.pages).of("mondlexi_connections_closed_total", reason="quit") == 1, "the connection is not closed")
+    after = figures(server.pages)
+
+    def grew(metric: str, **labels: str) -> float:
+        return after.of(metric, **labels) - before.of(metric, **labels)
+
+    for kind, reply, count in (("GET", "VAL", 2), ("CAS", "YES", 2), ("CAS", "NO", 1), ("CAS", "BUSY", 0), ("GET", "FAULT", 0)):
+        same(grew("mondlexi_requests_total", tenant="a", kind=kind, reply=reply), count, f"{kind} {reply}")
+        same(grew("mondlexi_requests_total", tenant="b", kind=kind, reply=reply), 0, f"{kind} {reply} of another tenant")
+    same(grew("mondlexi_request_seconds_count", tenant="a", kind="CAS"), 3, "the times of changes")
+    for call, count in YES_CALLS.items():
+        same(grew("mondlexi_device_seconds_count", tenant="a", call=call), 2 * count + 1, f"the times of each {call}")
+        same(grew("mondlexi_device_failures_total", tenant="a", call=call), 0, f"failed calls {call}")
+    if not grew("mondlexi_device_seconds_sum", tenant="a", call="sync") > 0:
+        raise Wrong("syncs took no time")
+    same((grew("mondlexi_received_bytes_total"), grew("mondlexi_sent_bytes_total")), (client.sent, client.received), "bytes")
+    same(grew("mondlexi_connections_total"), 1, "connections")
+    same((after.of("mondlexi_connections_served"), after.of("mondlexi_connections_waiting")), (0, 0), "connections that are left")
+
+
+def full_quota(server: Server) -> None:
+    """Sixteen clients change words of a tenant with a quota of 1: each BUSY, YES and NO is counted."""
+    clients = [Client(server.port, "b") for _ in range(16)]
+
+    def change(number: int) -> None:
+        for turn in range(20):
+            clients[number].ask(f"CAS {number}:{turn % 2}:{(turn + 1) % 2}")
+
+    threads = [threading.Thread(target=change, args=(number,)) for number in range(16)]
+    for thread in threads:
+        thread.start()
+    most = 0
+    while any(thread.is_alive() for thread in threads):
+        most = max(most, figures(server.pages).of("mondlexi_changes_under_way", tenant="b"))
+    for thread in threads:
+        thread.join()
+    replies = Counter(reply for client in clients for reply in client.replies)
+    now = figures(server.pages)
+    for reply in ("YES", "NO", "BUSY"):
+        same(now.of("mondlexi_requests_total", tenant="b", kind="CAS", reply=reply), replies[reply], f"changes answered {reply}")
+    same((most, now.of("mondlexi_quota", tenant="b"), replies["BUSY"] > 0), (1, 1, True), "a full quota")
+    for client in clients:
+        client.close()
+
+
+def many_clients(server: Server, rest: int) -> None:
+    """A thousand clients are served at once, and some more wait; then all end."""
+    crowd = [Client(server.port, "a") for _ in range(CROWD)]
+    waiting = [connected(server.port) for _ in range(rest)]
+    until(lambda: figures(server.pages).of("mondlexi_connections_waiting") == rest, f"not {rest} connections wait")
+    same(figures(server.pages).of("mondlexi_connections_served"), CROWD, "connections that are served")
+    for client in crowd:
+        same(client.ask("GET 1"), "VAL 0", "one of many clients")
+    same(figures(server.pages).of("mondlexi_requests_total", tenant="a", kind="GET", reply="VAL"), CROWD, "requests of many clients")
+    for client in waiting:
+        client.close()
+    for client in crowd:
+        client.close()
+    until(lambda: figures(server.pages).of("mondlexi_connections_served") == 0, "connections are served that have ended")
+    now = figures(server.pages)
+    same(now.of("mondlexi_connections_closed_total", reason="peer_end"), CROWD + rest, "connections that their clients ended")
+    same(now.of("mondlexi_connections_total"), CROWD + rest, "all connections")
+
+
+def closed_for(server: Server) -> None:
+    """Why connections are closed: a line too long, silence, and no session in time."""
+    with connected(server.port) as long:
+        long.sendall(b"x" * 5000)
+        heard(long)
+    with connected(server.port) as silent:
+        heard(silent)
+    served = [Client(server.port, "a") for _ in range(2)]
+    with connected(server.port) as late:
+        heard(late)
+    for client in served:
+        client.file.read()
+    until(lambda: figures(server.pages).of("mondlexi_connections_served") == 0, "connections are served that have ended")
+    now = figures(server.pages)
+    for reason, count in (("too_long", 1), ("read_fault", 3), ("unserved", 1), ("quit", 0), ("write_fault", 0), ("memory", 0)):
+        same(now.of("mondlexi_connections_closed_total", reason=reason), count, f"connections closed, {reason}")
+
+
+def failing_disk(server: Server) -> None:
+    """A write that fails: the tenant is down, and each page says so. The others are up."""
+    client = Client(server.port, "a")
+    same(client.ask("CAS 0:0:1"), "FAULT", "a change on a disk that fails")
+    same(client.ask("CAS 0:0:1"), "FAULT", "a change after that")
+    client.close()
+    now = figures(server.pages)
+    same([now.of("mondlexi_up", tenant=name) for name in "ab"], [0, 1], "the tenants that are up")
+    same(now.of("mondlexi_device_failures_total", tenant="a", call="write"), 1, "failed writes")
+    same(now.of("mondlexi_requests_total", tenant="a", kind="CAS", reply="FAULT"), 2, "requests answered FAULT")
+    health = get(server.pages, "/healthz")
+    same((health.status, health.body), (503, b"down a\n"), "/healthz")
+    page = get(server.pages, "/").body.decode()
+    for part in ("Down: a.", "<td>a</td><td>down</td>", "<td>b</td><td>up</td>"):
+        if part not in page:
+            raise Wrong(f"the status page of a disk that fails has no {part!r}")
+
+
+def the_end(server: Server) -> None:
+    """A server that ends after a connection ends its pages too, also if a client is silent there."""
+    with connected(server.pages) as silent:
+        time.sleep(0.2)
+        Client(server.port, "a").close()
+        assert server.process
+        same(server.process.wait(PATIENCE), 0, "the status of a server that ends")
+        heard(silent)
