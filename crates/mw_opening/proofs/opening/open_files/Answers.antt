@@ -5,13 +5,18 @@ use Rattle.mw_disk.specs.Unknown.{unknown}
 use Rattle.mw_opening.proofs.FilesFitLines.{fit_next, so_many}
 use Rattle.mw_opening.proofs.opening.open_files.Goals as goal
 
-pub of-requires : goal.of-requires
-of-requires g c =
+pub counters_of-counters-requires : goal.counters_of-counters-requires
+counters_of-counters-requires g c =
     let many = so_many (λ disk. unknown disk.faults) c.args.lines.now c.loop-line.line-index c.loop-line.files.items c.loop-line-test.true c.loop-line.invariant in
-    omega (arith, many, c.requires, c.loop-line-test.true)
+    omega (arith, many, c.len-tenant.ensures, c.requires, c.loop-line-test.true)
 
-pub of-requires-in-loop-line : goal.of-requires-in-loop-line
-of-requires-in-loop-line g c =
+pub of-last-requires : goal.of-last-requires
+of-last-requires g c =
+    let many = so_many (λ disk. unknown disk.faults) c.args.lines.now c.loop-line.line-index c.loop-line.files.items c.loop-line-test.true c.loop-line.invariant in
+    omega (arith, many, c.len-tenant.ensures, c.requires, c.loop-line-test.true)
+
+pub of-state-requires : goal.of-state-requires
+of-state-requires g c =
     let many = so_many (λ disk. unknown disk.faults) c.args.lines.now c.loop-line.line-index c.loop-line.files.items c.loop-line-test.true c.loop-line.invariant in
     omega (arith, many, c.len-tenant.ensures, c.requires, c.loop-line-test.true)
 
