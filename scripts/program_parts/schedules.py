@@ -37,7 +37,8 @@ def try_kinds(folder: Path, job: str, kinds: List[str]) -> None:
     named = [f"before 0 {kind}\n{step}" for kind, step in zip(kinds, steps)]
     for body in ("".join(steps), "".join(named)):
         schedule = f"{HEAD}{job}\n{body}step 0\n"
-        same(played(folder, schedule), (3, "", f"line {schedule.count(chr(10))} not enabled\n"), f"the kinds of step of {job}: {' '.join(kinds)}")
+        said = f"line {schedule.count(chr(10))} not enabled\nmwreplay: worker 0 has a reply, which `end 0` hands out\n"
+        same(played(folder, schedule), (3, "", said), f"the kinds of step of {job}: {' '.join(kinds)}")
 
 
 def try_page(folder: Path) -> None:

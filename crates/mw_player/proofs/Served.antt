@@ -17,6 +17,7 @@ use Rattle.mw_schedule.specs.Playable.{IsSchedule}
 use Rattle.mw_player.specs.declared.player.PlayFault.{PlayFault}
 use Rattle.mw_player.specs.declared.player.PlayFault.TheVariants as halt
 use Rattle.mw_player.specs.declared.player.Player.{Player}
+use Rattle.mw_player.specs.declared.reasons.Reason.{Reason}
 use Rattle.mw_player.specs.declared.program.ReplayFault.{ReplayFault}
 use Rattle.mw_player.specs.declared.program.ReplayFault.TheVariants as fault
 use Rattle.mw_player.specs.PlayerSteps.{GoesOn, IsRest, IsSame, ObeysAll, Plays}
@@ -63,18 +64,18 @@ pub no_good_fault : (one : ReplayFault) → status_of one ≢ 0
 no_good_fault fault.CannotRead is = omega (arith, is)
 no_good_fault fault.Memory is = omega (arith, is)
 no_good_fault (fault.Wrong number reason) is = omega (arith, is)
-no_good_fault (fault.NotEnabled number) is = omega (arith, is)
+no_good_fault (fault.NotEnabled number reason) is = omega (arith, is)
 no_good_fault (fault.LastNumber number) is = omega (arith, is)
-no_good_fault (fault.DidNotArrive number) is = omega (arith, is)
+no_good_fault (fault.DidNotArrive number reason) is = omega (arith, is)
 no_good_fault fault.Output is = omega (arith, is)
 
 -- after a line that wasn't played nothing is left to write, except at status 1
-halted_whole : (number : ℕ) (one : PlayFault) → status_of (fault_at number one) ≢ 1 → (rest : List ℕ) → IsRest (Err one) rest → rest ≡ []
-halted_whole number halt.NotEnabled other rest is = is
-halted_whole number halt.LastNumber other rest is = is
-halted_whole number halt.DidNotArrive other rest is = is
-halted_whole number halt.Memory other rest is = is
-halted_whole number halt.Output other rest is = absurd (other refl)
+halted_whole : (number : ℕ) (one : PlayFault) (reason : Reason) → status_of (fault_at number one reason) ≢ 1 → (rest : List ℕ) → IsRest (Err one) rest → rest ≡ []
+halted_whole number halt.NotEnabled reason other rest is = is
+halted_whole number halt.LastNumber reason other rest is = is
+halted_whole number halt.DidNotArrive reason other rest is = is
+halted_whole number halt.Memory reason other rest is = is
+halted_whole number halt.Output reason other rest is = absurd (other refl)
 
 -- The lines of a schedule were played on a new world.
 printed_so : (old new : Player) (a b c : Option (List ℕ)) (schedule : Schedule) (lines : List ScheduleLine) (result : Result (Unit {0}) PlayFault) (status : ℕ)
@@ -92,12 +93,12 @@ prints_whole old new a b c lines x status same plays keeps schedule =
     printed_so old new a b c schedule lines (Ok x) status (λ good P is. is) (λ other rest is. is) same plays keeps
 
 -- They were played up to a line with this number.
-pub prints_halted : (old new : Player) (a b : Option (List ℕ)) (lines : List ScheduleLine) (number : ℕ) (one : PlayFault) (told : ReplayFault)
-    → told ≡ fault_at number one → IsSame old new → Plays old new a b (ObeysAll lines) (Err one) → PrintsAll old lines a b (status_of told)
-prints_halted old new a b lines number one told is same plays schedule is_schedule same_lines same_config stands =
+pub prints_halted : (old new : Player) (a b : Option (List ℕ)) (lines : List ScheduleLine) (number : ℕ) (one : PlayFault) (reason : Reason) (told : ReplayFault)
+    → told ≡ fault_at number one reason → IsSame old new → Plays old new a b (ObeysAll lines) (Err one) → PrintsAll old lines a b (status_of told)
+prints_halted old new a b lines number one reason told is same plays schedule is_schedule same_lines same_config stands =
     subst (λ (other : ReplayFault). Printed old.tells_claims schedule a b (status_of other)) (sym is)
-    (printed_so old new a b b schedule lines (Err one) (status_of (fault_at number one)) (λ good. absurd (no_good_fault (fault_at number one) good))
-    (halted_whole number one) same plays (keeps_same b) is_schedule same_lines same_config stands)
+    (printed_so old new a b b schedule lines (Err one) (status_of (fault_at number one reason)) (λ good. absurd (no_good_fault (fault_at number one reason) good))
+    (halted_whole number one reason) same plays (keeps_same b) is_schedule same_lines same_config stands)
 
 -- So some schedule was played, or none.
 pub may_print : (claims : Bool) (schedule : Schedule) (a b : Option (List ℕ)) (status : ℕ) → IsSchedule schedule → MayPrint claims schedule a b status → Replays claims a b status

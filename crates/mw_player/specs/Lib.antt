@@ -1,3 +1,4 @@
 pub mod Printed
 pub mod PlayerSteps
 pub mod Replayed
+pub mod Reasons

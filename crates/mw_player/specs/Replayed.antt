@@ -15,6 +15,7 @@ use Rattle.mw_schedule.specs.Playable.{IsSchedule}
 use Rattle.mw_player.specs.declared.player.PlayFault.{PlayFault}
 use Rattle.mw_player.specs.declared.player.PlayFault.TheVariants as halt
 use Rattle.mw_player.specs.declared.player.Player.{Player}
+use Rattle.mw_player.specs.declared.reasons.Reason.{Reason}
 use Rattle.mw_player.specs.declared.program.ReplayFault.{ReplayFault}
 use Rattle.mw_player.specs.declared.program.ReplayFault.TheVariants.{CannotRead, Memory, Wrong, NotEnabled, LastNumber, DidNotArrive, Output}
 use Rattle.mw_player.specs.PlayerSteps.{ObeysAll}
@@ -25,21 +26,21 @@ abbrev pub status_of : ReplayFault → ℕ
 status_of CannotRead = 1
 status_of Memory = 1
 status_of (Wrong number reason) = 2
-status_of (NotEnabled number) = 3
+status_of (NotEnabled number reason) = 3
 status_of (LastNumber number) = 5
-status_of (DidNotArrive number) = 4
+status_of (DidNotArrive number reason) = 4
 status_of Output = 1
 
--- the fault of a line with this number that wasn't played
-abbrev pub fault_at : ℕ → PlayFault → ReplayFault
-fault_at number halt.NotEnabled = NotEnabled number
-fault_at number halt.LastNumber = LastNumber number
-fault_at number halt.DidNotArrive = DidNotArrive number
-fault_at number halt.Memory = Memory
-fault_at number halt.Output = Output
+-- the fault of a line with this number that wasn't played, for this reason
+abbrev pub fault_at : ℕ → PlayFault → Reason → ReplayFault
+fault_at number halt.NotEnabled reason = NotEnabled number reason
+fault_at number halt.LastNumber reason = LastNumber number
+fault_at number halt.DidNotArrive reason = DidNotArrive number reason
+fault_at number halt.Memory reason = Memory
+fault_at number halt.Output reason = Output
 
--- how playing lines ended, without the number of the line that wasn't played
-abbrev pub halt_of : Result (Unit {0}) (ℕ × PlayFault) → Result (Unit {0}) PlayFault
+-- how playing lines ended, without the number of the line that wasn't played and the reason
+abbrev pub halt_of : Result (Unit {0}) (ℕ × PlayFault × Reason) → Result (Unit {0}) PlayFault
 halt_of (Ok x) = Ok x
 halt_of (Err stop) = Err stop.1
 

@@ -7,6 +7,9 @@
 mod lines;
 mod player;
 mod program;
+mod reasons;
+mod restarts;
 
 pub use player::{PlayFault, Player};
 pub use program::{replay, replay_args, replay_file, replay_schedule};
+pub use reasons::{Asked, Position, Reason};

@@ -9,9 +9,11 @@ ghost use Rattle.mw_simulator.specs.Events.{IsAfterRun};
 ghost use Rattle.mw_simulator.specs.Representation.{Represents};
 ghost use Rattle.mw_player.specs.PlayerSteps.{AreTurns, IsSame, IsTextOf, Obeys, Plays};
 ghost use Rattle.mw_player.specs.Printed as spec;
+ghost use Rattle.mw_player.specs.Reasons as reasons;
 ghost use Rattle.mw_player.specs.Printed.{text_of, claims_of};
 
 use crate::lines::{claim_line, reply_line, write_whole};
+use crate::reasons::{Asked, Reason, asked_by, reason_for};
 use mw_actor::Actor;
 use mw_look::{Kind, Op};
 use mw_schedule::{Command, StepKind};
@@ -95,6 +97,21 @@ impl Player {
             Command::End(worker) => self.go_to_end(worker, out),
             Command::Restart(stops) => self.happen(Event::Restart(stops), &[], out),
         }
+    }
+
+    /// Tells what a line asks for, for [`Player::reason`].
+    pub fn asked(&self, command: &Command) -> Asked
+        ensures { reasons.IsAsked command.now result }
+    {
+        asked_by(&self.world, command)
+    }
+
+    /// Gives the reason why a line was not played to its end, after [`Player::obey`] gave [`PlayFault::NotEnabled`] or
+    /// [`PlayFault::DidNotArrive`]. `asked` is what [`Player::asked`] told of the line before.
+    pub fn reason(&self, asked: Asked) -> Reason
+        ensures { (state : State) → Represents self.now.world state → result ≡ reasons.reason_in self.now.world.config state asked }
+    {
+        reason_for(&self.world, asked)
     }
 
     /// Makes steps of the worker, at most `most`, until its next step is of this kind. After an error the steps

@@ -8,8 +8,9 @@ ghost use Rattle.mw_player.specs.PlayerSteps.{IsSame, ObeysAll, Plays};
 ghost use Rattle.mw_player.specs.Replayed.{MayPrint, PrintsAll, Replays, fault_at, halt_of, status_after, status_of};
 
 use crate::player::{PlayFault, Player};
+use crate::reasons::Reason;
 use mw_file_command::{AskedFile, FileCommand, FileFault, open_plain};
-use mw_schedule::{Schedule, ScheduleFault, ScheduleLine, read_schedule, wrong_line};
+use mw_schedule::{Schedule, ScheduleFault, ScheduleLine, broken_rule, read_schedule};
 use std::alloc::{AllocError, Global};
 use std::fs::File;
 use std::io::{self, Read, Write};
@@ -28,29 +29,29 @@ enum ReplayFault {
     /// The line with this number is wrong, and none before it. The second line of the text tells what is wrong with it.
     #[error("line {0} wrong\nmwreplay: {1}")]
     Wrong(u64, &'static str),
-    /// What the line with this number says can't happen in this state of the world.
-    #[error("line {0} not enabled")]
-    NotEnabled(u64),
+    /// What the line with this number says can't happen in this state of the world. The second line of the text tells why.
+    #[error("line {0} not enabled\nmwreplay: {1}")]
+    NotEnabled(u64, Reason),
     /// The request of the line with this number would have a number that a world in memory doesn't give.
     #[error("line {0} last number")]
     LastNumber(u64),
-    /// The worker of the line with this number doesn't come to what the line says.
-    #[error("line {0} did not arrive")]
-    DidNotArrive(u64),
+    /// The worker of the line with this number doesn't come to what the line says. The second line of the text tells why.
+    #[error("line {0} did not arrive\nmwreplay: {1}")]
+    DidNotArrive(u64, Reason),
     /// The output takes no more. It has no message.
     #[error("")]
     Output,
 }
 
 impl ReplayFault {
-    /// Makes the fault of a halt at the line with this number.
-    fn at(number: u64, halt: PlayFault) -> Self
-        ensures { result ≡ fault_at number halt }
+    /// Makes the fault of a halt at the line with this number, for this reason.
+    fn at(number: u64, halt: PlayFault, reason: Reason) -> Self
+        ensures { result ≡ fault_at number halt reason }
     {
         match halt {
-            PlayFault::NotEnabled => ReplayFault::NotEnabled(number),
+            PlayFault::NotEnabled => ReplayFault::NotEnabled(number, reason),
             PlayFault::LastNumber => ReplayFault::LastNumber(number),
-            PlayFault::DidNotArrive => ReplayFault::DidNotArrive(number),
+            PlayFault::DidNotArrive => ReplayFault::DidNotArrive(number, reason),
             PlayFault::Memory => ReplayFault::Memory,
             PlayFault::Output => ReplayFault::Output,
         }
@@ -63,8 +64,8 @@ impl ReplayFault {
         match self {
             ReplayFault::CannotRead | ReplayFault::Memory | ReplayFault::Output => 1,
             ReplayFault::Wrong(_, _) => 2,
-            ReplayFault::NotEnabled(_) => 3,
-            ReplayFault::DidNotArrive(_) => 4,
+            ReplayFault::NotEnabled(_, _) => 3,
+            ReplayFault::DidNotArrive(_, _) => 4,
             ReplayFault::LastNumber(_) => 5,
         }
     }
@@ -206,7 +207,7 @@ fn read<I: Read>(alloc: Global, input: &mut I) -> Result<Schedule, ReplayFault>
     match read_schedule(alloc, &text) {
         Ok(schedule) => Ok(schedule),
         Err(ScheduleFault::Wrong(number)) => {
-            Err(ReplayFault::Wrong(number, wrong_line(&text, number)))
+            Err(ReplayFault::Wrong(number, broken_rule(&text, number).broken()))
         }
         Err(ScheduleFault::Memory) => Err(ReplayFault::Memory),
     }
@@ -239,7 +240,7 @@ fn play_on<O: Write>(
 {
     match play_lines(&mut player, lines, out) {
         Ok(()) => flush(out),
-        Err((number, halt)) => Err(ReplayFault::at(number, halt)),
+        Err((number, halt, reason)) => Err(ReplayFault::at(number, halt, reason)),
     }
 }
 
@@ -253,19 +254,20 @@ fn flush<O: Write>(out: &mut O) -> Result<(), ReplayFault>
     }
 }
 
-// Plays lines, one after the other. The error has the number of the line that was not played.
+// Plays lines, one after the other. The error has the number of the line that was not played, and the reason.
 fn play_lines<O: Write>(
     player: &mut Player,
     lines: Vec<ScheduleLine>,
     out: &mut O,
-) -> Result<(), (u64, PlayFault)>
+) -> Result<(), (u64, PlayFault, Reason)>
     ensures same { IsSame player.old player.new }
     ensures plays { Plays player.old player.new (O.contents out.old) (O.contents out.new) (ObeysAll lines.items) (halt_of result) }
 {
     for line in lines {
+        let asked = player.asked(&line.command);
         match player.obey(line.command, out) {
             Ok(()) => {}
-            Err(halt) => return Err((line.number, halt)),
+            Err(halt) => return Err((line.number, halt, player.reason(asked))),
         }
     }
     Ok(())

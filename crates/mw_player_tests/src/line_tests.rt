@@ -8,6 +8,40 @@ pub const HEAD: &str = "pool 3\nworkers 2\ntenant t 2 2\ntenant u 1 1\n";
 /// Lines after [`HEAD`], and what is said about them.
 pub type Lines = (&'static str, &'static str);
 
+/// Texts in which one of the first lines is missing: at their end, or before another line.
+pub fn missing_lines() -> [Lines; 7] {
+    [
+        (
+            "",
+            "line 1 wrong\nmwreplay: the text ends before the line `pool P`, with P from 1 to 256\n",
+        ),
+        (
+            "pool 1\n",
+            "line 2 wrong\nmwreplay: the text ends before the line `workers N`, with N from 1 to 64\n",
+        ),
+        (
+            "pool 1\nworkers 1\n",
+            "line 3 wrong\nmwreplay: the text ends before a line `tenant NAME WORDS QUOTA`, of which there are 1 to 16\n",
+        ),
+        (
+            "pool 1\nworkers 1\nseq 1\n",
+            "line 4 wrong\nmwreplay: the text ends before a line `tenant NAME WORDS QUOTA`, of which there are 1 to 16\n",
+        ),
+        (
+            "pool 1\nworkers 1\ncome 0 t GET 0\n",
+            "line 3 wrong\nmwreplay: a line `tenant NAME WORDS QUOTA` is missing before the line\n",
+        ),
+        (
+            "pool 1\nworkers 1\nseq 1\nold t 0:1\n",
+            "line 4 wrong\nmwreplay: a line `tenant NAME WORDS QUOTA` is missing before the line\n",
+        ),
+        (
+            "pool 1\nworkers 1\nseq 1\nseq 1\n",
+            "line 4 wrong\nmwreplay: the line isn't `seq S` after the workers, with S from 0 to 281474976710654\n",
+        ),
+    ]
+}
+
 /// Lines that are wrong, or leave the schedule wrong.
 pub fn wrong_lines() -> [Lines; 9] {
     [
@@ -95,37 +129,71 @@ pub fn wrong_old_lines() -> [Lines; 9] {
 /// Lines of a worker that is not there, has no request or has one already.
 pub fn workers_not_enabled() -> [Lines; 9] {
     [
-        ("step 0\n", "line 5 not enabled\n"),
-        ("end 0\n", "line 5 not enabled\n"),
-        ("before 0 load\n", "line 5 not enabled\n"),
-        ("to 1 load\n", "line 5 not enabled\n"),
-        ("file 0 good\n", "line 5 not enabled\n"),
-        ("step 2\n", "line 5 not enabled\n"),
-        ("end 63\n", "line 5 not enabled\n"),
-        ("come 2 t GET 0\n", "line 5 not enabled\n"),
-        ("come 0 t GET 0\ncome 0 u GET 0\n", "line 6 not enabled\n"),
+        (
+            "step 0\n",
+            "line 5 not enabled\nmwreplay: worker 0 has no request\n",
+        ),
+        (
+            "end 0\n",
+            "line 5 not enabled\nmwreplay: worker 0 has no request\n",
+        ),
+        (
+            "before 0 load\n",
+            "line 5 not enabled\nmwreplay: worker 0 has no request\n",
+        ),
+        (
+            "to 1 load\n",
+            "line 5 not enabled\nmwreplay: worker 1 has no request\n",
+        ),
+        (
+            "file 0 good\n",
+            "line 5 not enabled\nmwreplay: worker 0 has no request\n",
+        ),
+        (
+            "step 2\n",
+            "line 5 not enabled\nmwreplay: there is no worker 2\n",
+        ),
+        (
+            "end 63\n",
+            "line 5 not enabled\nmwreplay: there is no worker 63\n",
+        ),
+        (
+            "come 2 t GET 0\n",
+            "line 5 not enabled\nmwreplay: there is no worker 2\n",
+        ),
+        (
+            "come 0 t GET 0\ncome 0 u GET 0\n",
+            "line 6 not enabled\nmwreplay: worker 0 has a request, and is at `load`\n",
+        ),
     ]
 }
 
 /// Lines that say another step, or another end of a call, than the worker's next one.
-pub fn steps_not_enabled() -> [Lines; 5] {
+pub fn steps_not_enabled() -> [Lines; 6] {
     [
-        ("come 0 t GET 0\nfile 0 good\n", "line 6 not enabled\n"),
+        (
+            "come 0 t GET 0\nfile 0 good\n",
+            "line 6 not enabled\nmwreplay: worker 0 is at `load`, no call on the file\n",
+        ),
         (
             "come 0 t GET 0\nstep 0\nstep 0\nstep 0\n",
-            "line 8 not enabled\n",
+            "line 8 not enabled\nmwreplay: worker 0 has a reply, which `end 0` hands out\n",
+        ),
+        (
+            "come 0 t GET 0\nstep 0\nstep 0\ncome 0 t GET 0\n",
+            "line 8 not enabled\nmwreplay: worker 0 has a reply, which `end 0` hands out\n",
         ),
         (
             "come 0 t CAS 0:0:1\nbefore 0 prepare\nstep 0\n",
-            "line 7 not enabled\n",
+            "line 7 not enabled\nmwreplay: worker 0 is at `prepare`, a call on the file\n",
         ),
         (
             "come 0 t CAS 0:0:1\nbefore 0 prepare\nfile 0 0\n",
-            "line 7 not enabled\n",
+            "line 7 not enabled\nmwreplay: worker 0 is at `prepare`, which makes no such device call\n",
         ),
         (
             "come 0 t CAS 0:0:1\nbefore 0 prepare\nfile 0 3\n",
-            "line 7 not enabled\n",
+            "line 7 not enabled\nmwreplay: worker 0 is at `prepare`, which makes no such device call\n",
         ),
     ]
 }
@@ -135,19 +203,28 @@ pub fn stops_not_enabled() -> [Lines; 6] {
     [
         (
             "come 0 t CAS 0:0:1\nbefore 0 seal\nrestart t=0,3,\n",
-            "line 7 not enabled\n",
+            "line 7 not enabled\nmwreplay: a call or an opening makes fewer device calls than its item says\n",
         ),
         (
-            "come 0 t CAS 0:0:1\nbefore 0 seal\nrestart u=0,1,\n",
-            "line 7 not enabled\n",
+            "come 0 t CAS 0:0:1\nbefore 0 seal\nrestart t=-,-, u=0,1,\n",
+            "line 7 not enabled\nmwreplay: worker 0 of item 2 is at a call on the file of another tenant\n",
         ),
         (
             "come 0 t CAS 0:0:1\nbefore 0 plant\nrestart t=0,0,\n",
-            "line 7 not enabled\n",
+            "line 7 not enabled\nmwreplay: worker 0 of item 1 is at no call on a file\n",
         ),
-        ("restart t=1,0,\n", "line 5 not enabled\n"),
-        ("restart t=-,-,,0\n", "line 5 not enabled\n"),
-        ("restart t=-,-,,3\n", "line 5 not enabled\n"),
+        (
+            "restart t=1,0,\n",
+            "line 5 not enabled\nmwreplay: worker 1 of item 1 is at no call on a file\n",
+        ),
+        (
+            "restart t=-,-,,0\n",
+            "line 5 not enabled\nmwreplay: a call or an opening makes fewer device calls than its item says\n",
+        ),
+        (
+            "restart t=-,-,,3\n",
+            "line 5 not enabled\nmwreplay: a call or an opening makes fewer device calls than its item says\n",
+        ),
     ]
 }
 
@@ -156,15 +233,15 @@ pub fn lines_without_arrival() -> [Lines; 3] {
     [
         (
             "come 0 t GET 0\nbefore 0 plant\n",
-            "line 6 did not arrive\n",
+            "line 6 did not arrive\nmwreplay: worker 0 has a reply, which `end 0` hands out\n",
         ),
         (
-            "come 0 t CAS 0:0:1\nto 0 cancel\n",
-            "line 6 did not arrive\n",
+            "come 1 t CAS 0:0:1\nto 1 cancel\n",
+            "line 6 did not arrive\nmwreplay: worker 1 has a reply, which `end 1` hands out\n",
         ),
         (
             "come 0 t GET 0\nto 0 load\nto 0 load\nbefore 0 load\n",
-            "line 8 did not arrive\n",
+            "line 8 did not arrive\nmwreplay: worker 0 has a reply, which `end 0` hands out\n",
         ),
     ]
 }

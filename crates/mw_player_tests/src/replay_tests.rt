@@ -4,7 +4,7 @@
 ghost use Rattle.mw_schedule.specs.Playable.{IsSchedule};
 
 use crate::line_tests::{
-    HEAD, lines_without_arrival, steps_not_enabled, stops_not_enabled, workers_not_enabled,
+    HEAD, lines_without_arrival, missing_lines, steps_not_enabled, stops_not_enabled, workers_not_enabled,
     wrong_lines, wrong_old_lines,
 };
 use crate::mistake_tests::of_mistakes;
@@ -220,14 +220,10 @@ fn old_lines_that_are_wrong(rt: HostRuntime) -> Result<(), Fail> {
 
 #[test]
 fn a_first_line_that_is_missing(rt: HostRuntime) -> Result<(), Fail> {
-    let mut input = b"pool 1\nworkers 1\n".as_slice();
-    play(
-        &rt,
-        "no tenant",
-        &mut input,
-        false,
-        (2, "", "line 3 wrong\nmwreplay: the line is missing\n"),
-    )
+    for (text, err) in missing_lines() {
+        play(&rt, text, &mut text.as_bytes(), false, (2, "", err))?;
+    }
+    Ok(())
 }
 
 #[test]
@@ -253,7 +249,8 @@ fn lines_that_do_not_arrive(rt: HostRuntime) -> Result<(), Fail> {
 #[test]
 fn replies_before_a_halt_stay(rt: HostRuntime) -> Result<(), Fail> {
     let lines = "come 0 t GET 0\nend 0\nstep 0\nend 0\n";
-    play_behind_head(&rt, lines, (3, "0 t VAL 0\n", "line 7 not enabled\n"))
+    let err = "line 7 not enabled\nmwreplay: worker 0 has no request\n";
+    play_behind_head(&rt, lines, (3, "0 t VAL 0\n", err))
 }
 
 /// Plays a schedule that was read already.
@@ -316,6 +313,21 @@ fn steps_are_counted(rt: HostRuntime) -> Result<(), Fail> {
         ends,
         [Err(PlayFault::DidNotArrive), Ok(()), Ok(()), Ok(())]
     );
+    Ok(())
+}
+
+/// The kinds of step that a schedule can name.
+const KINDS: &str = "load admit drop claim free pin unpin fill prepare row plant resolve decide-yes decide-no seal release settle cancel clean";
+
+/// A kind is told by the name that a schedule gives it.
+#[test]
+fn names_of_kinds(rt: HostRuntime) -> Result<(), Fail> {
+    for name in KINDS.split(' ') {
+        let Some(kind) = StepKind::named(name.as_bytes()) else {
+            panic!(rt; "no kind {name}");
+        };
+        assert_eq!(rt; kind.name(), name);
+    }
     Ok(())
 }
 

@@ -37,7 +37,7 @@ const QUOTA_AT_RESTART: &str =
 
 /// The same with a third slot, for which the file has no place.
 const NO_PLACE_AT_RESTART: &str =
-    "pool 3/workers 2/tenant t 2 1/come 0 t CAS 0:0:1/to 0 plant/come 1 t CAS 1:0:1/end 1/restart t=-,-,,q3/come 0 t CAS 0:0:1/to 0 plant/come 1 t CAS 1:0:1/end 1/end 0/|1 t BUSY/|line 8 not enabled/";
+    "pool 3/workers 2/tenant t 2 1/come 0 t CAS 0:0:1/to 0 plant/come 1 t CAS 1:0:1/end 1/restart t=-,-,,q3/come 0 t CAS 0:0:1/to 0 plant/come 1 t CAS 1:0:1/end 1/end 0/|1 t BUSY/|line 8 not enabled/mwreplay: item 1 gives a quota that is not 1 to 64, or is above the places of the file/";
 
 #[test]
 fn quota_at_restart(rt: HostRuntime) -> Result<(), Fail> {
@@ -78,20 +78,20 @@ fn quotas_below_what_was_under_way(rt: HostRuntime) -> Result<(), Fail> {
 /// Quotas that no tenant may have or that are above the places of the file or the pool, and openings that
 /// make no such call.
 const NOT_ENABLED: &str = "\
-pool 256/workers 1/tenant t 1 64/restart t=-,-,,q0/||line 4 not enabled/
-pool 256/workers 1/tenant t 1 64/restart t=-,-,,q65/||line 4 not enabled/
-pool 256/workers 1/tenant t 1 64/restart t=-,-,,q256/||line 4 not enabled/
-pool 256/workers 1/tenant t 1 64/restart t=-,-,,q257/||line 4 not enabled/
-pool 256/workers 1/tenant t 1 64/restart t=-,-,,q300/||line 4 not enabled/
-pool 256/workers 1/tenant t 1 64/restart t=-,-,,q18446744073709551617/||line 4 not enabled/
-pool 4/workers 1/tenant t 1 1/restart t=-,-,,2,q3/||line 4 not enabled/
-pool 4/workers 1/tenant t 1 1/restart t=-,-,,3,q2/||line 4 not enabled/
-pool 3/workers 1/tenant t 1 2/tenant u 1 1/restart t=-,-,,q3/||line 5 not enabled/
-pool 3/workers 1/tenant t 1 1/tenant u 1 1/restart t=-,-,,q2 u=-,-,,q2/||line 5 not enabled/
-pool 4/workers 1/tenant t 1 1/old t 0:1/restart t=-,-,,q3/||line 5 not enabled/
-pool 4/workers 1/tenant t 1 1/old t 0:1/restart/restart t=-,-,,q3/||line 6 not enabled/
-pool 1/workers 1/tenant t 1 1/old t 0:1/restart t=-,-,,8/||line 5 not enabled/
-pool 1/workers 1/tenant t 1 1/old t 0:1/restart t=-,-,,7/restart t=-,-,a5,3/||line 6 not enabled/";
+pool 256/workers 1/tenant t 1 64/restart t=-,-,,q0/||line 4 not enabled/mwreplay: item 1 gives a quota that is not 1 to 64, or is above the places of the file/
+pool 256/workers 1/tenant t 1 64/restart t=-,-,,q65/||line 4 not enabled/mwreplay: item 1 gives a quota that is not 1 to 64, or is above the places of the file/
+pool 256/workers 1/tenant t 1 64/restart t=-,-,,q256/||line 4 not enabled/mwreplay: item 1 gives a quota that is not 1 to 64, or is above the places of the file/
+pool 256/workers 1/tenant t 1 64/restart t=-,-,,q257/||line 4 not enabled/mwreplay: item 1 gives a quota that is not 1 to 64, or is above the places of the file/
+pool 256/workers 1/tenant t 1 64/restart t=-,-,,q300/||line 4 not enabled/mwreplay: item 1 gives a quota that is not 1 to 64, or is above the places of the file/
+pool 256/workers 1/tenant t 1 64/restart t=-,-,,q18446744073709551617/||line 4 not enabled/mwreplay: item 1 gives a quota that is not 1 to 64, or is above the places of the file/
+pool 4/workers 1/tenant t 1 1/restart t=-,-,,2,q3/||line 4 not enabled/mwreplay: item 1 gives a quota that is not 1 to 64, or is above the places of the file/
+pool 4/workers 1/tenant t 1 1/restart t=-,-,,3,q2/||line 4 not enabled/mwreplay: a call or an opening makes fewer device calls than its item says/
+pool 3/workers 1/tenant t 1 2/tenant u 1 1/restart t=-,-,,q3/||line 5 not enabled/mwreplay: the quotas after the start are together above the pool/
+pool 3/workers 1/tenant t 1 1/tenant u 1 1/restart t=-,-,,q2 u=-,-,,q2/||line 5 not enabled/mwreplay: the quotas after the start are together above the pool/
+pool 4/workers 1/tenant t 1 1/old t 0:1/restart t=-,-,,q3/||line 5 not enabled/mwreplay: item 1 gives a quota that is not 1 to 64, or is above the places of the file/
+pool 4/workers 1/tenant t 1 1/old t 0:1/restart/restart t=-,-,,q3/||line 6 not enabled/mwreplay: item 1 gives a quota that is not 1 to 64, or is above the places of the file/
+pool 1/workers 1/tenant t 1 1/old t 0:1/restart t=-,-,,8/||line 5 not enabled/mwreplay: a call or an opening makes fewer device calls than its item says/
+pool 1/workers 1/tenant t 1 1/old t 0:1/restart t=-,-,,7/restart t=-,-,a5,3/||line 6 not enabled/mwreplay: a call or an opening makes fewer device calls than its item says/";
 
 #[test]
 fn restarts_that_can_not_happen(rt: HostRuntime) -> Result<(), Fail> {
@@ -156,7 +156,7 @@ pool 256/workers 1/tenant t 1 65/||line 3 wrong/mwreplay: the line isn't `tenant
 pool 63/workers 1/tenant t 1 64/||line 3 wrong/mwreplay: the line isn't `tenant NAME WORDS QUOTA` before all old files and commands, with a new name, 1 to 4096 words and a quota of 1 to 64, all quotas together at most the pool/
 pool 1/workers 1/tenant t 9 1/old t 0:1 1:2 2:3 3:4 4:5 5:6 6:7 7:8 8:9/||line 4 wrong/mwreplay: the line isn't `old NAME A:V ..` before all commands, of a tenant of quota 32 or less that has no such line yet, with 1 to 8 entries, rising addresses and values up to 281474976710655/
 pool 1/workers 1/tenant t 1 1/old t 0:1/old t 0:1/||line 5 wrong/mwreplay: the line isn't `old NAME A:V ..` before all commands, of a tenant of quota 32 or less that has no such line yet, with 1 to 8 entries, rising addresses and values up to 281474976710655/
-pool 1/workers 1/old t 0:1/tenant t 1 1/||line 3 wrong/mwreplay: the line isn't `old NAME A:V ..` before all commands, of a tenant of quota 32 or less that has no such line yet, with 1 to 8 entries, rising addresses and values up to 281474976710655/
+pool 1/workers 1/old t 0:1/tenant t 1 1/||line 3 wrong/mwreplay: a line `tenant NAME WORDS QUOTA` is missing before the line/
 pool 2/workers 1/tenant t 1 1/old t 0:1/tenant u 1 1/||line 5 wrong/mwreplay: the line isn't `tenant NAME WORDS QUOTA` before all old files and commands, with a new name, 1 to 4096 words and a quota of 1 to 64, all quotas together at most the pool/
 pool 2/workers 1/tenant t 1 1/old u 0:1/tenant u 1 1/||line 4 wrong/mwreplay: the line isn't `old NAME A:V ..` before all commands, of a tenant of quota 32 or less that has no such line yet, with 1 to 8 entries, rising addresses and values up to 281474976710655/";
 

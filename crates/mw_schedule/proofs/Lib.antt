@@ -1,2 +1,3 @@
 mod Stops
 mod Tenants
+mod FormLines

@@ -1,4 +1,5 @@
 pub mod Fields
+pub mod Forms
 pub mod Lines
 pub mod Playable
 pub mod Steps

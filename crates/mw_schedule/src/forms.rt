@@ -1,98 +1,192 @@
-//! Tells what is wrong with a line of a schedule: which form it had to have.
+//! Tells which rule the first wrong line of a schedule breaks.
 //!
-//! mw_player tells it after the number of the first wrong line. It decides that text alone, and not which line is
-//! wrong. A new command needs its form here.
+//! mw_player tells it after the line's number. It decides that text alone, and not which line is wrong. A new command
+//! needs its form here and in `specs/Forms`.
+ghost use Rattle.std.specs.Prelude.{◌≡◌};
+ghost use Rattle.mw_schedule.specs.Forms as spec;
 
-use crate::fields::item_at;
+use crate::first_words::form_of;
+use mw_line::field;
 
-/// The form of the lines that begin with a word.
-#[derive(Clone, Copy)]
-struct LineForm {
-    /// The word.
-    word: &'static str,
-    /// What is wrong with a line of this word that hasn't the form, with the form and its limits.
-    wrong: &'static str,
+/// A form that lines of a schedule have, named by its first word.
+#[derive(Clone, Copy, Debug)]
+pub enum LineForm {
+    /// The first line.
+    Pool,
+    /// The second line.
+    Workers,
+    /// The number under which each slot is used first.
+    Seq,
+    /// A tenant.
+    Tenant,
+    /// A tenant's old file.
+    Old,
+    /// A worker begins a request.
+    Come,
+    /// A worker makes its next step.
+    Step,
+    /// A worker makes a call on the file.
+    File,
+    /// A worker goes on until its next step is of a kind.
+    Before,
+    /// A worker goes on until it has made a step of a kind.
+    To,
+    /// A worker goes on until it has a reply.
+    End,
+    /// All stops and starts again.
+    Restart,
 }
 
-/// The form of the first line.
-const POOL: &str = "the line isn't `pool P`, with P from 1 to 256";
-
-/// The form of the second line.
-const WORKERS: &str = "the line isn't `workers N`, with N from 1 to 64";
-
-/// The forms of all other lines.
-const FORMS: [LineForm; 10] = [
-    LineForm {
-        word: "seq",
-        wrong: "the line isn't `seq S` behind the workers, with S from 0 to 281474976710654",
-    },
-    LineForm {
-        word: "tenant",
-        wrong: "the line isn't `tenant NAME WORDS QUOTA` before all old files and commands, with a new name, 1 to 4096 words and a quota of 1 to 64, all quotas together at most the pool",
-    },
-    LineForm {
-        word: "old",
-        wrong: "the line isn't `old NAME A:V ..` before all commands, of a tenant of quota 32 or less that has no such line yet, with 1 to 8 entries, rising addresses and values up to 281474976710655",
-    },
-    LineForm {
-        word: "come",
-        wrong: "the line isn't `come W NAME JOB`, with W from 0 to 63 and a job that the tenant may ask",
-    },
-    LineForm {
-        word: "step",
-        wrong: "the line isn't `step W`, with W from 0 to 63",
-    },
-    LineForm {
-        word: "file",
-        wrong: "the line isn't `file W good` or `file W K`, with W from 0 to 63 and a number K",
-    },
-    LineForm {
-        word: "before",
-        wrong: "the line isn't `before W KIND`, with W from 0 to 63 and a kind of step",
-    },
-    LineForm {
-        word: "to",
-        wrong: "the line isn't `to W KIND`, with W from 0 to 63 and a kind of step",
-    },
-    LineForm {
-        word: "end",
-        wrong: "the line isn't `end W`, with W from 0 to 63",
-    },
-    LineForm {
-        word: "restart",
-        wrong: "the line isn't `restart ITEM ..`, each item NAME=W,K,HEX or NAME=W,K,HEX,F, perhaps with ,qN, and no tenant twice",
-    },
-];
-
-/// Tells what is wrong with the line of this number, if it is the first wrong one of a text: that it is missing, has no
-/// line feed, or hasn't the form of the lines at its place or of its first word. Lines are numbered from 1.
-pub fn wrong_line(text: &[u8], number: u64) -> &'static str {
-    let mut lines = text.split_inclusive(|byte| *byte == b'\n');
-    match lines.nth((number as usize).saturating_sub(1)) {
-        None => "the line is missing",
-        Some(line) => match line.strip_suffix(b"\n") {
-            None => "the line has no line feed at its end",
-            Some(line) => wrong_at(line, number),
-        },
-    }
-}
-
-// Tells what is wrong with a line without its line feed, at this place.
-fn wrong_at(line: &[u8], number: u64) -> &'static str {
-    match number {
-        1 => POOL,
-        2 => WORKERS,
-        _ => wrong_form(line),
-    }
-}
-
-// Tells what is wrong with a line behind the first two.
-fn wrong_form(line: &[u8]) -> &'static str {
-    let (word, _) = item_at(line);
-    for form in FORMS {
-        if form.word.as_bytes() == word {
-            return form.wrong;
+impl LineForm {
+    /// Gives what is wrong with a line that hasn't the form, as it is told after the line's number.
+    pub fn broken(self) -> &'static str {
+        match self {
+            LineForm::Pool | LineForm::Workers | LineForm::Seq => self.number_broken(),
+            LineForm::Tenant => {
+                "the line isn't `tenant NAME WORDS QUOTA` before all old files and commands, with a new name, 1 to 4096 words and a quota of 1 to 64, all quotas together at most the pool"
+            }
+            LineForm::Old => {
+                "the line isn't `old NAME A:V ..` before all commands, of a tenant of quota 32 or less that has no such line yet, with 1 to 8 entries, rising addresses and values up to 281474976710655"
+            }
+            LineForm::Restart => {
+                "the line isn't `restart ITEM ..`, each item NAME=W,K,HEX or NAME=W,K,HEX,F, perhaps with ,qN, and no tenant twice"
+            }
+            _ => self.command_broken(),
         }
     }
-    "the line begins with no word of such a line"
+
+    // Gives the same for a form with a number alone.
+    fn number_broken(self) -> &'static str {
+        match self {
+            LineForm::Pool => "the line isn't `pool P`, with P from 1 to 256",
+            LineForm::Workers => "the line isn't `workers N`, with N from 1 to 64",
+            _ => "the line isn't `seq S` after the workers, with S from 0 to 281474976710654",
+        }
+    }
+
+    // Gives the same for a form with a worker.
+    fn command_broken(self) -> &'static str {
+        match self {
+            LineForm::Come => {
+                "the line isn't `come W NAME JOB`, with W from 0 to 63 and a job that the tenant may ask"
+            }
+            LineForm::Step => "the line isn't `step W`, with W from 0 to 63",
+            LineForm::File => {
+                "the line isn't `file W good` or `file W K`, with W from 0 to 63 and a number K"
+            }
+            LineForm::Before => {
+                "the line isn't `before W KIND`, with W from 0 to 63 and a kind of step"
+            }
+            LineForm::To => "the line isn't `to W KIND`, with W from 0 to 63 and a kind of step",
+            _ => "the line isn't `end W`, with W from 0 to 63",
+        }
+    }
+}
+
+/// A rule that the first wrong line of a schedule breaks.
+#[derive(Clone, Copy, Debug)]
+pub enum LineRule {
+    /// The text doesn't end before `pool P`, the first line.
+    HasPool,
+    /// The text doesn't end before `workers N`, the second line.
+    HasWorkers,
+    /// The text doesn't end before the first tenant.
+    HasTenant,
+    /// The line ends with a line feed.
+    LineFeed,
+    /// The first tenant comes before all old files and commands.
+    TenantFirst,
+    /// The line begins with a word of such a line.
+    Word,
+    /// The line has the form of the lines at its place or of its first word.
+    Form(LineForm),
+}
+
+impl LineRule {
+    /// Gives what is wrong with a line that breaks the rule, as it is told after the line's number.
+    pub fn broken(self) -> &'static str {
+        match self {
+            LineRule::HasPool => "the text ends before the line `pool P`, with P from 1 to 256",
+            LineRule::HasWorkers => {
+                "the text ends before the line `workers N`, with N from 1 to 64"
+            }
+            LineRule::HasTenant => {
+                "the text ends before a line `tenant NAME WORDS QUOTA`, of which there are 1 to 16"
+            }
+            LineRule::LineFeed => "the line has no line feed at its end",
+            LineRule::TenantFirst => {
+                "a line `tenant NAME WORDS QUOTA` is missing before the line"
+            }
+            LineRule::Word => "the line begins with no word of such a line",
+            LineRule::Form(form) => form.broken(),
+        }
+    }
+}
+
+/// Gives the rule that the line of this number breaks, if it is the first wrong one of a text. Lines are numbered
+/// from 1.
+pub fn broken_rule(text: &[u8], number: u64) -> LineRule
+    ensures { result ≡ spec.broken_rule text.now number }
+{
+    let rest = from_line(text, number);
+    match field(b'\n', rest) {
+        Some((line, _)) => match number {
+            1 => LineRule::Form(LineForm::Pool),
+            2 => LineRule::Form(LineForm::Workers),
+            _ => rule_of_word(line, is_before_tenants(text, number)),
+        },
+        None if rest.is_empty() => missing_at(number),
+        None => LineRule::LineFeed,
+    }
+}
+
+// Gives the rule for a text that ends before the line of this number.
+fn missing_at(number: u64) -> LineRule
+    ensures { result ≡ spec.missing_at number }
+{
+    match number {
+        1 => LineRule::HasPool,
+        2 => LineRule::HasWorkers,
+        _ => LineRule::HasTenant,
+    }
+}
+
+// Gives the rule that a line after the first two breaks. `early` tells whether no tenant comes before it.
+fn rule_of_word(line: &[u8], early: bool) -> LineRule
+    ensures { result ≡ spec.rule_of early (spec.form_of (spec.first_word line.now)) }
+{
+    match form_of(line) {
+        None => LineRule::Word,
+        Some(LineForm::Seq) => LineRule::Form(LineForm::Seq),
+        Some(LineForm::Tenant) => LineRule::Form(LineForm::Tenant),
+        Some(_) if early => LineRule::TenantFirst,
+        Some(form) => LineRule::Form(form),
+    }
+}
+
+// Tells whether no line before the one of this number is a tenant's, if all of these are right.
+fn is_before_tenants(text: &[u8], number: u64) -> bool
+    ensures { result ≡ spec.is_before_tenants text.now number }
+{
+    match number {
+        3 => true,
+        4 => matches!(form_of(from_line(text, 3)), Some(LineForm::Seq)),
+        _ => false,
+    }
+}
+
+// Gives the bytes of a text from the line of this number on.
+fn from_line(text: &[u8], number: u64) -> &[u8]
+    ensures { result.now ≡ spec.from_line number text.now }
+{
+    let mut rest = text;
+    let mut at = 1;
+    while at < number {
+        rest = match field(b'\n', rest) {
+            Some((_, after)) => after,
+            None => return &[],
+        };
+        at += 1;
+    }
+    rest
 }

@@ -7,6 +7,7 @@
 mod commands;
 mod config;
 mod fields;
+mod first_words;
 mod forms;
 mod lines;
 mod olds;
@@ -16,7 +17,7 @@ mod restarts;
 mod schedule;
 mod steps;
 
-pub use forms::wrong_line;
+pub use forms::{LineForm, LineRule, broken_rule};
 pub use reader::read_schedule;
 pub use schedule::{Command, Schedule, ScheduleFault, ScheduleLine};
 pub use steps::StepKind;

@@ -6,6 +6,7 @@ ghost use Rattle.std.specs.Prelude.{◌≡◌};
 ghost use Rattle.mw_schedule.specs.Steps as spec;
 
 use mw_look::{Call, Kind, Op};
+use std::fmt::{self, Display, Formatter, Write};
 
 /// A kind of step that a worker makes by itself.
 #[derive(Clone, Copy, Debug, PartialEq, Eq)]
@@ -30,6 +31,15 @@ impl StepKind {
         }
     }
 
+    /// Returns its name. A change that ends a call on the file has the name of the call.
+    pub fn name(self) -> &'static str {
+        match self {
+            StepKind::Load => "load",
+            StepKind::Change(kind) => change_name(kind),
+            StepKind::File(call) => call_name(call),
+        }
+    }
+
     /// Returns the kind with this name. The changes that end a call on the file have no name: they are made
     /// with the call.
     pub fn named(name: &[u8]) -> Option<StepKind> {
@@ -39,6 +49,61 @@ impl StepKind {
                 .map(StepKind::Change)
                 .or(call_named(name).map(StepKind::File)),
         }
+    }
+}
+
+impl Display for StepKind {
+    fn fmt<W: Write>(&self, f: &mut Formatter<W>) -> Result<(), fmt::Error> {
+        f.write_str(self.name())
+    }
+}
+
+// Returns the name of a change.
+fn change_name(kind: Kind) -> &'static str {
+    match kind {
+        Kind::Admit => "admit",
+        Kind::Claim => "claim",
+        Kind::Pin => "pin",
+        Kind::Unpin => "unpin",
+        Kind::Free => "free",
+        Kind::Drop => "drop",
+        _ => slot_change_name(kind),
+    }
+}
+
+// Returns the name of a change of a slot, a row, a status or a tenant's word.
+fn slot_change_name(kind: Kind) -> &'static str {
+    match kind {
+        Kind::Fill => "fill",
+        Kind::Row => "row",
+        Kind::DecideYes => "decide-yes",
+        Kind::DecideNo => "decide-no",
+        Kind::Plant => "plant",
+        Kind::Resolve => "resolve",
+        Kind::Release => "release",
+        Kind::Clean => "clean",
+        _ => end_name(kind),
+    }
+}
+
+// Returns the name of the call that a change ends.
+fn end_name(kind: Kind) -> &'static str {
+    match kind {
+        Kind::Ready => "prepare",
+        Kind::Seal => "seal",
+        Kind::Settle => "settle",
+        Kind::Cancel => "cancel",
+        _ => "fault",
+    }
+}
+
+// Returns the name of a call on the file.
+fn call_name(call: Call) -> &'static str {
+    match call {
+        Call::Prepare => "prepare",
+        Call::Seal => "seal",
+        Call::Settle => "settle",
+        Call::Cancel => "cancel",
     }
 }
 

@@ -13,5 +13,5 @@ returns-in-Ok g c =
 pub returns : goal.returns
 returns g c =
     let W = g.O.Write.contents in
-    prints_halted c.args.player c.play_lines.new.player (W c.args.out.now) (W c.play_lines.new.out) c.args.lines.items c.in-Err.number c.in-Err.halt c.at.result
+    prints_halted c.args.player c.play_lines.new.player (W c.args.out.now) (W c.play_lines.new.out) c.args.lines.items c.in-Err.number c.in-Err.halt c.in-Err.reason c.at.result
     c.at.ensures c.in-Err.ensures.same c.in-Err.ensures.plays
