@@ -3,8 +3,8 @@
 //! Used by: `reasons`. It decides the text of a reason alone.
 
 use crate::reasons::{Position, Reason, position_of};
-use mw_simulator::World;
 use mw_schedule::StepKind;
+use mw_simulator::World;
 use mw_words::MAX_QUOTA;
 use mw_world::{Interrupted, Stop};
 
@@ -26,7 +26,10 @@ pub fn restart_reason(world: &World, stops: &[Stop]) -> Reason {
 // Tells whether a stop gives no quota, or one that its tenant may have: 1 to `MAX_QUOTA`, and at most the places of
 // its file.
 fn has_quota(world: &World, stop: &Stop) -> bool {
-    match (stop.quota, world.tenant_states().get(usize::from(stop.tenant))) {
+    match (
+        stop.quota,
+        world.tenant_states().get(usize::from(stop.tenant)),
+    ) {
         (Some(quota), Some(tenant_state)) => {
             (1..=MAX_QUOTA).contains(&quota) && u16::from(quota) <= tenant_state.book.file_places()
         }

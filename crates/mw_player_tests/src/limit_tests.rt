@@ -77,7 +77,8 @@ fn play_chain<R: Abort + AllocGlobal>(
 #[test]
 fn steps_to_a_reply(rt: HostRuntime) -> Result<(), Fail> {
     play_chain(&rt, 45, "end 0\n", (0, "0 t YES\n", ""))?;
-    let late = "line 83 did not arrive\nmwreplay: worker 0 does not come there in 10000 steps, and is at `drop`\n";
+    let late =
+        "line 83 did not arrive\nmwreplay: worker 0 does not come there in 10000 steps, and is at `drop`\n";
     play_chain(&rt, 44, "end 0\n", (4, "", late))
 }
 
@@ -85,7 +86,8 @@ fn steps_to_a_reply(rt: HostRuntime) -> Result<(), Fail> {
 #[test]
 fn steps_past_a_kind(rt: HostRuntime) -> Result<(), Fail> {
     play_chain(&rt, 45, "to 0 drop\nend 0\n", (0, "0 t YES\n", ""))?;
-    let late = "line 83 did not arrive\nmwreplay: worker 0 does not come there in 10000 steps, and is at `free`\n";
+    let late =
+        "line 83 did not arrive\nmwreplay: worker 0 does not come there in 10000 steps, and is at `free`\n";
     play_chain(&rt, 44, "to 0 drop\nend 0\n", (4, "", late))
 }
 
@@ -93,6 +95,7 @@ fn steps_past_a_kind(rt: HostRuntime) -> Result<(), Fail> {
 #[test]
 fn steps_before_a_kind(rt: HostRuntime) -> Result<(), Fail> {
     play_chain(&rt, 44, "before 0 drop\nend 0\n", (0, "0 t YES\n", ""))?;
-    let late = "line 82 did not arrive\nmwreplay: worker 0 does not come there in 10000 steps, and is at `free`\n";
+    let late =
+        "line 82 did not arrive\nmwreplay: worker 0 does not come there in 10000 steps, and is at `free`\n";
     play_chain(&rt, 43, "before 0 drop\nend 0\n", (4, "", late))
 }

@@ -4,8 +4,8 @@
 ghost use Rattle.mw_schedule.specs.Playable.{IsSchedule};
 
 use crate::line_tests::{
-    HEAD, lines_without_arrival, missing_lines, steps_not_enabled, stops_not_enabled, workers_not_enabled,
-    wrong_lines, wrong_old_lines,
+    HEAD, lines_without_arrival, missing_lines, steps_not_enabled, stops_not_enabled,
+    workers_not_enabled, wrong_lines, wrong_old_lines,
 };
 use crate::mistake_tests::of_mistakes;
 use crate::schedule_tests::{
@@ -317,7 +317,8 @@ fn steps_are_counted(rt: HostRuntime) -> Result<(), Fail> {
 }
 
 /// The kinds of step that a schedule can name.
-const KINDS: &str = "load admit drop claim free pin unpin fill prepare row plant resolve decide-yes decide-no seal release settle cancel clean";
+const KINDS: &str =
+    "load admit drop claim free pin unpin fill prepare row plant resolve decide-yes decide-no seal release settle cancel clean";
 
 /// A kind is told by the name that a schedule gives it.
 #[test]
