@@ -22,3 +22,4 @@ pub mod SettledFiles
 pub mod SharedSettles
 pub mod TakenCounts
 pub mod OneWrite
+pub mod OnlyRead

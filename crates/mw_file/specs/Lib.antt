@@ -1,3 +1,4 @@
+pub mod Copies
 pub mod DeviceCalls
 pub mod Reopenings
 pub mod File

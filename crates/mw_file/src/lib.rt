@@ -26,6 +26,7 @@
 #![tactic(auto)]
 
 mod calls;
+mod copies;
 mod laws;
 mod memory;
 mod migration;
@@ -35,6 +36,7 @@ mod place_states;
 mod roll;
 mod tenant_file;
 
+pub use copies::CopyFault;
 pub use laws::{
     crash_in_an_opening, crash_of_a_file, one_sealed_place_settles_alone, places_are_counted,
     the_device_fails_where_it_is_told,

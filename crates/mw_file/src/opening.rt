@@ -147,7 +147,7 @@ fn free_states(alloc: Global) -> Result<Vec<PlaceState>, AllocError>
 }
 
 /// Reads the first bytes of the disk. It makes no device call if there are none to read.
-fn read_front<D: Disk>(disk: &mut D, bytes: &mut [u8]) -> Result<(), DiskFault>
+pub(crate) fn read_front<D: Disk>(disk: &mut D, bytes: &mut [u8]) -> Result<(), DiskFault>
     requires within { IsTrue (D.facts disk.old).honest → length bytes.old ≤ length (D.facts disk.old).reads }
     ensures calls { Ran (min 1 (length bytes.old)) (D.facts disk.old) (D.facts disk.new) result }
     ensures later { Later (D.facts disk.old) (D.facts disk.new) }
