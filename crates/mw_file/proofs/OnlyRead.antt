@@ -1,7 +1,7 @@
 -- A file that was only read recovers to the words to which it recovered, and its first bytes are a file of these words.
 -- Used by: the proof of TenantFile::copy_bytes, and mw_book. Its statements may change with mw_book; its proofs may change
 -- freely.
-use Rattle.std.proofs.Common.{◌≡◌, ℕ, false, List, length, take, is_none, Option, Some, None, Result, Ok, Err, Vec, if◌then◌else◌, IsTrue, refl, sym, ap, ◌∙◌, subst}
+use Rattle.std.proofs.Common.{◌≡◌, ℕ, false, List, length, take, is_none, Option, Some, None, Result, Ok, Err, Vec, if◌then◌else◌, refl, sym, ◌∙◌, subst}
 use Rattle.std.specs.declared.alloc.Global.{Global}
 use Rattle.mw_disk.specs.Facts.{Facts}
 use Rattle.mw_disk.specs.Runs.{Touched, LeavesOnly}
@@ -9,7 +9,7 @@ use Rattle.mw_disk.proofs.RunLaws.{leaves_touched, leaves_now, later_refl, touch
 use Rattle.mw_record.specs.declared.damages.Damage.{Damage}
 use Rattle.mw_record.specs.declared.layout.TheConstants.{MAX_FILE}
 use Rattle.mw_record.specs.Records.{Pairs}
-use Rattle.mw_record.specs.Damages.{damage_of, file_words, places_of, words_in}
+use Rattle.mw_record.specs.Damages.{damage_of, words_in}
 use Rattle.mw_record.proofs.FirstBytes.{file_words_first, places_of_first}
 use Rattle.mw_file.specs.declared.place_states.PlaceState.{PlaceState}
 use Rattle.mw_file.specs.declared.tenant_file.TenantFile.{TenantFile}
@@ -18,10 +18,10 @@ use Rattle.mw_file.specs.declared.copies.CopyFault.TheVariants.{Failed, Disk, Me
 use Rattle.mw_file.specs.Copies.{FrontEnds, CopyEnds, IsOnlyRead}
 use Rattle.mw_file.specs.File.{disk_of, at_of, words_of as number_of, states_of, has_failed}
 use Rattle.mw_file.specs.OpeningEnds.{front}
-use Rattle.mw_file.specs.RecoveryInvariant.{IsFile, IsBeforeOrAfter, RecoversTo, CrashSafe, ContentsStay}
+use Rattle.mw_file.specs.RecoveryInvariant.{IsFile, IsBeforeOrAfter, RecoversTo, ContentsStay}
 use Rattle.mw_file.specs.RollForward.{Nowhere}
 use Rattle.mw_file.specs.Stores.{Stores, IsDurable}
-use Rattle.mw_file.proofs.Opened.{reads_stay, rest_stays}
+use Rattle.mw_file.proofs.Opened.{rest_stays}
 use Rattle.mw_file.proofs.Parts.{same_all}
 use Rattle.mw_file.proofs.Safety.{durable_as}
 
