@@ -1,23 +1,21 @@
 -- What is true of the places of a file after several changes were prepared together, perhaps beside a seal or a settle.
 -- Used by: mw_book, RecordWrites, the proofs of set_prepared, prepare_at, seal, seal_with, settle_all and one_sealed_place_settles_alone.
 -- Its statements may change with mw_book; its proofs may change freely.
-use Rattle.std.proofs.Common.{◌≡◌, ◌≢◌, ◌⊎◌, ℕ, ◌<◌, ◌+◌, ◌==◌, List, [], ◌∷◌, ◌++◌, length, drop, slice_set, get_or, take, if◌then◌else◌, refl, sym, ap, ◌∙◌, inl, inr, arith, subst, Some, All, IsTrue}
+use Rattle.std.proofs.Common.{◌≡◌, ◌≢◌, ◌⊎◌, ℕ, ◌<◌, ◌+◌, ◌==◌, List, [], ◌∷◌, ◌++◌, length, drop, slice_set, get_or, take, refl, sym, ap, ◌∙◌, inl, inr, arith, subst, Some, All, IsTrue}
 use Rattle.std.specs.List.{Contains, AllPairs}
 use Rattle.std.proofs.lemmas.Bool.{cases_eq, eq-eqb, ne_eqb, cond-true, cond-false}
 use Rattle.std.proofs.lemmas.List.{get_or-take, get_or_default, take_more, length-take-le}
 use Rattle.std.proofs.lemmas.List.Elements.{All-nil, All-cons, All-push, All-pop, All-contains, Contains-append_right}
 use Rattle.mw_words.specs.Change.{is_change}
 use Rattle.mw_disk.specs.Facts.{Facts}
-use Rattle.mw_record.specs.declared.layout.Layout.TheVariants.{Second}
 use Rattle.mw_record.specs.Layout.{pairs_of}
 use Rattle.mw_record.specs.Contents.{HasSecond}
 use Rattle.mw_file.specs.declared.new_changes.NewChange.{NewChange}
 use Rattle.mw_file.specs.declared.place_states.PlaceState.{PlaceState}
-use Rattle.mw_file.specs.declared.place_states.Stage.{Stage}
 use Rattle.mw_file.specs.declared.place_states.Stage.TheVariants.{Free, Prepared, Sealed}
 use Rattle.mw_file.specs.PlaceStates.{stage_of, writes_of_place, IsStaged, AreFreed}
 use Rattle.mw_file.specs.Stores.{IsWritten, IsDurable}
-use Rattle.mw_file.specs.NewChanges.{MayPrepare, IsNoPlaceOf, ArePreparedBeside, ArePrepared, IsSealedWith, AreSettledWith, IsDurableWith}
+use Rattle.mw_file.specs.NewChanges.{MayPrepare, IsNoPlaceOf, ArePrepared, IsSealedWith, AreSettledWith, IsDurableWith}
 use Rattle.mw_file.proofs.Bytes.{placed_as}
 use Rattle.mw_file.proofs.Places.{staged}
 

@@ -4,7 +4,7 @@ use Rattle.std.proofs.Common.{◌≡◌, ℕ, ◌+◌, ◌<◌, ◌≤◌, Bool,
 use Rattle.std.proofs.lemmas.List.{take-append-le, take_all, get_or-take, get_or-drop, length-take}
 use Rattle.std.proofs.lemmas.Bool.{cases_lt, cases_Bool}
 use Rattle.mw_disk.specs.Facts.{Facts, IsSynced}
-use Rattle.mw_disk.specs.Runs.{SameBut, Later, Touched, LeavesOnly}
+use Rattle.mw_disk.specs.Runs.{Later, Touched, LeavesOnly}
 use Rattle.mw_disk.proofs.RunLaws.{leaves, leaves_more, leaves_wider, touched_trans, touched_wider, still_honest}
 use Rattle.mw_record.specs.declared.layout.Layout.{Layout}
 use Rattle.mw_record.specs.declared.layout.Layout.TheVariants.{First, Second}

@@ -1,34 +1,31 @@
 -- While records are written into free places, whatever a crash leaves is a file of the same words. After them a seal or a roll
 -- forward keeps its promises, and its sync covers the records.
 -- Used by: the proofs of prepare_all, seal_with, settle_all, write_records, sync_records, sync_commit and sync_rolled. It may change freely as long as this crate checks.
-use Rattle.std.proofs.Common.{◌≡◌, ◌≢◌, ℕ, ◌+◌, ◌<◌, ◌≤◌, Bool, true, List, [], ◌∷◌, ◌++◌, length, drop, take, get_or, map, IsTrue, All, refl, sym, ap, ◌∙◌, inl, inr, arith, subst}
-use Rattle.std.proofs.lemmas.Bool.{cases_lt}
-use Rattle.std.proofs.lemmas.List.{take_more, drop_more, drop_all}
+use Rattle.std.proofs.Common.{◌≡◌, ℕ, ◌+◌, ◌<◌, ◌≤◌, Bool, true, List, [], ◌∷◌, ◌++◌, length, drop, take, get_or, IsTrue, All, refl, sym, ap, ◌∙◌, inl, arith, subst}
+use Rattle.std.proofs.lemmas.List.{drop_more, drop_all}
 use Rattle.std.proofs.lemmas.List.Elements.{All-more, All-take}
-use Rattle.mw_words.specs.declared.jobs.Entry.{Entry}
 use Rattle.mw_words.specs.Change.{is_change}
-use Rattle.mw_disk.specs.DeviceCalls.{DeviceCall, WriteAt, Makes}
-use Rattle.mw_disk.specs.Facts.{Facts, IsSynced, MayLeave, Called, NothingNew, TearsAt, Torn, patched}
+use Rattle.mw_disk.specs.DeviceCalls.{WriteAt, Makes}
+use Rattle.mw_disk.specs.Facts.{Facts, IsSynced, Called, NothingNew, TearsAt, Torn, patched}
 use Rattle.mw_disk.specs.Runs.{SameBut, Touched, Fits, LeavesOnly}
 use Rattle.mw_disk.proofs.MakesLaws.{Made, makes_one}
 use Rattle.mw_disk.proofs.RunLaws.{touched_none, touched_trans, touched_write, touched_quiet, leaves_touched, leaves_same, leaves_more, leaves_wider}
 use Rattle.mw_record.specs.declared.layout.TheConstants.{BODY_SIZE, COMMITTED}
 use Rattle.mw_record.specs.declared.layout.Layout.TheVariants.{Second}
 use Rattle.mw_record.specs.Layout.{place_at, body, pairs_of}
-use Rattle.mw_record.specs.Records.{Pairs, put_pairs}
+use Rattle.mw_record.specs.Records.{put_pairs}
 use Rattle.mw_record.specs.Contents.{HasSecond}
 use Rattle.mw_record.proofs.ReadAgain.{length_of_change}
 use Rattle.mw_record.proofs.Writes.{length-body}
 use Rattle.mw_file.specs.declared.new_changes.NewChange.{NewChange}
 use Rattle.mw_file.specs.declared.place_states.PlaceState.{PlaceState}
-use Rattle.mw_file.specs.declared.place_states.Stage.{Stage}
 use Rattle.mw_file.specs.declared.place_states.Stage.TheVariants.{Free, Prepared, Sealed}
 use Rattle.mw_file.specs.PlaceStates.{stage_of, writes_of_place, IsStaged, AreFreed, MaySeal}
 use Rattle.mw_file.specs.DeviceCalls.{commit_at, record_call, record_calls}
 use Rattle.mw_file.specs.Stores.{IsWritten, Stores, IsStored, IsDurable}
 use Rattle.mw_file.specs.NewChanges.{MayPrepare, CanPrepare, AreWritten, AreRecorded, IsDurableWith}
 use Rattle.mw_file.specs.RollForward.{InRange, Nowhere, CanRoll, IsRolled}
-use Rattle.mw_file.specs.RecoveryInvariant.{IsFile, IsBeforeOrAfter}
+use Rattle.mw_file.specs.RecoveryInvariant.{IsBeforeOrAfter}
 use Rattle.mw_file.proofs.NewPlaces.{apart_before}
 use Rattle.mw_file.proofs.Parts.{same_all}
 use Rattle.mw_file.proofs.Places.{state_there}

@@ -1,9 +1,9 @@
 -- A crash during a call on a file leaves what the call's contract says, because each of its writes does.
--- Used by: the proofs of all calls of TenantFile. It may change freely as long as this crate checks.
+-- Used by: Ready, Recalled, RecordWrites, the proofs of all calls of TenantFile. It may change freely as long as this crate checks.
 use Rattle.std.proofs.Common.{◌≡◌, ◌≢◌, ℕ, ◌+◌, ◌<◌, ◌≤◌, List, [], ◌∷◌, length, drop, Some, None, true, false, IsTrue, slice_index, slice_get, refl, sym, ap, ◌∙◌, inl, inr, arith, subst}
 use Rattle.mw_words.specs.declared.jobs.Entry.{Entry}
 use Rattle.mw_words.specs.Change.{is_change}
-use Rattle.mw_disk.specs.Facts.{Facts, IsSynced, MayLeave}
+use Rattle.mw_disk.specs.Facts.{Facts, MayLeave}
 use Rattle.mw_disk.specs.Runs.{SameBut, Touched, Fits, LeavesOnly}
 use Rattle.mw_disk.proofs.RunLaws.{touched_none, touched_wider, same_but_wider, leaves_same, leaves_now, leaves_wider}
 use Rattle.mw_record.specs.declared.layout.TheConstants.{BODY_SIZE, COMMITTED}

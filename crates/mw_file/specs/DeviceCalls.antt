@@ -1,5 +1,5 @@
--- Defines which device calls prepare, seal and settle make, in order, and with which bytes.
--- Used by: mw_world_file, the contracts of calls.rt and roll.rt. docs/FILES has the same under "How a change goes in": change them
+-- Defines which device calls prepare, seal and settle make, in order, and with which bytes, also with changes prepared ahead.
+-- Used by: mw_world_file, the contracts of calls.rt, new_changes.rt and roll.rt. docs/FILES has the same under "How a change goes in": change them
 -- together.
 use Rattle.std.specs.Prelude.{ℕ, ◌+◌, true, false, List, [], ◌∷◌, ◌++◌, map, flat_map, Result, Ok, Err, ◌≡◌, Bool}
 use Rattle.mw_words.specs.declared.jobs.Entry.{Entry}

@@ -1,5 +1,5 @@
 -- Defines how a run of device calls ends, and what it means that a disk is known to fail at one call.
--- Used by: OpeningEnds, the contracts of calls.rt, laws.rt, migration.rt, opening.rt and roll.rt. A change here changes what is
+-- Used by: OpeningEnds, the contracts of calls.rt, laws.rt, migration.rt, new_changes.rt, opening.rt and roll.rt. A change here changes what is
 -- promised of the device call that failed.
 use Rattle.std.specs.Prelude.{◌≡◌, ◌<◌, ℕ, Some, true, false, Result, Ok, Err, IsTrue}
 use Rattle.mw_disk.specs.Facts.{Facts, NothingNew}

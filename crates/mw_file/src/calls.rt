@@ -1,4 +1,5 @@
-//! The calls that take changes through a file: prepare, seal, settle and cancel of one change, and the settle of all.
+//! The calls that take changes through a file: prepare, seal, settle and cancel of one change, the settle of all, and
+//! the calls that also prepare changes ahead.
 //!
 //! What they say of crashes holds on a disk that keeps the model of [`mw_disk::Disk`].
 //!

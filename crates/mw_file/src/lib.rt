@@ -3,9 +3,11 @@
 //! A change goes through one place of the file:
 //!
 //! - `prepare` writes the change's record into the lowest free place, `prepare_at` into a given one.
+//!   `prepare_all` prepares several changes by one sync.
 //! - `seal` sets the place's commit byte. From then on the change is in the file.
 //! - `settle` writes the change's values into the home words, then clears the commit byte. `settle_all` does
 //!   this for all sealed changes at once, which share its two syncs.
+//! - `seal_with` and `settle_all` also prepare changes ahead: they write the records of these before their sync.
 //! - `cancel` gives up a prepared change.
 //! - `open` reads a file and finishes the changes that were sealed and not settled.
 //!

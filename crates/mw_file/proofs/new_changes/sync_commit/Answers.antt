@@ -1,8 +1,7 @@
 -- Proves goals of `sync_commit` (src/new_changes.rt) that the check does not prove by itself. Used by: the proof of that
 -- function alone. It may change freely as long as this crate checks.
-use Rattle.std.proofs.Common.{◌≡◌, ◌+◌, ◌≤◌, [], ◌∷◌, ◌++◌, length, inl, true, false, arith, ap, subst, List, ℕ}
-use Rattle.mw_disk.specs.DeviceCalls.{DeviceCall, WriteAt, Sync, Makes}
-use Rattle.mw_disk.specs.Runs.{Touched}
+use Rattle.std.proofs.Common.{◌+◌, [], ◌∷◌, ◌++◌, length, inl, true, false, arith, subst, ℕ}
+use Rattle.mw_disk.specs.DeviceCalls.{WriteAt, Sync, Makes}
 use Rattle.mw_disk.proofs.MakesLaws.{makes_after, makes_cut}
 use Rattle.mw_disk.proofs.Remembered.{on_err}
 use Rattle.mw_disk.proofs.RunLaws.{still_honest, leaves_wider}

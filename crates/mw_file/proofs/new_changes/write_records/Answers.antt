@@ -1,6 +1,6 @@
 -- Proves goals of `write_records` (src/new_changes.rt) that the check does not prove by itself. Used by: the proof of that
 -- function alone. It may change freely as long as this crate checks.
-use Rattle.std.proofs.Common.{◌≡◌, ◌+◌, ◌≤◌, ◌<◌, List, [], ◌∷◌, length, drop, take, All, true, false, ap, arith, subst}
+use Rattle.std.proofs.Common.{◌+◌, ◌≤◌, List, [], ◌∷◌, length, drop, true, false, ap, arith, subst}
 use Rattle.std.proofs.lemmas.List.{take_all}
 use Rattle.std.proofs.lemmas.List.Elements.{All-nil}
 use Rattle.mw_disk.specs.DeviceCalls.{Makes}

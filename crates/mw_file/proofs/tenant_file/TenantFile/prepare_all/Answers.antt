@@ -1,6 +1,6 @@
 -- Proves goals of `TenantFile::prepare_all` (src/calls.rt) that the check does not prove by itself. Used by: the proof of that
 -- function alone. It may change freely as long as this crate checks.
-use Rattle.std.proofs.Common.{◌≡◌, ◌≤◌, List, [], length, inl, sym, ◌∙◌, refl, subst, arith, All, ◌<◌}
+use Rattle.std.proofs.Common.{◌≡◌, List, [], length, inl, sym, ◌∙◌, refl, subst, arith, All, ◌<◌}
 use Rattle.std.specs.Vec.{with_items}
 use Rattle.std.proofs.lemmas.List.{with_items_is}
 use Rattle.mw_disk.proofs.RunLaws.{leaves_wider}

@@ -1,9 +1,8 @@
 -- Proves goals of `TenantFile::seal_with` (src/calls.rt) that the check does not prove by itself. Used by: the proof of that
 -- function alone. It may change freely as long as this crate checks.
-use Rattle.std.proofs.Common.{◌≡◌, ◌≤◌, ◌<◌, List, [], length, slice_set, inl, sym, ◌∙◌, ap, refl, subst, arith, All}
+use Rattle.std.proofs.Common.{◌≡◌, List, length, slice_set, sym, ◌∙◌, ap, refl, subst, arith}
 use Rattle.std.specs.Vec.{with_item, with_items}
 use Rattle.std.proofs.lemmas.List.{with_items_is, length-set}
-use Rattle.mw_disk.proofs.RunLaws.{leaves_wider}
 use Rattle.mw_record.specs.Records.{put_pairs}
 use Rattle.mw_record.proofs.Changes.{length-put_pairs}
 use Rattle.mw_file.specs.declared.place_states.PlaceState.{PlaceState}
