@@ -9,7 +9,7 @@ use Rattle.mw_disk.specs.Facts.{Facts}
 use Rattle.mw_file.specs.PlaceStates.{stage_of, IsOnlySealed}
 use Rattle.mw_file.proofs.SharedSettles.{one_count}
 use Rattle.mw_world_file.specs.Devices.{stage_told}
-use Rattle.mw_world_file.specs.Files.{File, Place, Empty, Prepared, Sealed, entries_at, is_empty, is_sealed}
+use Rattle.mw_world_file.specs.Files.{File, Place, Empty, Prepared, Sealed, entries_at, is_sealed}
 use Rattle.mw_book.specs.declared.answers.Filed.{Filed}
 use Rattle.mw_book.specs.declared.answers.Filed.TheVariants.{Made, Broken, Untouched}
 use Rattle.mw_book.specs.declared.book.Book.{Book}
@@ -17,19 +17,21 @@ use Rattle.mw_book.specs.Alone.{AloneLeavesNoneAhead, AloneMakesListedCalls, Fin
 use Rattle.mw_book.specs.Ends.{settle_calls}
 use Rattle.mw_book.specs.SettledAhead.{is_sealed_stage, ahead_after, ahead_by_settle}
 use Rattle.mw_book.specs.OpenFile.{states_in}
-use Rattle.mw_book.specs.Representation.{is_settled, place_at}
+use Rattle.mw_book.specs.Representation.{is_prepared_ahead, is_settled, place_at, place_in_file, stage_held, stage_in_file}
 use Rattle.mw_book.proofs.ApartChanges.{sealed_stage}
-use Rattle.mw_book.proofs.PlacesAhead.{held_plain}
+use Rattle.mw_book.proofs.FilePlaces.{IsAt, used_at}
+use Rattle.mw_book.proofs.PlacesAhead.{busy_sealed, held_plain, own_busy}
 
 told_open : (p : Place) → is_sealed p ≡ false → is_sealed_stage (stage_told p) ≡ false
 told_open Empty is = refl
 told_open (Prepared entries) is = refl
 told_open (Sealed entries) is = absurd (let e : true ≡ false = is in cc)
 
-busy_sealed : (p : Place) → is_sealed p ≡ true → is_empty p ≡ false
-busy_sealed Empty is = absurd (let e : false ≡ true = is in cc)
-busy_sealed (Prepared entries) is = refl
-busy_sealed (Sealed entries) is = refl
+-- where a stage is not sealed by what the world's place says, it isn't whatever is prepared ahead
+held_open : (flag ahead : Bool) (p : Place) → is_sealed p ≡ false → is_sealed_stage (stage_held flag ahead p) ≡ false
+held_open true ahead p is = refl
+held_open false true p is = refl
+held_open false false p is = told_open p is
 
 module _ {D : Type 0} (facts : D → Facts) (book : Book D) (file : File) (slot : ℕ) (finds : FindsAlone facts book file SettleCall slot) where
   -- the slot's place, by the file and by the book
@@ -42,42 +44,50 @@ module _ {D : Type 0} (facts : D → Facts) (book : Book D) (file : File) (slot 
   low : file.place_of slot < book.places
   low = ltb-true (file.place_of slot) book.places suited.0
 
-  -- a used place has the stage in the file that the world's place says
-  stage_as : (place : ℕ) → place < book.places → stage_of (states_in book.held) place ≡ stage_told (file.places place)
-  stage_as place lt = finds.shows.same_places.stages place lt ∙ held_plain (is_settled book.settled place) (file.places place) (finds.none_ahead place)
-
   -- no other place is sealed in the file
-  others_open : (other : ℕ) → other ≢ file.place_of slot → is_sealed_stage (stage_of (states_in book.held) other) ≡ false
+  others_open : (other : ℕ) → other ≢ file.place_of slot → is_sealed_stage (stage_in_file (states_in book.held) book.table other) ≡ false
   others_open other apart = elim (cases_lt other book.places) [
-    | inl lt ↦ ap is_sealed_stage (stage_as other lt) ∙ told_open (file.places other) (finds.alone other lt apart)
-    | inr past ↦ ap is_sealed_stage (finds.shows.same_places.further other past)
+    | inl lt ↦ ap is_sealed_stage (finds.shows.same_places.stages other lt) ∙ held_open (is_settled book.table other) (is_prepared_ahead book.table other) (file.places other) (finds.alone other lt apart)
+    | inr past ↦ ap (λ j. is_sealed_stage (stage_of (states_in book.held) j)) (book.permuted.past other past) ∙ ap is_sealed_stage (finds.shows.same_places.further other past)
   ]
 
-  only_sealed : IsOnlySealed (states_in book.held) (file.place_of slot)
+  own : is_prepared_ahead book.table (file.place_of slot) ≡ false
+  own = own_busy (states_in book.held) book.table book.places file.places finds.shows.same_places (file.place_of slot) low (busy_sealed (file.places (file.place_of slot)) suited.1)
+
+  only_sealed : IsOnlySealed (states_in book.held) (place_in_file book.table (file.place_of slot))
   only_sealed = record {
-    sealed = stage_as (file.place_of slot) low ∙ sealed_stage (file.places (file.place_of slot)) suited.1;
-    others = λ other apart is. absurd (let e : true ≡ false = sym (ap is_sealed_stage is) ∙ others_open other apart in cc);
+    sealed =
+        finds.shows.same_places.stages (file.place_of slot) low
+        ∙ held_plain (is_settled book.table (file.place_of slot)) (is_prepared_ahead book.table (file.place_of slot)) (file.places (file.place_of slot)) (finds.none_ahead (file.place_of slot)) own
+        ∙ sealed_stage (file.places (file.place_of slot)) suited.1;
+    others = λ number apart is. elim (cases_lt number book.places) [
+      | inl lt ↦
+          let there : IsAt book.table.file_place book.places number = used_at book.table.file_place book.places number (book.permuted.onto number lt) in
+          let isnt : is_sealed_stage (stage_in_file (states_in book.held) book.table there.place) ≡ false = others_open there.place (λ same. apart (sym there.at ∙ ap (place_in_file book.table) same)) in
+          absurd (let e : true ≡ false = sym (ap is_sealed_stage (ap (stage_of (states_in book.held)) there.at ∙ is)) ∙ isnt in cc)
+      | inr past ↦ absurd (let e : true ≡ false = sym (ap is_sealed_stage is) ∙ ap is_sealed_stage (finds.shows.same_places.further number past) in cc)
+    ];
   }
 
-  settle_listed : settle_calls (is_settled book.settled (place_at book slot)) (states_in book.held) ≡ length (entries_at file (file.place_of slot)) + 3
+  settle_listed : settle_calls (is_settled book.table (place_at book slot)) (states_in book.held) ≡ length (entries_at file (file.place_of slot)) + 3
   settle_listed =
       ap (λ flag. settle_calls flag (states_in book.held)) (finds.none_ahead (place_at book slot))
-      ∙ one_count (states_in book.held) (file.place_of slot) only_sealed
+      ∙ one_count (states_in book.held) (place_in_file book.table (file.place_of slot)) only_sealed
       ∙ ap (λ writes. length writes + 3) (finds.shows.same_places.writes (file.place_of slot) low (busy_sealed (file.places (file.place_of slot)) suited.1))
       ∙ ap (λ n. n + 3) (length-map (entries_at file (file.place_of slot)) (λ e. (e.addr, e.new)))
 
   -- a settle settles no change ahead
-  settle_none_ahead : (place : ℕ) → ahead_by_settle (states_in book.held) book.settled (place_at book slot) place ≡ false
+  settle_none_ahead : (place : ℕ) → ahead_by_settle (states_in book.held) book.table (place_at book slot) place ≡ false
   settle_none_ahead place = elim (cases_eq place (place_at book slot)) [
     | inl here ↦ cond-true _ false rest (eq-eqb place (place_at book slot) here)
     | inr apart ↦
         cond-false _ false rest (ne_eqb place (place_at book slot) apart)
-        ∙ ap (λ flag. flag || (not (is_settled book.settled (place_at book slot)) && is_sealed_stage (stage_of (states_in book.held) place))) (finds.none_ahead place)
-        ∙ ap (λ flag. not flag && is_sealed_stage (stage_of (states_in book.held) place)) (finds.none_ahead (place_at book slot))
+        ∙ ap (λ flag. flag || (not (is_settled book.table (place_at book slot)) && is_sealed_stage (stage_in_file (states_in book.held) book.table place))) (finds.none_ahead place)
+        ∙ ap (λ flag. not flag && is_sealed_stage (stage_in_file (states_in book.held) book.table place)) (finds.none_ahead (place_at book slot))
         ∙ others_open place (λ is. apart (is ∙ at))
   ] where
     rest : Bool
-    rest = is_settled book.settled place || (not (is_settled book.settled (place_at book slot)) && is_sealed_stage (stage_of (states_in book.held) place))
+    rest = is_settled book.table place || (not (is_settled book.table (place_at book slot)) && is_sealed_stage (stage_in_file (states_in book.held) book.table place))
 
 pub makes_listed : {D : Type 0} (facts : D → Facts) → AloneMakesListedCalls facts
 makes_listed facts book file PrepareCall slot finds = refl

@@ -9,11 +9,15 @@ use Rattle.mw_record.specs.Records.{holds}
 use Rattle.mw_record.specs.Layout.{pairs_of}
 use Rattle.mw_file.specs.declared.place_states.PlaceState.{PlaceState}
 use Rattle.mw_file.specs.declared.place_states.Stage.TheVariants.{Free as FreeStage, Prepared as PreparedStage, Sealed as SealedStage}
-use Rattle.mw_file.specs.PlaceStates.{stage_of, MaySeal}
+use Rattle.mw_file.specs.PlaceStates.{stage_of, writes_of_place}
 use Rattle.mw_world_file.specs.Devices.{stage_told}
 use Rattle.mw_world_file.specs.Files.{File, Place, Empty, Prepared, Sealed, is_empty, is_prepared, is_sealed, entries_in, entries_at, share_a_word, is_apart}
-use Rattle.mw_book.specs.Representation.{ArePlaced, is_settled}
-use Rattle.mw_book.proofs.PlacesAhead.{held_plain, plain_open, told_busy}
+use Rattle.mw_book.specs.declared.place_table.PlaceTable.{PlaceTable}
+use Rattle.mw_book.specs.FilePlaces.{IsPermutation}
+use Rattle.mw_book.specs.Permits.{MaySealOwn}
+use Rattle.mw_book.specs.Representation.{ArePlaced, is_prepared_ahead, is_settled, stage_in_file}
+use Rattle.mw_book.proofs.FilePlaces.{IsAt, used_at}
+use Rattle.mw_book.proofs.PlacesAhead.{held_plain, own_busy, plain_open, told_sealed}
 
 -- what the test says of all places it says of each
 apart_at : (file : File) (entries : List Entry) (n k : ℕ) → is_apart file entries n ≡ true → k < n → not (is_sealed (file.places k) && share_a_word entries (entries_at file k)) ≡ true
@@ -80,26 +84,38 @@ open_prepared Empty is = refl
 open_prepared (Prepared entries) is = refl
 open_prepared (Sealed entries) is = absurd (let e : false ≡ true = is in cc)
 
--- a prepared place is prepared in the file
-pub prepared_held : (states : List PlaceState) (settled : List Bool) (places : ℕ) (file : File) (place : ℕ) → ArePlaced states settled places file.places → place < places
-    → is_prepared (file.places place) ≡ true → stage_of states place ≡ PreparedStage
-prepared_held states settled places file place placed within prepared =
+-- a prepared place is prepared in the file, by its own slot
+pub prepared_own : (states : List PlaceState) (table : PlaceTable) (places : ℕ) (file : File) (place : ℕ) → ArePlaced states table places file.places → place < places
+    → is_prepared (file.places place) ≡ true → is_prepared_ahead table place ≡ false
+prepared_own states table places file place placed within prepared = own_busy states table places file.places placed place within (busy_prepared (file.places place) prepared)
+
+pub prepared_held : (states : List PlaceState) (table : PlaceTable) (places : ℕ) (file : File) (place : ℕ) → ArePlaced states table places file.places → place < places
+    → is_prepared (file.places place) ≡ true → stage_in_file states table place ≡ PreparedStage
+prepared_held states table places file place placed within prepared =
     placed.stages place within
-    ∙ held_plain (is_settled settled place) (file.places place) (plain_open states settled places file.places placed place within (open_prepared (file.places place) prepared))
+    ∙ held_plain (is_settled table place) (is_prepared_ahead table place) (file.places place) (plain_open states table places file.places placed place within (open_prepared (file.places place) prepared))
+    (prepared_own states table places file place placed within prepared)
     ∙ prepared_stage (file.places place) prepared
 
 -- if no sealed place shares a word with a prepared change, the change may be sealed
-pub may_seal : (states : List PlaceState) (settled : List Bool) (places : ℕ) (file : File) (place : ℕ) → ArePlaced states settled places file.places → place < places
-    → is_prepared (file.places place) ≡ true → is_apart file (entries_at file place) places ≡ true → MaySeal states place
-may_seal states settled places file place placed within prepared all = record {
-  prepared = prepared_held states settled places file place placed within prepared;
-  apart = λ other a sealed held. elim (cases_lt other places) [
-    | inl lt ↦
-        let told : stage_told (file.places other) ≡ SealedStage = told_busy (is_settled settled other) (file.places other) SealedStage refl (sym (placed.stages other lt) ∙ sealed) in
-        let none = none_shared (file.places other) (entries_at file place) told (apart_at file (entries_at file place) places other all lt) in
-        let mine = placed.writes place within (busy_prepared (file.places place) prepared) in
-        let its = placed.writes other lt (busy_sealed (file.places other) told) in
-        ap (λ ps. holds ps a) its ∙ none_common (entries_at file place) (entries_at file other) a none (sym (ap (λ ps. holds ps a) mine) ∙ held)
-    | inr past ↦ absurd (let e : FreeStage ≡ SealedStage = sym (placed.further other past) ∙ sealed in cc)
-  ];
+pub may_seal : (states : List PlaceState) (table : PlaceTable) (places : ℕ) (file : File) (place : ℕ) → ArePlaced states table places file.places → IsPermutation table.file_place places → place < places
+    → is_prepared (file.places place) ≡ true → is_apart file (entries_at file place) places ≡ true → MaySealOwn states table place
+may_seal states table places file place placed permuted within prepared all = record {
+  own = prepared_own states table places file place placed within prepared;
+  sealable = record {
+    prepared = prepared_held states table places file place placed within prepared;
+    apart = λ number a sealed held. elim (cases_lt number places) [
+      | inl lt ↦
+          let there : IsAt table.file_place places number = used_at table.file_place places number (permuted.onto number lt) in
+          let sealed_there : stage_in_file states table there.place ≡ SealedStage = ap (stage_of states) there.at ∙ sealed in
+          let told : stage_told (file.places there.place) ≡ SealedStage =
+          told_sealed (is_settled table there.place) (is_prepared_ahead table there.place) (file.places there.place) (sym (placed.stages there.place there.low) ∙ sealed_there) in
+          let none = none_shared (file.places there.place) (entries_at file place) told (apart_at file (entries_at file place) places there.place all there.low) in
+          let mine = placed.writes place within (busy_prepared (file.places place) prepared) in
+          let its = placed.writes there.place there.low (busy_sealed (file.places there.place) told) in
+          ap (λ j. holds (writes_of_place states j) a) (sym there.at) ∙ ap (λ ps. holds ps a) its
+          ∙ none_common (entries_at file place) (entries_at file there.place) a none (sym (ap (λ ps. holds ps a) mine) ∙ held)
+      | inr past ↦ absurd (let e : FreeStage ≡ SealedStage = sym (placed.further number past) ∙ sealed in cc)
+    ];
+  };
 }

@@ -21,8 +21,8 @@ use Rattle.mw_file.specs.declared.tenant_file.FileFault.{FileFault}
 use Rattle.mw_file.specs.declared.tenant_file.FileFault.TheVariants.{Disk, Failed}
 use Rattle.mw_file.specs.File.{disk_of, states_of, has_failed, WentWell, MetFault, Ends as FileEnds}
 use Rattle.mw_file.specs.RecoveryInvariant.{RecoversTo, CrashSafe, ContentsStay, ChangeIsSealed}
-use Rattle.mw_file.specs.PlaceStates.{is_free_stage, roll_calls, stage_of, writes_of_place, AreFreed, IsStaged}
-use Rattle.mw_world_file.specs.Calls.{fails_on, place_for, device_calls, is_made, doubt_of}
+use Rattle.mw_file.specs.PlaceStates.{is_free_stage, roll_calls, AreFreed, IsStaged}
+use Rattle.mw_world_file.specs.Calls.{fails_on, filed, place_for, device_calls, is_made, doubt_of}
 use Rattle.mw_world_file.specs.Crashes.{at_stake}
 use Rattle.mw_world_file.specs.Files.{File, Empty, Prepared, Sealed, entries_at, broken, prepared, sealed, emptied}
 use Rattle.mw_world_file.specs.Maps.{upd}
@@ -30,14 +30,17 @@ use Rattle.mw_world_file.proofs.KeptPlaces.{set_number}
 use Rattle.mw_book.specs.declared.answers.Filed.{Filed}
 use Rattle.mw_book.specs.declared.answers.Filed.TheVariants.{Made, Broken, Untouched}
 use Rattle.mw_book.specs.declared.book.Book.{Book}
-use Rattle.mw_book.specs.Answers.{is_refused, NoFault, OneFault}
-use Rattle.mw_book.specs.Crashes.{LeavesEither}
-use Rattle.mw_book.specs.Ends.{FailedAt, calls_on, settle_calls}
+use Rattle.mw_book.specs.declared.place_table.PlaceTable.{PlaceTable}
+use Rattle.mw_book.specs.FilePlaces.{flag_of}
+use Rattle.mw_book.specs.Answers.{Answers, is_refused, NoFault, OneFault}
+use Rattle.mw_book.specs.Crashes.{LeavesEither, stake_of}
+use Rattle.mw_book.specs.Ends.{Ends, FailedAt, calls_on, settle_calls}
 use Rattle.mw_book.specs.CallOutcome.{IsFiled}
+use Rattle.mw_book.specs.SameFiles.{RepresentsSame}
 use Rattle.mw_book.specs.SettledAhead.{ahead_after, ahead_by_settle}
 use Rattle.mw_book.specs.Permits.{HasPlace, vacant_place}
 use Rattle.mw_book.specs.OpenFile.{states_in, disk_in, OnDisk}
-use Rattle.mw_book.specs.Representation.{ArePlaced, Represents, HasParts, is_settled, place_at}
+use Rattle.mw_book.specs.Representation.{ArePlaced, Represents, HasParts, is_prepared_ahead, is_settled, place_at, place_in_file, stage_in_file, writes_in_file}
 use Rattle.mw_book.proofs.FoundPlaces.{found_at, vacant_plain}
 use Rattle.mw_book.proofs.PlacesAhead.{placed_let_go, placed_rolled}
 use Rattle.mw_book.proofs.RepresentedFiles.{shows_parts, on_disk, on_same, leaves_either, untouched, failed_as, placed_in, keeps_in, certain, same_place, place_within, plain_at, writes_called}
@@ -56,7 +59,7 @@ refused_so SettleCall failed other = refl
 refused_so CancelCall failed other = absurd (other refl)
 
 -- a call that was not made settles no change ahead
-same_ahead : {D : Type 0} (call : Call) (answer : Filed) (slot : ℕ) (old : Book D) → (answer ≡ Made → ⊥) → (place : ℕ) → is_settled old.settled place ≡ ahead_after call slot old answer place
+same_ahead : {D : Type 0} (call : Call) (answer : Filed) (slot : ℕ) (old : Book D) → (answer ≡ Made → ⊥) → (place : ℕ) → is_settled old.table place ≡ ahead_after call slot old answer place
 same_ahead PrepareCall answer slot old other place = refl
 same_ahead SealCall answer slot old other place = refl
 same_ahead SettleCall Made slot old other place = absurd (other refl)
@@ -121,9 +124,9 @@ numbered calls listed well fewer some = elim (cases_eq calls listed) [
 ]
 
 -- the place of a slot's change is not free
-pub busy_in : {D : Type 0} (old : Book D) (held : TenantFile D) (slot : ℕ) (stage : Stage) → old.held ≡ Some held → stage_of (states_in old.held) (place_at old slot) ≡ stage → is_free_stage stage ≡ false
-    → is_free_stage (stage_of (states_of held) (place_at old slot)) ≡ false
-busy_in old held slot stage is_old at busy = ap (λ h. is_free_stage (stage_of (states_in h) (place_at old slot))) (sym is_old) ∙ ap is_free_stage at ∙ busy
+pub busy_in : {D : Type 0} (old : Book D) (held : TenantFile D) (slot : ℕ) (stage : Stage) → old.held ≡ Some held → stage_in_file (states_in old.held) old.table (place_at old slot) ≡ stage → is_free_stage stage ≡ false
+    → is_free_stage (stage_in_file (states_of held) old.table (place_at old slot)) ≡ false
+busy_in old held slot stage is_old at busy = ap (λ h. is_free_stage (stage_in_file (states_in h) old.table (place_at old slot))) (sym is_old) ∙ ap is_free_stage at ∙ busy
 
 -- The old book holds one open file, and the new book holds what a call made of it.
 module _ {D : Type 0} (facts : D → Facts) (old new : Book D) (held now : TenantFile D) (is_old : old.held ≡ Some held) (later : Later (facts (disk_of held)) (facts (disk_of now))) where
@@ -132,7 +135,7 @@ module _ {D : Type 0} (facts : D → Facts) (old new : Book D) (held now : Tenan
   still contents doubt keeps honest = keeps (was_honest (facts (disk_of held)) (facts (disk_of now)) later honest)
 
   -- a device call failed
-  module _ (parts : HasParts new (Some now) old.words old.places old.place_of old.settled true) (sound : old.has_failed ≡ false) (calls : ℕ) (met : MetFault facts calls held now)
+  module _ (parts : HasParts new (Some now) old.words old.places old.place_of old.table true) (sound : old.has_failed ≡ false) (calls : ℕ) (met : MetFault facts calls held now)
       (call : Call) (slot : ℕ) (entries : List Entry) (other : call ≡ CancelCall → ⊥) (fails : (file : File) → fails_on call file ≡ file.has_failed) where
     pub broke : ((entries_there : List Entry) → calls ≡ calls_on old call slot entries_there)
         → ((file : File) → Represents facts old file → IsTrue (facts (disk_of held)).honest → RecoversTo facts now file.contents (pairs_of (doubt_of call (entries_at file (place_for call file old.places slot)))))
@@ -153,9 +156,9 @@ module _ {D : Type 0} (facts : D → Facts) (old new : Book D) (held now : Tenan
             made = λ same. on_disk facts (FailedAt listed so.number) old.held new.held held now is_old parts.is_held
                 (subst (λ n. FailedAt n so.number (facts (disk_of held)) (facts (disk_of now))) (many (entries_at file place) ∙ same)
                 (record { failed = met.made; at = so.own (many (entries_at file place) ∙ same) }));
-            shows = shows_parts facts new (Some now) old.words old.places old.place_of old.settled true (broken file doubt) parts (record {
+            shows = shows_parts facts new (Some now) old.words old.places old.place_of old.table true (broken file doubt) parts (record {
               same_words = shows.same_words;
-              same_places = placed_as (states_of held) (states_of now) old.settled old.places file.places met.states (placed_in facts old held is_old file shows);
+              same_places = placed_as (states_of held) (states_of now) old.table old.places file.places met.states (placed_in facts old held is_old file shows);
               same_place_of = shows.same_place_of;
               same_failed = refl;
               stands = still file.contents (pairs_of doubt) (keeps file shows);
@@ -168,7 +171,7 @@ module _ {D : Type 0} (facts : D → Facts) (old new : Book D) (held now : Tenan
       quiet = λ is. absurd (other is);
       words = parts.is_words;
       places = parts.is_places;
-      ahead = λ place. ap (λ flags. is_settled flags place) parts.are_settled ∙ same_ahead call Broken slot old (λ is. absurd (let e : Broken ≡ Made = is in cc)) place;
+      ahead = λ place. ap (λ table. is_settled table place) parts.is_table ∙ same_ahead call Broken slot old (λ is. absurd (let e : Broken ≡ Made = is in cc)) place;
     }
 
   -- a call that keeps the words and the change in doubt
@@ -184,28 +187,28 @@ module _ {D : Type 0} (facts : D → Facts) (old new : Book D) (held now : Tenan
         subst (λ doubt. RecoversTo facts now file.contents doubt) (certain facts old held is_old file shows sound honest) (stays file shows honest).after
 
     -- a prepare in which the device failed
-    pub prepare_broken : (slot : ℕ) (entries : List Entry) → HasParts new (Some now) old.words old.places old.place_of old.settled true → old.has_failed ≡ false → MetFault facts 2 held now
+    pub prepare_broken : (slot : ℕ) (entries : List Entry) → HasParts new (Some now) old.words old.places old.place_of old.table true → old.has_failed ≡ false → MetFault facts 2 held now
         → IsFiled facts PrepareCall slot entries old new Broken
     prepare_broken slot entries parts sound met =
         broke parts sound 2 met PrepareCall slot entries (λ is. let e : PrepareCall ≡ CancelCall = is in cc) (λ file. refl) (λ there. refl) (stays_certain sound) stays_safe
 
-    pub prepare_made : (slot place : ℕ) (entries : List Entry) → place ≡ vacant_place (states_of held) old.settled old.places
-        → HasParts new (Some now) old.words old.places (slice_set old.place_of slot place) old.settled old.has_failed
+    pub prepare_made : (slot place : ℕ) (entries : List Entry) → place ≡ vacant_place (states_of held) old.table old.places → is_prepared_ahead old.table place ≡ false
+        → HasParts new (Some now) old.words old.places (slice_set old.place_of slot place) old.table old.has_failed
         → old.has_failed ≡ false → slot < MAX_POOL → MAX_POOL ≤ length old.place_of → WentWell facts 2 held now
-        → IsStaged (states_of held) (states_of now) place PreparedStage (pairs_of entries) → HasPlace (states_of held) old.settled old.places
+        → IsStaged (states_of held) (states_of now) (place_in_file old.table place) PreparedStage (pairs_of entries) → HasPlace (states_of held) old.table old.places
         → IsFiled facts PrepareCall slot entries old new Made
-    prepare_made slot place entries is parts sound within long went staged room = record {
+    prepare_made slot place entries is own parts sound within long went staged room = record {
       ends = λ file shows.
           let placed = placed_in facts old held is_old file shows in
-          let same = is ∙ found_at (states_of held) old.settled old.places file placed in
+          let same = is ∙ found_at (states_of held) old.table old.places file placed in
           record {
             began = shows.same_failed ∙ sound;
             made = on_disk facts (Good 2) old.held new.held held now is_old parts.is_held went.made;
             shows = subst (λ p. Represents facts new (prepared file slot p entries)) same
-                (shows_parts facts new (Some now) old.words old.places (slice_set old.place_of slot place) old.settled old.has_failed (prepared file slot place entries) parts (record {
+                (shows_parts facts new (Some now) old.words old.places (slice_set old.place_of slot place) old.table old.has_failed (prepared file slot place entries) parts (record {
                   same_words = shows.same_words;
-                  same_places = placed_on (states_of held) (states_of now) old.settled old.places place file.places (Prepared entries) PreparedStage (pairs_of entries) placed staged
-                      (let lt = room in omega (arith, is, lt)) (ap (is_settled old.settled) is ∙ vacant_plain (states_of held) old.settled old.places room) refl (λ busy. refl);
+                  same_places = placed_on (states_of held) (states_of now) old.table old.places place file.places PreparedStage (pairs_of entries) placed old.permuted staged
+                      (let lt = room in omega (arith, is, lt)) (Prepared entries) (ap (is_settled old.table) is ∙ vacant_plain (states_of held) old.table old.places room) own refl (λ busy. refl);
                   same_place_of = set_number file.place_of old.place_of slot place MAX_POOL long within shows.same_place_of;
                   same_failed = shows.same_failed;
                   stands = still file.contents (pairs_of file.doubt) (λ honest. (stays file shows honest).after);
@@ -217,18 +220,18 @@ module _ {D : Type 0} (facts : D → Facts) (old new : Book D) (held now : Tenan
       quiet = λ is. absurd (let e : PrepareCall ≡ CancelCall = is in cc);
       words = parts.is_words;
       places = parts.is_places;
-      ahead = λ place. ap (λ flags. is_settled flags place) parts.are_settled;
+      ahead = λ place. ap (λ table. is_settled table place) parts.is_table;
     }
 
     -- A settle or a cancel, after which the place is empty, as the file's places and the book's flags show.
-    module _ (slot : ℕ) (within : slot < MAX_POOL) (busy : is_free_stage (stage_of (states_of held) (place_at old slot)) ≡ false) (flags : List Bool)
-        (parts : HasParts new (Some now) old.words old.places old.place_of flags old.has_failed)
-        (placed : (file : File) → Represents facts old file → ArePlaced (states_of now) flags old.places (upd file.places (place_at old slot) Empty)) where
+    module _ (slot : ℕ) (within : slot < MAX_POOL) (busy : is_free_stage (stage_in_file (states_of held) old.table (place_at old slot)) ≡ false) (table : PlaceTable)
+        (parts : HasParts new (Some now) old.words old.places old.place_of table old.has_failed)
+        (placed : (file : File) → Represents facts old file → ArePlaced (states_of now) table old.places (upd file.places (place_at old slot) Empty)) where
       emptied_shown : (file : File) → Represents facts old file → Represents facts new (emptied file (file.place_of slot))
       emptied_shown file shows =
           let place : ℕ = place_at old slot in
           subst (λ p. Represents facts new (emptied file p)) (sym (same_place facts old held is_old file shows slot within busy))
-          (shows_parts facts new (Some now) old.words old.places old.place_of flags old.has_failed (emptied file place) parts (record {
+          (shows_parts facts new (Some now) old.words old.places old.place_of table old.has_failed (emptied file place) parts (record {
             same_words = shows.same_words;
             same_places = placed file shows;
             same_place_of = shows.same_place_of;
@@ -236,15 +239,15 @@ module _ {D : Type 0} (facts : D → Facts) (old new : Book D) (held now : Tenan
             stands = still file.contents (pairs_of file.doubt) (λ honest. (stays file shows honest).after);
           }))
 
-    pub cancel_made : (slot : ℕ) → slot < MAX_POOL → is_free_stage (stage_of (states_of held) (place_at old slot)) ≡ false → (w : Pairs)
-        → IsStaged (states_of held) (states_of now) (place_at old slot) FreeStage w → HasParts new (Some now) old.words old.places old.place_of old.settled old.has_failed
+    pub cancel_made : (slot : ℕ) → slot < MAX_POOL → is_free_stage (stage_in_file (states_of held) old.table (place_at old slot)) ≡ false → is_prepared_ahead old.table (place_at old slot) ≡ false → (w : Pairs)
+        → IsStaged (states_of held) (states_of now) (place_in_file old.table (place_at old slot)) FreeStage w → HasParts new (Some now) old.words old.places old.place_of old.table old.has_failed
         → (entries : List Entry) → disk_of now ≡ disk_of held → IsFiled facts CancelCall slot entries old new Made
-    cancel_made slot within busy w staged parts entries same = record {
+    cancel_made slot within busy own w staged parts entries same = record {
       ends = λ file shows. record {
         began = refl;
         made = on_disk facts (Good 0) old.held new.held held now is_old parts.is_held
             (subst (λ d. Good 0 (facts (disk_of held)) (facts d)) (sym same) (good_none (facts (disk_of held))));
-        shows = emptied_shown slot within busy old.settled parts placed file shows;
+        shows = emptied_shown slot within busy old.table parts placed file shows;
       };
       answers = record { began = refl; same_failed = parts.is_failed; faults = on_disk facts NoFault old.held new.held held now is_old parts.is_held (ap (λ d. (facts d).faults) same) };
       moments = λ file shows. on_disk facts (LeavesEither file.contents file.doubt) old.held new.held held now is_old parts.is_held (stays_safe file shows);
@@ -252,28 +255,28 @@ module _ {D : Type 0} (facts : D → Facts) (old new : Book D) (held now : Tenan
       quiet = λ is. ap disk_in parts.is_held ∙ ap Some same ∙ sym (ap disk_in is_old);
       words = parts.is_words;
       places = parts.is_places;
-      ahead = λ place. ap (λ flags. is_settled flags place) parts.are_settled;
+      ahead = λ place. ap (λ table. is_settled table place) parts.is_table;
     } where
-      placed : (file : File) → Represents facts old file → ArePlaced (states_of now) old.settled old.places (upd file.places (place_at old slot) Empty)
+      placed : (file : File) → Represents facts old file → ArePlaced (states_of now) old.table old.places (upd file.places (place_at old slot) Empty)
       placed file shows =
-          placed_on (states_of held) (states_of now) old.settled old.places (place_at old slot) file.places Empty FreeStage w (placed_in facts old held is_old file shows) staged
-          (place_within facts old held is_old file shows slot within busy) (plain_at facts old held is_old file shows slot within busy) refl (λ none. absurd (let e : true ≡ false = none in cc))
+          placed_on (states_of held) (states_of now) old.table old.places (place_at old slot) file.places FreeStage w (placed_in facts old held is_old file shows) old.permuted staged
+          (place_within facts old held is_old file shows slot within busy) Empty (plain_at facts old held is_old file shows slot within busy) own refl (λ none. absurd (let e : true ≡ false = none in cc))
 
     -- A settle that makes device calls.
-    module _ (slot : ℕ) (within : slot < MAX_POOL) (is_sealed_there : stage_of (states_of held) (place_at old slot) ≡ SealedStage) (plain : is_settled old.settled (place_at old slot) ≡ false)
+    module _ (slot : ℕ) (within : slot < MAX_POOL) (is_sealed_there : stage_in_file (states_of held) old.table (place_at old slot) ≡ SealedStage) (plain : is_settled old.table (place_at old slot) ≡ false)
         (sound : old.has_failed ≡ false) where
-      many_made : roll_calls (states_of held) ≡ settle_calls (is_settled old.settled (place_at old slot)) (states_in old.held)
+      many_made : roll_calls (states_of held) ≡ settle_calls (is_settled old.table (place_at old slot)) (states_in old.held)
       many_made = ap (λ h. roll_calls (states_in h)) (sym is_old) ∙ ap (λ flag. settle_calls flag (states_in old.held)) (sym plain)
 
-      pub settle_made : (entries : List Entry) (flags : List Bool) → HasParts new (Some now) old.words old.places old.place_of flags old.has_failed
-          → ((place : ℕ) → is_settled flags place ≡ ahead_by_settle (states_of held) old.settled (place_at old slot) place) → AreFreed (states_of held) (states_of now)
+      pub settle_made : (entries : List Entry) (flags : List Bool) → HasParts new (Some now) old.words old.places old.place_of (record old.table { settled = flags }) old.has_failed
+          → ((place : ℕ) → flag_of flags place ≡ ahead_by_settle (states_of held) old.table (place_at old slot) place) → AreFreed (states_of held) (states_of now)
           → WentWell facts (roll_calls (states_of held)) held now → IsFiled facts SettleCall slot entries old new Made
       settle_made entries flags parts are free went = record {
         ends = λ file shows. record {
           began = shows.same_failed ∙ sound;
-          made = on_disk facts (Good (settle_calls (is_settled old.settled (place_at old slot)) (states_in old.held))) old.held new.held held now is_old parts.is_held
+          made = on_disk facts (Good (settle_calls (is_settled old.table (place_at old slot)) (states_in old.held))) old.held new.held held now is_old parts.is_held
               (subst (λ n. Good n (facts (disk_of held)) (facts (disk_of now))) many_made went.made);
-          shows = emptied_shown slot within (ap is_free_stage is_sealed_there) flags parts placed file shows;
+          shows = emptied_shown slot within (ap is_free_stage is_sealed_there) (record old.table { settled = flags }) parts placed file shows;
         };
         answers = record { began = sound; same_failed = parts.is_failed; faults = on_disk facts NoFault old.held new.held held now is_old parts.is_held went.made.faults };
         moments = λ file shows. on_disk facts (LeavesEither file.contents file.doubt) old.held new.held held now is_old parts.is_held (stays_safe file shows);
@@ -281,25 +284,25 @@ module _ {D : Type 0} (facts : D → Facts) (old new : Book D) (held now : Tenan
         quiet = λ is. absurd (let e : SettleCall ≡ CancelCall = is in cc);
         words = parts.is_words;
         places = parts.is_places;
-        ahead = λ place. ap (λ flags. is_settled flags place) parts.are_settled ∙ are place ∙ ap (λ h. ahead_by_settle (states_in h) old.settled (place_at old slot) place) (sym is_old);
+        ahead = λ place. ap (λ table. is_settled table place) parts.is_table ∙ are place ∙ ap (λ h. ahead_by_settle (states_in h) old.table (place_at old slot) place) (sym is_old);
       } where
-        placed : (file : File) → Represents facts old file → ArePlaced (states_of now) flags old.places (upd file.places (place_at old slot) Empty)
+        placed : (file : File) → Represents facts old file → ArePlaced (states_of now) (record old.table { settled = flags }) old.places (upd file.places (place_at old slot) Empty)
         placed file shows =
-            placed_rolled (states_of held) (states_of now) old.settled flags old.places (place_at old slot) file.places (placed_in facts old held is_old file shows) is_sealed_there plain are free
+            placed_rolled (states_of held) (states_of now) old.table flags old.places (place_at old slot) file.places (placed_in facts old held is_old file shows) is_sealed_there plain are free old.permuted
 
-      pub settle_broken : (entries : List Entry) → HasParts new (Some now) old.words old.places old.place_of old.settled true → MetFault facts (roll_calls (states_of held)) held now
+      pub settle_broken : (entries : List Entry) → HasParts new (Some now) old.words old.places old.place_of old.table true → MetFault facts (roll_calls (states_of held)) held now
           → IsFiled facts SettleCall slot entries old new Broken
       settle_broken entries parts met =
           broke parts sound (roll_calls (states_of held)) met SettleCall slot entries (λ is. let e : SettleCall ≡ CancelCall = is in cc) (λ file. refl)
           (λ there. many_made) (stays_certain sound) stays_safe
 
   -- A seal, by its answer.
-  module _ (slot : ℕ) (within : slot < MAX_POOL) (busy : is_free_stage (stage_of (states_of held) (place_at old slot)) ≡ false) (sound : old.has_failed ≡ false) (r : Result (Unit {0}) FileFault)
-      (safe : ChangeIsSealed facts held now (writes_of_place (states_of held) (place_at old slot)) r) where
+  module _ (slot : ℕ) (within : slot < MAX_POOL) (busy : is_free_stage (stage_in_file (states_of held) old.table (place_at old slot)) ≡ false) (own : is_prepared_ahead old.table (place_at old slot) ≡ false) (sound : old.has_failed ≡ false)
+      (r : Result (Unit {0}) FileFault) (safe : ChangeIsSealed facts held now (writes_in_file (states_of held) old.table (place_at old slot)) r) where
     safe_as : (file : File) → Represents facts old file → ChangeIsSealed facts held now (pairs_of (entries_at file (file.place_of slot))) r
-    safe_as file shows = subst (λ w. ChangeIsSealed facts held now w r) (writes_called facts old held is_old file shows slot within busy) safe
+    safe_as file shows = subst (λ w. ChangeIsSealed facts held now w r) (writes_called facts old held is_old file shows slot within busy own) safe
 
-    pub seal_broken : (entries : List Entry) → is_err r ≡ true → FileEnds facts 2 held now r → HasParts new (Some now) old.words old.places old.place_of old.settled true → IsFiled facts SealCall slot entries old new Broken
+    pub seal_broken : (entries : List Entry) → is_err r ≡ true → FileEnds facts 2 held now r → HasParts new (Some now) old.words old.places old.place_of old.table true → IsFiled facts SealCall slot entries old new Broken
     seal_broken entries bad ends parts =
         broke parts sound 2 (met_fault facts 2 held now r bad (failed_as facts old held is_old ∙ sound) ends) SealCall slot entries (λ is. let e : SealCall ≡ CancelCall = is in cc) (λ file. refl)
         (λ there. refl) (λ file shows honest. (left file shows honest).after)
@@ -310,8 +313,8 @@ module _ {D : Type 0} (facts : D → Facts) (old new : Book D) (held now : Tenan
               sealed_badly facts 2 held now (pairs_of (entries_at file (file.place_of slot))) r bad (failed_as facts old held is_old ∙ sound) ends (safe_as file shows) honest
               file.contents (pairs_of file.doubt) (keeps_in facts old held is_old file shows honest)
 
-    pub seal_made : (entries : List Entry) → is_err r ≡ false → WentWell facts 2 held now → IsStaged (states_of held) (states_of now) (place_at old slot) SealedStage (writes_of_place (states_of held) (place_at old slot))
-        → HasParts new (Some now) old.words old.places old.place_of old.settled old.has_failed → IsFiled facts SealCall slot entries old new Made
+    pub seal_made : (entries : List Entry) → is_err r ≡ false → WentWell facts 2 held now → IsStaged (states_of held) (states_of now) (place_in_file old.table (place_at old slot)) SealedStage (writes_in_file (states_of held) old.table (place_at old slot))
+        → HasParts new (Some now) old.words old.places old.place_of old.table old.has_failed → IsFiled facts SealCall slot entries old new Made
     seal_made entries well went staged parts = record {
       ends = λ file shows. record {
         began = shows.same_failed ∙ sound;
@@ -325,7 +328,7 @@ module _ {D : Type 0} (facts : D → Facts) (old new : Book D) (held now : Tenan
       quiet = λ is. absurd (let e : SealCall ≡ CancelCall = is in cc);
       words = parts.is_words;
       places = parts.is_places;
-      ahead = λ place. ap (λ flags. is_settled flags place) parts.are_settled;
+      ahead = λ place. ap (λ table. is_settled table place) parts.is_table;
     } where
       done : (file : File) → Represents facts old file → IsTrue (facts (disk_of held)).honest
           → CrashSafe facts held now file.contents (pairs_of (entries_at file (file.place_of slot))) (put_pairs (pairs_of (entries_at file (file.place_of slot))) file.contents) []
@@ -342,11 +345,11 @@ module _ {D : Type 0} (facts : D → Facts) (old new : Book D) (held now : Tenan
       shown file shows =
           let at = same_place facts old held is_old file shows slot within busy in
           let es : List Entry = entries_at file (file.place_of slot) in
-          shows_parts facts new (Some now) old.words old.places old.place_of old.settled old.has_failed (sealed file (file.place_of slot)) parts (record {
+          shows_parts facts new (Some now) old.words old.places old.place_of old.table old.has_failed (sealed file (file.place_of slot)) parts (record {
             same_words = length-put file.contents es ∙ shows.same_words;
-            same_places = subst (λ p. ArePlaced (states_of now) old.settled old.places (upd file.places p (Sealed es))) (sym at)
-                (placed_on (states_of held) (states_of now) old.settled old.places (place_at old slot) file.places (Sealed es) SealedStage (writes_of_place (states_of held) (place_at old slot))
-                (placed_in facts old held is_old file shows) staged (place_within facts old held is_old file shows slot within busy) (plain_at facts old held is_old file shows slot within busy) refl (λ full. writes_called facts old held is_old file shows slot within busy));
+            same_places = subst (λ p. ArePlaced (states_of now) old.table old.places (upd file.places p (Sealed es))) (sym at)
+                (placed_on (states_of held) (states_of now) old.table old.places (place_at old slot) file.places SealedStage (writes_in_file (states_of held) old.table (place_at old slot))
+                (placed_in facts old held is_old file shows) old.permuted staged (place_within facts old held is_old file shows slot within busy) (Sealed es) (plain_at facts old held is_old file shows slot within busy) own refl (λ full. writes_called facts old held is_old file shows slot within busy own));
             same_place_of = shows.same_place_of;
             same_failed = shows.same_failed;
             stands = still (put file.contents es) (pairs_of file.doubt) (stands file shows);
@@ -354,17 +357,17 @@ module _ {D : Type 0} (facts : D → Facts) (old new : Book D) (held now : Tenan
 
 -- A settle of a change that was settled ahead: only its flag is cleared.
 pub settle_ahead : {D : Type 0} (facts : D → Facts) (old new : Book D) (slot : ℕ) (entries : List Entry) (flags : List Bool) → slot < MAX_POOL → old.has_failed ≡ false
-    → is_settled old.settled (place_at old slot) ≡ true → HasParts new old.held old.words old.places old.place_of flags old.has_failed
-    → ((place : ℕ) → is_settled flags place ≡ ahead_by_settle (states_in old.held) old.settled (place_at old slot) place) → IsFiled facts SettleCall slot entries old new Made
+    → is_settled old.table (place_at old slot) ≡ true → HasParts new old.held old.words old.places old.place_of (record old.table { settled = flags }) old.has_failed
+    → ((place : ℕ) → flag_of flags place ≡ ahead_by_settle (states_in old.held) old.table (place_at old slot) place) → IsFiled facts SettleCall slot entries old new Made
 settle_ahead facts old new slot entries flags within sound ahead parts are = record {
   ends = λ file shows. record {
     began = shows.same_failed ∙ sound;
-    made = subst (λ h. OnDisk facts (Good (settle_calls (is_settled old.settled (place_at old slot)) (states_in old.held))) (disk_in old.held) (disk_in h)) (sym parts.is_held)
+    made = subst (λ h. OnDisk facts (Good (settle_calls (is_settled old.table (place_at old slot)) (states_in old.held))) (disk_in old.held) (disk_in h)) (sym parts.is_held)
         (subst (λ flag. OnDisk facts (Good (settle_calls flag (states_in old.held))) (disk_in old.held) (disk_in old.held)) (sym ahead) (on_same facts (Good 0) old.held good_none));
     shows = subst (λ p. Represents facts new (emptied file p)) (sym (shows.same_place_of slot within))
-        (shows_parts facts new old.held old.words old.places old.place_of flags old.has_failed (emptied file (place_at old slot)) parts (record {
+        (shows_parts facts new old.held old.words old.places old.place_of (record old.table { settled = flags }) old.has_failed (emptied file (place_at old slot)) parts (record {
           same_words = shows.same_words;
-          same_places = placed_let_go (states_in old.held) old.settled flags old.places (place_at old slot) file.places shows.same_places ahead are;
+          same_places = placed_let_go (states_in old.held) old.table flags old.places (place_at old slot) file.places shows.same_places ahead are;
           same_place_of = shows.same_place_of;
           same_failed = shows.same_failed;
           stands = shows.stands;
@@ -376,5 +379,58 @@ settle_ahead facts old new slot entries flags within sound ahead parts are = rec
   quiet = λ is. ap disk_in parts.is_held;
   words = parts.is_words;
   places = parts.is_places;
-  ahead = λ place. ap (λ flags. is_settled flags place) parts.are_settled ∙ are place;
+  ahead = λ place. ap (λ table. is_settled table place) parts.is_table ∙ are place;
+}
+
+-- After a change that was prepared ahead was given up, a prepare that was tried ends for the book before that too.
+tried_same : {D : Type 0} (facts : D → Facts) (slot : ℕ) (entries : List Entry) (old mid new : Book D) (result : Filed) → RepresentsSame facts old mid → (result ≡ Untouched → ⊥)
+    → (file : File) → Ends facts PrepareCall slot entries file mid new result → Represents facts old file → Ends facts PrepareCall slot entries file old new result
+tried_same facts slot entries old mid new Made same tried file ends shows = record {
+  began = ends.began;
+  made = subst (λ d. OnDisk facts (Good 2) d (disk_in new.held)) same.disk ends.made;
+  shows = subst (λ n. Represents facts new (filed PrepareCall file slot (place_for PrepareCall file n slot) entries)) same.places ends.shows;
+}
+tried_same facts slot entries old mid new Broken same tried file ends shows = record {
+  began = ends.began;
+  number = ends.number;
+  within = ends.within;
+  failed = subst (λ d. OnDisk facts (Bad 2) d (disk_in new.held)) same.disk ends.failed;
+  made = λ is. subst (λ d. OnDisk facts (FailedAt 2 ends.number) d (disk_in new.held)) same.disk (ends.made is);
+  shows = ends.shows;
+}
+tried_same facts slot entries old mid new Untouched same tried file ends shows = absurd (tried refl)
+
+answered_same : {D : Type 0} (facts : D → Facts) (old mid new : Book D) (result : Filed) → RepresentsSame facts old mid → (result ≡ Untouched → ⊥) → Answers facts PrepareCall mid new result → Answers facts PrepareCall old new result
+answered_same facts old mid new Made same tried answers = record {
+  began = sym same.failed ∙ answers.began;
+  same_failed = answers.same_failed ∙ same.failed;
+  faults = subst (λ d. OnDisk facts NoFault d (disk_in new.held)) same.disk answers.faults;
+}
+answered_same facts old mid new Broken same tried answers = record {
+  other = answers.other;
+  sound = sym same.failed ∙ answers.sound;
+  failed = answers.failed;
+  faults = subst (λ d. OnDisk facts OneFault d (disk_in new.held)) same.disk answers.faults;
+}
+answered_same facts old mid new Untouched same tried answers = absurd (tried refl)
+
+stake_prepare : (result : Filed) (file : File) (place other : ℕ) → stake_of result PrepareCall file place ≡ stake_of result PrepareCall file other
+stake_prepare Made file place other = refl
+stake_prepare Broken file place other = refl
+stake_prepare Untouched file place other = refl
+
+pub prepare_after : {D : Type 0} (facts : D → Facts) (slot : ℕ) (entries : List Entry) (old mid new : Book D) (result : Filed) → RepresentsSame facts old mid → (result ≡ Untouched → ⊥)
+    → IsFiled facts PrepareCall slot entries mid new result → IsFiled facts PrepareCall slot entries old new result
+prepare_after facts slot entries old mid new result same tried is = record {
+  ends = λ file shows. tried_same facts slot entries old mid new result same tried file (is.ends file (same.shows file shows)) shows;
+  answers = answered_same facts old mid new result same tried is.answers;
+  moments = λ file shows.
+      subst (λ change. OnDisk facts (LeavesEither file.contents change) (disk_in old.held) (disk_in new.held))
+      (stake_prepare result file (place_for PrepareCall file mid.places slot) (place_for PrepareCall file old.places slot))
+      (subst (λ d. OnDisk facts (LeavesEither file.contents (stake_of result PrepareCall file (place_for PrepareCall file mid.places slot))) d (disk_in new.held)) same.disk (is.moments file (same.shows file shows)));
+  later = subst (λ d. OnDisk facts Later d (disk_in new.held)) same.disk is.later;
+  quiet = λ cancels. is.quiet cancels ∙ same.disk;
+  words = is.words ∙ same.words;
+  places = is.places ∙ same.places;
+  ahead = λ place. is.ahead place ∙ ap (λ flags. flag_of flags place) same.settled;
 }

@@ -1,8 +1,10 @@
 pub mod AlikeFiles
 pub mod AloneChanges
 pub mod ApartChanges
+pub mod FilePlaces
 pub mod FiledCalls
 pub mod FoundPlaces
+pub mod GivenUp
 pub mod NewBooks
 pub mod PermittedCalls
 pub mod PlacesAhead

@@ -1,6 +1,6 @@
 -- The book of a file that just opened, or that didn't open, represents that file, and no change is settled ahead.
 -- Used by: the proofs of Book::new and unopened. It may change freely as long as this crate checks.
-use Rattle.std.proofs.Common.{◌≡◌, ℕ, zero, suc, ◌<◌, Bool, true, false, List, [], length, get_or, replicate, Some, None, IsTrue, refl, sym, ◌∙◌}
+use Rattle.std.proofs.Common.{◌≡◌, ℕ, zero, suc, ◌<◌, Bool, true, false, List, [], length, get_or, replicate, Option, Some, None, is_some, IsTrue, refl, sym, ◌∙◌}
 use Rattle.mw_words.specs.declared.limits.TheConstants.{MAX_POOL}
 use Rattle.mw_disk.specs.Facts.{Facts}
 use Rattle.mw_file.specs.declared.tenant_file.TenantFile.{TenantFile}
@@ -9,21 +9,25 @@ use Rattle.mw_file.proofs.Free.{stage_of-all_free}
 use Rattle.mw_file.specs.RecoveryInvariant.{RecoversTo}
 use Rattle.mw_file.specs.PlaceStates.{all_free}
 use Rattle.mw_world_file.specs.Files.{Empty, file_of}
-use Rattle.mw_book.specs.Representation.{PartsRepresent, is_settled, unopened}
+use Rattle.mw_book.specs.declared.place_table.PlaceTable.{PlaceTable}
+use Rattle.mw_book.specs.FilePlaces.{flag_of}
+use Rattle.mw_book.specs.Representation.{PartsRepresent, is_prepared_ahead, is_settled, place_in_file, unopened}
 use Rattle.mw_book.proofs.PlacesAhead.{held_plain}
 
 module _ {D : Type 0} (facts : D → Facts) where
   -- the parts of the book of a file that just opened
-  pub new_tells : (file : TenantFile D) (contents : List ℕ) (words places : ℕ) (place_of : List ℕ) (settled : List Bool) → all_free (states_of file) ≡ true → ((slot : ℕ) → slot < MAX_POOL → get_or place_of slot 0 ≡ 0)
-      → ((place : ℕ) → is_settled settled place ≡ false) → words ≡ words_of file
-      → length contents ≡ words_of file → (IsTrue (facts (disk_of file)).honest → RecoversTo facts file contents []) → PartsRepresent facts (Some file) words places place_of settled false (file_of contents)
-  new_tells file contents words places place_of settled free zeros plain same long keeps = record {
+  pub new_tells : (file : TenantFile D) (contents : List ℕ) (words places : ℕ) (place_of : List ℕ) (table : PlaceTable) → all_free (states_of file) ≡ true → ((slot : ℕ) → slot < MAX_POOL → get_or place_of slot 0 ≡ 0)
+      → ((place : ℕ) → is_settled table place ≡ false) → ((place : ℕ) → is_prepared_ahead table place ≡ false) → words ≡ words_of file
+      → length contents ≡ words_of file → (IsTrue (facts (disk_of file)).honest → RecoversTo facts file contents []) → PartsRepresent facts (Some file) words places place_of table false (file_of contents)
+  new_tells file contents words places place_of table free zeros plain own same long keeps = record {
     same_words = long ∙ sym same;
     same_places = record {
-      stages = λ place lt. stage_of-all_free (states_of file) place free ∙ sym (held_plain (is_settled settled place) Empty (plain place));
+      stages = λ place lt. stage_of-all_free (states_of file) (place_in_file table place) free ∙ sym (held_plain (is_settled table place) (is_prepared_ahead table place) Empty (plain place) (own place));
       ahead = λ place lt flag. absurd (let e : false ≡ true = sym (plain place) ∙ flag in cc);
+      empty_ahead = λ place lt flag. refl;
       further = λ place le. stage_of-all_free (states_of file) place free;
       further_not_ahead = λ place le. plain place;
+      further_none_ahead = λ place le. own place;
       writes = λ place lt busy. absurd (let e : true ≡ false = busy in cc);
     };
     same_place_of = λ slot lt. sym (zeros slot lt);
@@ -32,15 +36,17 @@ module _ {D : Type 0} (facts : D → Facts) where
   }
 
   -- the parts of the book of a file that didn't open
-  pub unopened_tells : (contents : List ℕ) (words places : ℕ) (place_of : List ℕ) (settled : List Bool) → ((slot : ℕ) → slot < MAX_POOL → get_or place_of slot 0 ≡ 0) → ((place : ℕ) → is_settled settled place ≡ false) → length contents ≡ words
-      → PartsRepresent facts None words places place_of settled true (unopened contents)
-  unopened_tells contents words places place_of settled zeros plain long = record {
+  pub unopened_tells : (contents : List ℕ) (words places : ℕ) (place_of : List ℕ) (table : PlaceTable) → ((slot : ℕ) → slot < MAX_POOL → get_or place_of slot 0 ≡ 0) → ((place : ℕ) → is_settled table place ≡ false) → ((place : ℕ) → is_prepared_ahead table place ≡ false) → length contents ≡ words
+      → PartsRepresent facts None words places place_of table true (unopened contents)
+  unopened_tells contents words places place_of table zeros plain own long = record {
     same_words = long;
     same_places = record {
-      stages = λ place lt. sym (held_plain (is_settled settled place) Empty (plain place));
+      stages = λ place lt. sym (held_plain (is_settled table place) (is_prepared_ahead table place) Empty (plain place) (own place));
       ahead = λ place lt flag. absurd (let e : false ≡ true = sym (plain place) ∙ flag in cc);
+      empty_ahead = λ place lt flag. refl;
       further = λ place le. refl;
       further_not_ahead = λ place le. plain place;
+      further_none_ahead = λ place le. own place;
       writes = λ place lt busy. absurd (let e : true ≡ false = busy in cc);
     };
     same_place_of = λ slot lt. sym (zeros slot lt);
@@ -49,7 +55,16 @@ module _ {D : Type 0} (facts : D → Facts) where
   }
 
 -- no change is settled ahead if all flags are false
-pub none_ahead : (many place : ℕ) → is_settled (replicate many false) place ≡ false
+pub none_ahead : (many place : ℕ) → flag_of (replicate many false) place ≡ false
 none_ahead zero place = refl
 none_ahead (suc many) zero = refl
 none_ahead (suc many) (suc place) = none_ahead many place
+
+-- none is prepared ahead if no place has a slot
+abbrev no_slots : ℕ → List (Option ℕ)
+no_slots many = replicate many None
+
+pub none_prepared : (many place : ℕ) → is_some (get_or (no_slots many) place None) ≡ false
+none_prepared zero place = refl
+none_prepared (suc many) zero = refl
+none_prepared (suc many) (suc place) = none_prepared many place

@@ -13,27 +13,28 @@ use Rattle.mw_record.specs.Layout.{pairs_of}
 use Rattle.mw_file.specs.declared.tenant_file.TenantFile.{TenantFile}
 use Rattle.mw_file.specs.File.{disk_of, states_of, has_failed}
 use Rattle.mw_file.specs.RecoveryInvariant.{RecoversTo, IsBeforeOrAfter}
-use Rattle.mw_file.specs.PlaceStates.{is_free_stage, stage_of, writes_of_place}
+use Rattle.mw_file.specs.PlaceStates.{is_free_stage, stage_of}
 use Rattle.mw_world_file.specs.Crashes.{IsFileOfEither}
 use Rattle.mw_world_file.specs.Devices.{stage_told}
 use Rattle.mw_world_file.specs.Files.{File, Place, Empty, Prepared, Sealed, is_empty, entries_at}
 use Rattle.mw_world_file.proofs.CrashedFiles.{of_either}
 use Rattle.mw_book.specs.declared.book.Book.{Book}
+use Rattle.mw_book.specs.declared.place_table.PlaceTable.{PlaceTable}
 use Rattle.mw_book.specs.Crashes.{LeavesEither}
 use Rattle.mw_book.specs.OpenFile.{states_in, places_in, has_failed_in, disk_in, FileRecoversTo, OnDisk}
-use Rattle.mw_book.specs.Representation.{ArePlaced, PartsRepresent, Represents, HasParts, is_settled, place_at}
+use Rattle.mw_book.specs.Representation.{ArePlaced, PartsRepresent, Represents, HasParts, is_prepared_ahead, is_settled, place_at, stage_in_file, writes_in_file}
 use Rattle.mw_book.proofs.PlacesAhead.{held_plain, plain_busy}
 
 -- if its parts represent a file, the book does
-pub shows_parts : {D : Type 0} (facts : D → Facts) (book : Book D) (held : Option (TenantFile D)) (words places : ℕ) (place_of : List ℕ) (settled : List Bool) (failed : Bool) (file : File)
-    → HasParts book held words places place_of settled failed → PartsRepresent facts held words places place_of settled failed file → Represents facts book file
-shows_parts facts book held words places place_of settled failed file parts tells =
-    subst (λ h. PartsRepresent facts h book.words book.places book.place_of book.settled book.has_failed file) (sym parts.is_held)
-    (subst (λ n. PartsRepresent facts held n book.places book.place_of book.settled book.has_failed file) (sym parts.is_words)
-    (subst (λ n. PartsRepresent facts held words n book.place_of book.settled book.has_failed file) (sym parts.is_places)
-    (subst (λ ns. PartsRepresent facts held words places ns book.settled book.has_failed file) (sym parts.is_place_of)
-    (subst (λ bs. PartsRepresent facts held words places place_of bs book.has_failed file) (sym parts.are_settled)
-    (subst (λ b. PartsRepresent facts held words places place_of settled b file) (sym parts.is_failed) tells)))))
+pub shows_parts : {D : Type 0} (facts : D → Facts) (book : Book D) (held : Option (TenantFile D)) (words places : ℕ) (place_of : List ℕ) (table : PlaceTable) (failed : Bool) (file : File)
+    → HasParts book held words places place_of table failed → PartsRepresent facts held words places place_of table failed file → Represents facts book file
+shows_parts facts book held words places place_of table failed file parts tells =
+    subst (λ h. PartsRepresent facts h book.words book.places book.place_of book.table book.has_failed file) (sym parts.is_held)
+    (subst (λ n. PartsRepresent facts held n book.places book.place_of book.table book.has_failed file) (sym parts.is_words)
+    (subst (λ n. PartsRepresent facts held words n book.place_of book.table book.has_failed file) (sym parts.is_places)
+    (subst (λ ns. PartsRepresent facts held words places ns book.table book.has_failed file) (sym parts.is_place_of)
+    (subst (λ t. PartsRepresent facts held words places place_of t book.has_failed file) (sym parts.is_table)
+    (subst (λ b. PartsRepresent facts held words places place_of table b file) (sym parts.is_failed) tells)))))
 
 module _ {D : Type 0} (facts : D → Facts) (P : Facts → Facts → Type 0) where
   -- a fact of the disks of two files is a fact of the disks that two books hold
@@ -71,8 +72,8 @@ module _ {D : Type 0} (facts : D → Facts) (old : Book D) (held : TenantFile D)
   failed_as = sym (ap has_failed_in is_old) ∙ old.same_failed
 
   module _ (file : File) (shows : Represents facts old file) where
-    pub placed_in : ArePlaced (states_of held) old.settled old.places file.places
-    placed_in = subst (λ h. ArePlaced (states_in h) old.settled old.places file.places) is_old shows.same_places
+    pub placed_in : ArePlaced (states_of held) old.table old.places file.places
+    placed_in = subst (λ h. ArePlaced (states_in h) old.table old.places file.places) is_old shows.same_places
 
     pub keeps_in : IsTrue (facts (disk_of held)).honest → RecoversTo facts held file.contents (pairs_of file.doubt)
     keeps_in = subst (λ h. FileRecoversTo facts h file.contents (pairs_of file.doubt)) is_old shows.stands
@@ -81,30 +82,33 @@ module _ {D : Type 0} (facts : D → Facts) (old : Book D) (held : TenantFile D)
     pub certain : old.has_failed ≡ false → IsTrue (facts (disk_of held)).honest → pairs_of file.doubt ≡ []
     certain sound honest = (keeps_in honest).certain (failed_as ∙ sound)
 
-    -- The place of a slot's change, if the slot has one.
-    module _ (slot : ℕ) (within : slot < MAX_POOL) (busy : is_free_stage (stage_of (states_of held) (place_at old slot)) ≡ false) where
+    -- The place of a slot's change, if the slot has one that its own slot prepared.
+    module _ (slot : ℕ) (within : slot < MAX_POOL) (busy : is_free_stage (stage_in_file (states_of held) old.table (place_at old slot)) ≡ false) where
       pub same_place : file.place_of slot ≡ place_at old slot
       same_place = shows.same_place_of slot within
 
       pub place_within : place_at old slot < old.places
       place_within = elim (cases_lt (place_at old slot) old.places) [
         | inl lt ↦ lt
-        | inr past ↦ absurd (let e : true ≡ false = sym (ap is_free_stage (placed_in.further (place_at old slot) past)) ∙ busy in cc)
+        | inr past ↦ absurd (let e : true ≡ false = sym (ap is_free_stage (ap (stage_of (states_of held)) (old.permuted.past (place_at old slot) past) ∙ placed_in.further (place_at old slot) past)) ∙ busy in cc)
       ]
 
       -- the change of a place that is not free in the file is not settled ahead
-      pub plain_at : is_settled old.settled (place_at old slot) ≡ false
-      plain_at = plain_busy (states_of held) old.settled old.places file.places placed_in (place_at old slot) busy
+      pub plain_at : is_settled old.table (place_at old slot) ≡ false
+      plain_at = plain_busy (states_of held) old.table old.places file.places placed_in (place_at old slot) busy
 
-      pub stage_as : stage_of (states_of held) (place_at old slot) ≡ stage_told (file.places (place_at old slot))
-      stage_as = placed_in.stages (place_at old slot) place_within ∙ held_plain (is_settled old.settled (place_at old slot)) (file.places (place_at old slot)) plain_at
+      module _ (own : is_prepared_ahead old.table (place_at old slot) ≡ false) where
+        pub stage_as : stage_in_file (states_of held) old.table (place_at old slot) ≡ stage_told (file.places (place_at old slot))
+        stage_as =
+            placed_in.stages (place_at old slot) place_within
+            ∙ held_plain (is_settled old.table (place_at old slot)) (is_prepared_ahead old.table (place_at old slot)) (file.places (place_at old slot)) plain_at own
 
-      -- the writes of the place
-      pub writes_as : writes_of_place (states_of held) (place_at old slot) ≡ pairs_of (entries_at file (place_at old slot))
-      writes_as = placed_in.writes (place_at old slot) place_within (busy_told (file.places (place_at old slot)) (sym (ap is_free_stage stage_as) ∙ busy))
+        -- the writes of the place
+        pub writes_as : writes_in_file (states_of held) old.table (place_at old slot) ≡ pairs_of (entries_at file (place_at old slot))
+        writes_as = placed_in.writes (place_at old slot) place_within (busy_told (file.places (place_at old slot)) (sym (ap is_free_stage stage_as) ∙ busy))
 
-      pub writes_called : writes_of_place (states_of held) (place_at old slot) ≡ pairs_of (entries_at file (file.place_of slot))
-      writes_called = writes_as ∙ ap (λ n. pairs_of (entries_at file n)) (sym same_place)
+        pub writes_called : writes_in_file (states_of held) old.table (place_at old slot) ≡ pairs_of (entries_at file (file.place_of slot))
+        writes_called = writes_as ∙ ap (λ n. pairs_of (entries_at file n)) (sym same_place)
 
-      pub as_many : length (writes_of_place (states_of held) (place_at old slot)) ≡ length (entries_at file (file.place_of slot))
-      as_many = ap length writes_called ∙ length-map (entries_at file (file.place_of slot)) (λ e. (e.addr, e.new))
+        pub as_many : length (writes_in_file (states_of held) old.table (place_at old slot)) ≡ length (entries_at file (file.place_of slot))
+        as_many = ap length writes_called ∙ length-map (entries_at file (file.place_of slot)) (λ e. (e.addr, e.new))

@@ -1,48 +1,103 @@
 -- If one place of a book's open file and the same place of the file that it represents get a new stage, all places still match.
 -- Used by: FiledCalls. It may change freely as long as this crate checks.
-use Rattle.std.proofs.Common.{◌≡◌, ◌<◌, ℕ, Bool, true, false, List, sym, ap, subst, ◌∙◌, inl, inr, arith}
+use Rattle.std.proofs.Common.{◌≡◌, ◌≢◌, ◌<◌, ◌≤◌, ℕ, Bool, true, false, List, Option, None, is_some, get_or, sym, ap, subst, ◌∙◌, inl, inr, arith}
 use Rattle.std.proofs.lemmas.Bool.{cases_eq}
 use Rattle.mw_record.specs.Records.{Pairs}
 use Rattle.mw_record.specs.Layout.{pairs_of}
 use Rattle.mw_file.specs.declared.place_states.PlaceState.{PlaceState}
 use Rattle.mw_file.specs.declared.place_states.Stage.{Stage}
-use Rattle.mw_file.specs.PlaceStates.{stage_of, writes_of_place, IsStaged}
+use Rattle.mw_file.specs.declared.place_states.Stage.TheVariants.{Free as FreeStage}
+use Rattle.mw_file.specs.PlaceStates.{stage_of, IsStaged}
 use Rattle.mw_world_file.specs.Devices.{stage_told}
 use Rattle.mw_world_file.specs.Files.{Place, is_empty, is_sealed, entries_in}
 use Rattle.mw_world_file.specs.Maps.{upd}
 use Rattle.mw_world_file.proofs.KeptPlaces.{upd_here, upd_there}
-use Rattle.mw_book.specs.Representation.{ArePlaced, is_settled, stage_held}
-use Rattle.mw_book.proofs.PlacesAhead.{held_plain}
+use Rattle.mw_book.specs.declared.place_table.PlaceTable.{PlaceTable}
+use Rattle.mw_book.specs.FilePlaces.{IsPermutation}
+use Rattle.mw_book.specs.Representation.{ArePlaced, is_prepared_ahead, is_settled, place_in_file, stage_held, stage_in_file, writes_in_file}
+use Rattle.mw_book.proofs.PlacesAhead.{held_plain, open_empty, plain_open, told_empty}
 
-module _ (old new : List PlaceState) (settled : List Bool) (places number : ℕ) (at : ℕ → Place) (p : Place) (stage : Stage) (w : Pairs)
-    (placed : ArePlaced old settled places at) (staged : IsStaged old new number stage w) (within : number < places) (plain : is_settled settled number ≡ false) where
-  plain_at : (k : ℕ) → k ≡ number → is_settled settled k ≡ false
-  plain_at k here = ap (is_settled settled) here ∙ plain
+module _ (old new : List PlaceState) (table : PlaceTable) (places number : ℕ) (at : ℕ → Place) (stage : Stage) (w : Pairs)
+    (placed : ArePlaced old table places at) (permuted : IsPermutation table.file_place places) (staged : IsStaged old new (place_in_file table number) stage w) (within : number < places) where
+  -- another place has another place in the file
+  elsewhere : (k : ℕ) → k < places → k ≢ number → place_in_file table k ≢ place_in_file table number
+  elsewhere k lt apart same = apart (permuted.apart k number lt within same)
 
-  -- one place, whose change isn't settled ahead, has a new stage in both files
-  pub placed_on : stage ≡ stage_told p → (is_empty p ≡ false → w ≡ pairs_of (entries_in p)) → ArePlaced new settled places (upd at number p)
-  placed_on is writes = record {
-    stages = λ k lt. elim (cases_eq k number) [
-      | inl here ↦
-          ap (stage_of new) here ∙ staged.stage_here ∙ is ∙ sym (ap stage_told (upd_here at number k p here)) ∙ sym (held_plain (is_settled settled k) (upd at number p k) (plain_at k here))
-      | inr apart ↦ staged.stage_there k apart ∙ placed.stages k lt ∙ sym (ap (stage_held (is_settled settled k)) (upd_there at number k p apart))
-    ];
-    ahead = λ k lt flag. elim (cases_eq k number) [
-      | inl here ↦ absurd (let e : false ≡ true = sym (plain_at k here) ∙ flag in cc)
-      | inr apart ↦ ap is_sealed (upd_there at number k p apart) ∙ placed.ahead k lt flag
-    ];
-    further = λ k le. staged.stage_there k (λ same. omega (arith, same, within, le)) ∙ placed.further k le;
-    further_not_ahead = placed.further_not_ahead;
-    writes = λ k lt busy. elim (cases_eq k number) [
-      | inl here ↦
-          let same = upd_here at number k p here in
-          ap (writes_of_place new) here ∙ staged.writes_here ∙ writes (sym (ap is_empty same) ∙ busy) ∙ sym (ap (λ q. pairs_of (entries_in q)) same)
-      | inr apart ↦
-          let same = upd_there at number k p apart in
-          staged.writes_there k apart ∙ placed.writes k lt (sym (ap is_empty same) ∙ busy) ∙ sym (ap (λ q. pairs_of (entries_in q)) same)
-    ];
-  }
+  past_as : (k : ℕ) → places ≤ k → stage_of new k ≡ stage_of old k
+  past_as k le = staged.stage_there k (λ same. let low = permuted.within number within in omega (arith, same, low, le))
+
+  -- One place, for which nothing was done ahead, has a new stage in both files.
+  module _ (p : Place) (plain : is_settled table number ≡ false) (own : is_prepared_ahead table number ≡ false) where
+    plain_at : (k : ℕ) → k ≡ number → is_settled table k ≡ false
+    plain_at k here = ap (is_settled table) here ∙ plain
+
+    own_at : (k : ℕ) → k ≡ number → is_prepared_ahead table k ≡ false
+    own_at k here = ap (is_prepared_ahead table) here ∙ own
+
+    pub placed_on : stage ≡ stage_told p → (is_empty p ≡ false → w ≡ pairs_of (entries_in p)) → ArePlaced new table places (upd at number p)
+    placed_on is writes = record {
+      stages = λ k lt. elim (cases_eq k number) [
+        | inl here ↦
+            ap (stage_in_file new table) here ∙ staged.stage_here ∙ is ∙ sym (ap stage_told (upd_here at number k p here))
+            ∙ sym (held_plain (is_settled table k) (is_prepared_ahead table k) (upd at number p k) (plain_at k here) (own_at k here))
+        | inr apart ↦
+            staged.stage_there (place_in_file table k) (elsewhere k lt apart) ∙ placed.stages k lt
+            ∙ sym (ap (stage_held (is_settled table k) (is_prepared_ahead table k)) (upd_there at number k p apart))
+      ];
+      ahead = λ k lt flag. elim (cases_eq k number) [
+        | inl here ↦ absurd (let e : false ≡ true = sym (plain_at k here) ∙ flag in cc)
+        | inr apart ↦ ap is_sealed (upd_there at number k p apart) ∙ placed.ahead k lt flag
+      ];
+      empty_ahead = λ k lt flag. elim (cases_eq k number) [
+        | inl here ↦ absurd (let e : false ≡ true = sym (own_at k here) ∙ flag in cc)
+        | inr apart ↦ ap is_empty (upd_there at number k p apart) ∙ placed.empty_ahead k lt flag
+      ];
+      further = λ k le. past_as k le ∙ placed.further k le;
+      further_not_ahead = placed.further_not_ahead;
+      further_none_ahead = placed.further_none_ahead;
+      writes = λ k lt busy. elim (cases_eq k number) [
+        | inl here ↦
+            let same = upd_here at number k p here in
+            ap (writes_in_file new table) here ∙ staged.writes_here ∙ writes (sym (ap is_empty same) ∙ busy) ∙ sym (ap (λ q. pairs_of (entries_in q)) same)
+        | inr apart ↦
+            let same = upd_there at number k p apart in
+            staged.writes_there (place_in_file table k) (elsewhere k lt apart) ∙ placed.writes k lt (sym (ap is_empty same) ∙ busy) ∙ sym (ap (λ q. pairs_of (entries_in q)) same)
+      ];
+    }
+
+  -- A change that was prepared ahead in a place was given up.
+  module _ (aheads : List (Option ℕ)) (freed : stage ≡ FreeStage) (was : is_prepared_ahead table number ≡ true) (gone : is_some (get_or aheads number None) ≡ false)
+      (kept : (k : ℕ) → k ≢ number → is_some (get_or aheads k None) ≡ is_prepared_ahead table k) where
+    empty_at : is_empty (at number) ≡ true
+    empty_at = placed.empty_ahead number within was
+
+    plain_there : is_settled table number ≡ false
+    plain_there = plain_open old table places at placed number within (open_empty (at number) empty_at)
+
+    pub placed_without : ArePlaced new (record table { ahead_for = aheads }) places at
+    placed_without = record {
+      stages = λ k lt. elim (cases_eq k number) [
+        | inl here ↦
+            ap (stage_in_file new table) here ∙ staged.stage_here ∙ freed ∙ sym (ap stage_told (ap at here) ∙ told_empty (at number) empty_at)
+            ∙ sym (held_plain (is_settled table k) (is_some (get_or aheads k None)) (at k) (ap (is_settled table) here ∙ plain_there) (ap (λ j. is_some (get_or aheads j None)) here ∙ gone))
+        | inr apart ↦
+            staged.stage_there (place_in_file table k) (elsewhere k lt apart) ∙ placed.stages k lt
+            ∙ sym (ap (λ b. stage_held (is_settled table k) b (at k)) (kept k apart))
+      ];
+      ahead = placed.ahead;
+      empty_ahead = λ k lt flag. elim (cases_eq k number) [
+        | inl here ↦ ap is_empty (ap at here) ∙ empty_at
+        | inr apart ↦ placed.empty_ahead k lt (sym (kept k apart) ∙ flag)
+      ];
+      further = λ k le. past_as k le ∙ placed.further k le;
+      further_not_ahead = placed.further_not_ahead;
+      further_none_ahead = λ k le. kept k (λ same. omega (arith, same, within, le)) ∙ placed.further_none_ahead k le;
+      writes = λ k lt busy. elim (cases_eq k number) [
+        | inl here ↦ absurd (let e : true ≡ false = sym (ap is_empty (ap at here) ∙ empty_at) ∙ busy in cc)
+        | inr apart ↦ staged.writes_there (place_in_file table k) (elsewhere k lt apart) ∙ placed.writes k lt busy
+      ];
+    }
 
 -- places that are what they were
-pub placed_as : (old new : List PlaceState) (settled : List Bool) (places : ℕ) (at : ℕ → Place) → new ≡ old → ArePlaced old settled places at → ArePlaced new settled places at
-placed_as old new settled places at same placed = subst (λ states. ArePlaced states settled places at) (sym same) placed
+pub placed_as : (old new : List PlaceState) (table : PlaceTable) (places : ℕ) (at : ℕ → Place) → new ≡ old → ArePlaced old table places at → ArePlaced new table places at
+placed_as old new table places at same placed = subst (λ states. ArePlaced states table places at) (sym same) placed

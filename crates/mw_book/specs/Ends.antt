@@ -31,7 +31,7 @@ settle_calls false states = roll_calls states
 -- How many device calls a call makes on a book, for a change with these entries: for a settle as many as the book's file needs, for any
 -- other call as many as the world lists.
 abbrev pub calls_on : {D : Type 0} → Book D → Call → ℕ → List Entry → ℕ
-calls_on book SettleCall slot entries = settle_calls (is_settled book.settled (place_at book slot)) (states_in book.held)
+calls_on book SettleCall slot entries = settle_calls (is_settled book.table (place_at book slot)) (states_in book.held)
 calls_on book call slot entries = device_calls call entries
 
 module _ {D : Type 0} (facts : D → Facts) (call : Call) (slot : ℕ) (entries : List Entry) (file : File) (old new : Book D) where

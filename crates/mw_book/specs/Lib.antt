@@ -3,8 +3,10 @@ pub mod Alone
 pub mod Answers
 pub mod Crashes
 pub mod Ends
+pub mod FilePlaces
 pub mod CallOutcome
 pub mod OpenFile
 pub mod Permits
 pub mod Representation
+pub mod SameFiles
 pub mod SettledAhead

@@ -4,8 +4,10 @@
 //! each tenant, under the tenant's lock, and mw_core makes the calls on it. A new field needs a value in
 //! `new_books.rt`. If it is part of what the world knows of a file, it also needs a clause in `specs/Representation`.
 ghost use Rattle.std.specs.Prelude.{◌≡◌, ◌≤◌};
+ghost use Rattle.mw_book.specs.FilePlaces.{IsPermutation};
 ghost use Rattle.mw_book.specs.OpenFile.{words_in, places_in, has_failed_in};
 
+use crate::place_table::PlaceTable;
 use mw_file::TenantFile;
 use mw_words::{MAX_PLACES, MAX_POOL};
 
@@ -16,19 +18,19 @@ pub(crate) const SLOTS: usize = MAX_POOL as usize;
 pub(crate) const PLACES: usize = MAX_PLACES as usize;
 
 /// A tenant's file, and what is kept beside it: how many words the file has, how many of its places are used,
-/// the place of each slot's change, which places' changes are settled in the file though their own slots have
-/// not settled them yet, and whether the file has failed. The used places are the first ones. The file has failed
-/// if a device call has failed since it was opened, or if it didn't open. If it didn't open, no file is held.
+/// the place of each slot's change, where the file has each place and which changes it has ahead, and whether the
+/// file has failed. The used places are the first ones. The file has failed if a device call has failed since it was
+/// opened, or if it didn't open. If it didn't open, no file is held.
 #[derive(Drop)]
 pub struct Book<D> {
     pub(crate) held: Option<TenantFile<D>>,
     pub(crate) words: u16,
     pub(crate) places: u16,
     pub(crate) place_of: [u16; SLOTS],
-    /// For each place: its change is settled ahead, by the settle of another one, and its slot has not settled it yet.
-    pub(crate) settled: [bool; PLACES],
+    pub(crate) table: PlaceTable,
     pub(crate) has_failed: bool,
     ghost same_words: { words_in words held ≡ words },
     ghost room: { places ≤ places_in places held },
+    ghost permuted: { IsPermutation table.file_place places },
     ghost same_failed: { has_failed_in held ≡ has_failed },
 }

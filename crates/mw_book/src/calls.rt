@@ -2,14 +2,13 @@
 //!
 //! mw_core makes these calls, in its `file_calls.rt`. `specs/Permits` says when one may be made, and
 //! `specs/CallOutcome` what it leaves: change them together. README and docs/PROMISES cite `call`.
-ghost use Rattle.std.specs.Prelude.{◌≡◌, List, []};
+ghost use Rattle.std.specs.Prelude.{◌≡◌, ◌≢◌, List, [], false};
 ghost use Rattle.mw_disk.specs.Runs.{Later};
 ghost use Rattle.mw_words.specs.declared.jobs.Entry.{Entry as EntryAt};
 ghost use Rattle.mw_world_file.specs.Files.{File};
 
 use crate::answers::Filed;
 use crate::book::Book;
-use crate::places::{ahead_with_sealed, vacant_place};
 use mw_disk::Disk;
 use mw_file::Place;
 use mw_look::Call;
@@ -17,9 +16,10 @@ use mw_words::Entries;
 
 impl<D: Disk> Book<D> {
     ghost use Rattle.mw_book.specs.Answers.{Answers};
-    ghost use Rattle.mw_book.specs.OpenFile.{disk_in, OnDisk};
-    ghost use Rattle.mw_book.specs.Representation.{Represents};
-    ghost use Rattle.mw_book.specs.Permits.{MayCall};
+    ghost use Rattle.mw_book.specs.OpenFile.{disk_in, states_in, OnDisk};
+    ghost use Rattle.mw_book.specs.Representation.{Represents, is_prepared_ahead};
+    ghost use Rattle.mw_book.specs.Permits.{HasPlace, HasRoom, MayCall, vacant_place};
+    ghost use Rattle.mw_book.specs.SameFiles.{RepresentsSame};
     ghost use Rattle.mw_book.specs.Ends.{Ends};
     ghost use Rattle.mw_book.specs.Crashes.{IsCrashSafe};
     ghost use Rattle.mw_book.specs.CallOutcome.{IsFiled};
@@ -68,11 +68,46 @@ impl<D: Disk> Book<D> {
         if self.has_failed {
             return Filed::Untouched;
         }
+        let place = self.make_room();
+        self.write_down(place, slot, entries)
+    }
+
+    /// Frees the lowest vacant place in the file, if a change is prepared ahead in it, and returns it.
+    fn make_room(&mut self) -> u16
+        requires sound { self.old.has_failed ≡ false }
+        requires room { HasPlace (states_in self.old.held) self.old.table self.old.places }
+        ensures lowest { result ≡ vacant_place (states_in self.new.held) self.new.table self.new.places }
+        ensures room { HasPlace (states_in self.new.held) self.new.table self.new.places }
+        ensures none_ahead { is_prepared_ahead self.new.table result ≡ false }
+        ensures same { RepresentsSame D.facts self.old self.new }
+    {
         let Some(file) = &mut self.held else {
             unreachable!()
         };
-        let place = vacant_place(file.states(), &self.settled, self.places);
-        if file.prepare_at(Place(place), entries).is_err() {
+        let place = self.table.vacant_place(file.states(), self.places);
+        if !self.table.is_prepared_ahead(place) {
+            return place;
+        }
+        file.cancel(Place(self.table.file_place(place)));
+        self.table.ahead_for[place as usize] = None;
+        place
+    }
+
+    /// Writes the record of a change into a place, for a slot. It is the lowest vacant one, and has no change that is
+    /// prepared ahead.
+    fn write_down(&mut self, place: u16, slot: u8, entries: &Entries) -> Filed
+        requires sound { self.old.has_failed ≡ false }
+        requires room { HasRoom (states_in self.old.held) self.old.table self.old.places self.old.words entries.now.items }
+        requires lowest { place ≡ vacant_place (states_in self.old.held) self.old.table self.old.places }
+        requires none_ahead { is_prepared_ahead self.old.table place ≡ false }
+        ensures filed { IsFiled D.facts Call.Prepare slot entries.now.items self.old self.new result }
+        ensures tried { result ≢ Filed.Untouched }
+    {
+        let number = self.table.file_place(place);
+        let Some(file) = &mut self.held else {
+            unreachable!()
+        };
+        if file.prepare_at(Place(number), entries).is_err() {
             self.has_failed = true;
             return Filed::Broken;
         }
@@ -88,11 +123,11 @@ impl<D: Disk> Book<D> {
         if self.has_failed {
             return Filed::Untouched;
         }
-        let place = self.place_of[slot as usize];
+        let number = self.table.file_place(self.place_of[slot as usize]);
         let Some(file) = &mut self.held else {
             unreachable!()
         };
-        if file.seal(Place(place)).is_err() {
+        if file.seal(Place(number)).is_err() {
             self.has_failed = true;
             return Filed::Broken;
         }
@@ -109,20 +144,20 @@ impl<D: Disk> Book<D> {
             return Filed::Untouched;
         }
         let place = self.place_of[slot as usize] as usize;
-        if self.settled[place] {
-            self.settled[place] = false;
+        if self.table.settled[place] {
+            self.table.settled[place] = false;
             return Filed::Made;
         }
         let Some(file) = &mut self.held else {
             unreachable!()
         };
-        let mut settled = ahead_with_sealed(&self.settled, file.states());
+        let mut settled = self.table.settled_with_sealed(file.states());
         settled[place] = false;
         if file.settle_all().is_err() {
             self.has_failed = true;
             return Filed::Broken;
         }
-        self.settled = settled;
+        self.table.settled = settled;
         Filed::Made
     }
 
@@ -131,11 +166,11 @@ impl<D: Disk> Book<D> {
         requires may { MayCall self.old Call.Cancel slot [] }
         ensures { (entries : List EntryAt) → IsFiled D.facts Call.Cancel slot entries self.old self.new result }
     {
-        let place = self.place_of[slot as usize];
+        let number = self.table.file_place(self.place_of[slot as usize]);
         let Some(file) = &mut self.held else {
             unreachable!()
         };
-        file.cancel(Place(place));
+        file.cancel(Place(number));
         Filed::Made
     }
 }

@@ -21,11 +21,12 @@ mod book;
 mod calls;
 mod laws;
 mod new_books;
-mod places;
+mod place_table;
 mod queries;
 
 pub use answers::Filed;
 pub use book::Book;
+pub use place_table::PlaceTable;
 pub use laws::{
     a_change_alone_makes_the_listed_calls, calls_that_can_be_made, crash_between_calls,
     files_that_are_alike,

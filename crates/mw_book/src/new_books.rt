@@ -9,6 +9,7 @@ ghost use Rattle.mw_file.specs.RecoveryInvariant.{RecoversTo};
 ghost use Rattle.mw_world_file.specs.Files.{file_of};
 
 use crate::book::{Book, PLACES, SLOTS};
+use crate::place_table::{PlaceTable, in_order};
 use mw_disk::Disk;
 use mw_file::TenantFile;
 
@@ -36,7 +37,11 @@ impl<D: Disk> Book<D> {
             words,
             places,
             place_of: [0; SLOTS],
-            settled: [false; PLACES],
+            table: PlaceTable {
+                file_place: in_order(),
+                settled: [false; PLACES],
+                ahead_for: [None; PLACES],
+            },
             has_failed: false,
         }
     }
@@ -53,7 +58,11 @@ impl<D: Disk> Book<D> {
             words,
             places,
             place_of: [0; SLOTS],
-            settled: [false; PLACES],
+            table: PlaceTable {
+                file_place: in_order(),
+                settled: [false; PLACES],
+                ahead_for: [None; PLACES],
+            },
             has_failed: true,
         }
     }
@@ -67,7 +76,7 @@ impl<D: Disk> Book<D> {
             words: _,
             places: _,
             place_of: _,
-            settled: _,
+            table: _,
             has_failed: _,
         } = self;
         match held {

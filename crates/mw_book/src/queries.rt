@@ -6,7 +6,6 @@ ghost use Rattle.std.specs.Prelude.{◌≡◌, ◌&&◌, true, false, nat_lt, is
 ghost use Rattle.mw_world_file.specs.Files.{File, empty_from};
 
 use crate::book::Book;
-use crate::places::vacant_place;
 use mw_disk::Disk;
 
 impl<D: Disk> Book<D> {
@@ -40,13 +39,13 @@ impl<D: Disk> Book<D> {
     /// Tells whether one of the used places is vacant, so that a change can be prepared. A file that didn't open
     /// has no vacant place.
     pub fn has_place(&self) -> bool
-        ensures is { result ≡ (is_some self.now.held && nat_lt (permit.vacant_place (states_in self.now.held) self.now.settled self.now.places) self.now.places) }
-        ensures room { result ≡ true → HasPlace (states_in self.now.held) self.now.settled self.now.places }
+        ensures is { result ≡ (is_some self.now.held && nat_lt (permit.vacant_place (states_in self.now.held) self.now.table self.now.places) self.now.places) }
+        ensures room { result ≡ true → HasPlace (states_in self.now.held) self.now.table self.now.places }
         ensures shown { (file : File) → Represents D.facts self.now file → file.has_failed ≡ false
             → result ≡ nat_lt (empty_from file 0 self.now.places) self.now.places }
     {
         match &self.held {
-            Some(file) => vacant_place(file.states(), &self.settled, self.places) < self.places,
+            Some(file) => self.table.vacant_place(file.states(), self.places) < self.places,
             None => false,
         }
     }

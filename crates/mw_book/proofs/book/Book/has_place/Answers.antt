@@ -11,5 +11,5 @@ pub returns-in-Some-clause-shown : goal.returns-in-Some-clause-shown
 returns-in-Some-clause-shown g c file shows sound =
     let book = c.args.self.now in
     ap (λ place. nat_lt place book.places)
-    (c.vacant_place.ensures ∙ ap (λ states. vacant_place states book.settled book.places) c.states.ensures
-    ∙ found_at (states_of c.in-Some.file) book.settled book.places file (placed_in g.D.Disk.facts book c.in-Some.file c.in-Some.is file shows))
+    (c.vacant_place.ensures ∙ ap (λ states. vacant_place states book.table book.places) c.states.ensures
+    ∙ found_at (states_of c.in-Some.file) book.table book.places file (placed_in g.D.Disk.facts book c.in-Some.file c.in-Some.is file shows))

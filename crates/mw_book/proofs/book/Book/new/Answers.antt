@@ -1,15 +1,19 @@
 -- Proves goals of `Book::new` (src/new_books.rt) that the check does not prove by itself. Used by: the proof of that function
 -- alone. It may change freely as long as this crate checks.
-use Rattle.std.proofs.Common.{false, replicate}
+use Rattle.std.proofs.Common.{replicate}
 use Rattle.std.proofs.lemmas.List.{get_or-replicate}
 use Rattle.mw_words.specs.declared.limits.TheConstants.{MAX_PLACES, MAX_POOL}
-use Rattle.mw_book.proofs.NewBooks.{new_tells, none_ahead}
+use Rattle.mw_book.proofs.FilePlaces.{in_order_permutes}
+use Rattle.mw_book.proofs.NewBooks.{new_tells, none_ahead, none_prepared}
 use Rattle.mw_book.proofs.book.Book.new.Goals as goal
 
 pub returns-clause-shows : goal.returns-clause-shows
 returns-clause-shows g c words long keeps =
-    new_tells g.D.Disk.facts c.args.file words _ c.args.places (replicate MAX_POOL 0) (replicate MAX_PLACES false) c.requires.free (λ slot lt. get_or-replicate MAX_POOL slot 0 0 lt)
-    (none_ahead MAX_PLACES) c.words-words.ensures long keeps
+    new_tells g.D.Disk.facts c.args.file words _ c.args.places (replicate MAX_POOL 0) _ c.requires.free (λ slot lt. get_or-replicate MAX_POOL slot 0 0 lt)
+    (none_ahead MAX_PLACES) (none_prepared MAX_PLACES) c.words-words.ensures long keeps
 
 pub returns-clause-none_ahead : goal.returns-clause-none_ahead
 returns-clause-none_ahead g c = none_ahead MAX_PLACES
+
+pub invariant_of-result-clause-permuted : goal.invariant_of-result-clause-permuted
+invariant_of-result-clause-permuted g c = in_order_permutes c.in_order.result c.args.places c.in_order.ensures

@@ -4,11 +4,11 @@ use Rattle.std.proofs.Common.{◌≡◌, ◌||◌, false, refl, slice_set, subst
 use Rattle.mw_look.specs.declared.steps.Call.TheVariants.{Settle as SettleCall, Cancel as CancelCall}
 use Rattle.mw_file.specs.declared.place_states.Stage.TheVariants.{Sealed}
 use Rattle.mw_file.specs.File.{states_of}
-use Rattle.mw_file.specs.PlaceStates.{roll_calls, stage_of}
+use Rattle.mw_file.specs.PlaceStates.{roll_calls}
 use Rattle.mw_file.proofs.Ended.{ended_well, went_well}
 use Rattle.mw_book.specs.SettledAhead.{is_sealed_stage}
 use Rattle.mw_book.specs.OpenFile.{states_in}
-use Rattle.mw_book.specs.Representation.{is_settled, place_at}
+use Rattle.mw_book.specs.Representation.{is_settled, place_at, stage_in_file}
 use Rattle.mw_book.proofs.FiledCalls.{refused, met_fault, settle_broken, settle_made, settle_ahead}
 use Rattle.mw_book.proofs.PlacesAhead.{let_go_ahead, rolled_ahead, settles_within}
 use Rattle.mw_book.proofs.RepresentedFiles.{failed_as}
@@ -21,37 +21,37 @@ returns-then-self g c entries =
 pub bounds-self-place : goal.bounds-self-place
 bounds-self-place g c =
     let old = c.args.self.now in
-    settles_within old.held old.settled (place_at old c.args.slot) (omega arith) (c.requires.may c.if-self.false)
+    settles_within old.held old.table (place_at old c.args.slot) (omega arith) (omega arith) (c.requires.may c.if-self.false)
 
 pub returns-then-self-place : goal.returns-then-self-place
 returns-then-self-place g c entries =
     let old = c.args.self.now in
     let place = place_at old c.args.slot in
-    let within = settles_within old.held old.settled place (omega arith) (c.requires.may c.if-self.false) in
-    settle_ahead g.D.Disk.facts old _ c.args.slot entries (slice_set old.settled place false) (omega (arith, c.ranges.slot.fits)) c.if-self.false c.if-self-place.true
-    (record { is_held = refl; is_words = refl; is_places = refl; is_place_of = refl; are_settled = refl; is_failed = refl })
-    (let_go_ahead (states_in old.held) old.settled place (omega (arith, within)) c.if-self-place.true)
+    let within = settles_within old.held old.table place (omega arith) (omega arith) (c.requires.may c.if-self.false) in
+    settle_ahead g.D.Disk.facts old _ c.args.slot entries (slice_set old.table.settled place false) (omega (arith, c.ranges.slot.fits)) c.if-self.false c.if-self-place.true
+    (record { is_held = refl; is_words = refl; is_places = refl; is_place_of = refl; is_table = refl; is_failed = refl })
+    (let_go_ahead (states_in old.held) old.table place (omega (arith, within)) c.if-self-place.true)
 
 pub returns-then-is_err : goal.returns-then-is_err
 returns-then-is_err g c entries =
     let old = c.args.self.now in
     let bad = sym c.is_err.ensures.value ∙ c.if-is_err.true in
     settle_broken g.D.Disk.facts old _ c.in-Some.file c.settle_all.new.self c.in-Some.is c.settle_all.ensures.later c.settle_all.ensures.safe c.args.slot (omega (arith, c.ranges.slot.fits))
-    (subst (λ held. stage_of (states_in held) (place_at old c.args.slot) ≡ Sealed) c.in-Some.is (c.requires.may c.if-self.false c.if-self-place.false)) c.if-self-place.false c.if-self.false entries
-    (record { is_held = refl; is_words = refl; is_places = refl; is_place_of = refl; are_settled = refl; is_failed = refl })
+    (subst (λ held. stage_in_file (states_in held) old.table (place_at old c.args.slot) ≡ Sealed) c.in-Some.is (c.requires.may c.if-self.false c.if-self-place.false)) c.if-self-place.false c.if-self.false entries
+    (record { is_held = refl; is_words = refl; is_places = refl; is_place_of = refl; is_table = refl; is_failed = refl })
     (met_fault g.D.Disk.facts (roll_calls (states_of c.in-Some.file)) c.in-Some.file c.settle_all.new.self c.settle_all.result bad (failed_as g.D.Disk.facts old c.in-Some.file c.in-Some.is ∙ c.if-self.false) c.settle_all.ensures.ends)
 
 pub returns : goal.returns
 returns g c entries =
     let old = c.args.self.now in
     let place = place_at old c.args.slot in
-    let more = c.ahead_with_sealed-settled.result in
+    let more = c.settled_with_sealed-settled.result in
     let well = sym c.is_err.ensures.value ∙ c.if-is_err.false in
-    let within = settles_within old.held old.settled place (omega arith) (c.requires.may c.if-self.false) in
+    let within = settles_within old.held old.table place (omega arith) (omega arith) (c.requires.may c.if-self.false) in
     settle_made g.D.Disk.facts old _ c.in-Some.file c.settle_all.new.self c.in-Some.is c.settle_all.ensures.later c.settle_all.ensures.safe c.args.slot (omega (arith, c.ranges.slot.fits))
-    (subst (λ held. stage_of (states_in held) place ≡ Sealed) c.in-Some.is (c.requires.may c.if-self.false c.if-self-place.false)) c.if-self-place.false c.if-self.false entries (slice_set more place false)
-    (record { is_held = refl; is_words = refl; is_places = refl; is_place_of = refl; are_settled = refl; is_failed = refl })
-    (rolled_ahead (states_of c.in-Some.file) old.settled more place (omega (arith, within)) c.if-self-place.false
-    (λ k. c.ahead_with_sealed-settled.ensures k ∙ ap (λ states. is_settled old.settled k || is_sealed_stage (stage_of states k)) c.states.ensures))
+    (subst (λ held. stage_in_file (states_in held) old.table place ≡ Sealed) c.in-Some.is (c.requires.may c.if-self.false c.if-self-place.false)) c.if-self-place.false c.if-self.false entries (slice_set more place false)
+    (record { is_held = refl; is_words = refl; is_places = refl; is_place_of = refl; is_table = refl; is_failed = refl })
+    (rolled_ahead (states_of c.in-Some.file) old.table more place (omega (arith, within)) c.if-self-place.false
+    (λ k. c.settled_with_sealed-settled.ensures k ∙ ap (λ states. is_settled old.table k || is_sealed_stage (stage_in_file states old.table k)) c.states.ensures))
     (went_well c.settle_all.result _ well c.settle_all.ensures.freed)
     (ended_well g.D.Disk.facts (roll_calls (states_of c.in-Some.file)) c.in-Some.file c.settle_all.new.self c.settle_all.result well c.settle_all.ensures.ends)

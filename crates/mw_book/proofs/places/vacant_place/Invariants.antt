@@ -1,9 +1,0 @@
--- States what stays true from turn to turn in the loop of `vacant_place` (src/places.rt). Used by: the proof of that function
--- alone. It may change freely as long as this crate checks.
-use Rattle.std.proofs.Common.{◌≡◌, ◌-◌}
-use Rattle.mw_book.specs.Permits.{vacant_from, vacant_place}
-use Rattle.mw_book.proofs.places.vacant_place.Given as goal
-
--- no place so far is vacant
-abbrev pub invariant-loop-place : goal.invariant-loop-place
-invariant-loop-place l = vacant_from l.states l.settled l.place (l.places - l.place) ≡ vacant_place l.states l.settled l.places

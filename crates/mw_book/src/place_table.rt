@@ -1,0 +1,115 @@
+//! Where a book's file has the change of each place, and which changes are in the file ahead of the world: settled
+//! there before their own slots settle them, or prepared there before their own slots prepare them.
+//!
+//! `calls.rt` and `queries.rt` call these. `specs/Representation`, `specs/Permits` and `specs/SettledAhead` have what
+//! they compute.
+ghost use Rattle.std.specs.Prelude.{◌≡◌, ◌≤◌, ◌<◌, ◌||◌, ℕ, length};
+ghost use Rattle.mw_words.specs.declared.limits.TheConstants.{MAX_PLACES};
+ghost use Rattle.mw_file.specs.PlaceStates as spec;
+ghost use Rattle.mw_book.specs.Permits as permit;
+ghost use Rattle.mw_book.specs.Representation as held;
+ghost use Rattle.mw_book.specs.SettledAhead.{is_sealed_stage};
+ghost use Rattle.mw_book.specs.FilePlaces.{flag_of, place_in};
+
+use crate::book::PLACES;
+use mw_file::{PlaceState, Stage};
+
+/// What a book keeps for each place that the world knows.
+#[derive(Clone, Copy)]
+pub struct PlaceTable {
+    /// The file's place of it.
+    pub(crate) file_place: [u16; PLACES],
+    /// Its change is settled ahead, by the settle of another one, and its slot has not settled it yet.
+    pub(crate) settled: [bool; PLACES],
+    /// The slot of the change that is prepared ahead in it, which the slot has not prepared yet.
+    pub(crate) ahead_for: [Option<u8>; PLACES],
+}
+
+impl PlaceTable {
+    /// Returns the file's place of a place.
+    pub(crate) fn file_place(&self, place: u16) -> u16
+        ensures { result ≡ held.place_in_file self.now place }
+    {
+        match self.file_place.get(place as usize) {
+            Some(number) => *number,
+            None => place,
+        }
+    }
+
+    /// Tells whether a change is prepared ahead in a place.
+    pub(crate) fn is_prepared_ahead(&self, place: u16) -> bool
+        requires { place < MAX_PLACES }
+        ensures { result ≡ held.is_prepared_ahead self.now place }
+    {
+        self.ahead_for[place as usize].is_some()
+    }
+
+    /// Tells whether a place is vacant: it is free in the file, or has a change that is prepared ahead, and has none
+    /// that is settled ahead.
+    pub(crate) fn is_vacant(&self, states: &[PlaceState], place: u16) -> bool
+        requires { place < MAX_PLACES }
+        ensures { result ≡ permit.is_vacant states.now self.now place }
+    {
+        let stage = stage_of(states, self.file_place(place));
+        is_left(self.is_prepared_ahead(place), stage) && !self.settled[place as usize]
+    }
+
+    /// Returns the lowest vacant place among the first `places` places, or `places` if none is vacant.
+    pub(crate) fn vacant_place(&self, states: &[PlaceState], places: u16) -> u16
+        requires few { places ≤ MAX_PLACES }
+        ensures { result ≡ permit.vacant_place states.now self.now places }
+    {
+        for place in 0..places {
+            if self.is_vacant(states, place) {
+                return place;
+            }
+        }
+        places
+    }
+
+    /// Returns which places' changes are settled ahead if each sealed one is too.
+    pub(crate) fn settled_with_sealed(&self, states: &[PlaceState]) -> [bool; PLACES]
+        requires few { length states.now ≤ MAX_PLACES }
+        ensures { (place : ℕ) → flag_of result place ≡ (held.is_settled self.now place || is_sealed_stage (held.stage_in_file states.now self.now place)) }
+    {
+        let mut flags = self.settled;
+        for place in 0..PLACES {
+            if stage_of(states, self.file_place(place as u16)) == Stage::Sealed {
+                flags[place] = true;
+            }
+        }
+        flags
+    }
+}
+
+/// Returns how far the change in a place of a file is. A place that is not one of the file's is free.
+fn stage_of(states: &[PlaceState], place: u16) -> Stage
+    ensures { result ≡ spec.stage_of states.now place }
+{
+    match states.get(place as usize) {
+        Some(state) => state.stage,
+        None => Stage::Free,
+    }
+}
+
+/// Tells whether this is the stage of a place that may be vacant, by whether a change is prepared ahead in it.
+fn is_left(ahead: bool, stage: Stage) -> bool
+    ensures { result ≡ permit.is_left ahead stage }
+{
+    match stage {
+        Stage::Free => !ahead,
+        Stage::Prepared => ahead,
+        Stage::Sealed => false,
+    }
+}
+
+/// Returns the table in which each place is the file's place of the same number.
+pub(crate) fn in_order() -> [u16; PLACES]
+    ensures { (place : ℕ) → place_in result place ≡ place }
+{
+    let mut table = [0; PLACES];
+    for place in 0..PLACES {
+        table[place] = place as u16;
+    }
+    table
+}
