@@ -1,26 +1,29 @@
 -- A call for a change that is alone makes just the device calls that the world lists, and settles no change ahead.
 -- Used by: the law a_change_alone_makes_the_listed_calls. It may change freely as long as this crate checks.
-use Rattle.std.proofs.Common.{◌≡◌, ◌≢◌, ℕ, ◌+◌, ◌<◌, ◌||◌, ◌&&◌, not, Bool, true, false, length, nat_lt, refl, sym, ap, ◌∙◌, inl, inr}
-use Rattle.std.proofs.lemmas.Bool.{and_parts, cases_eq, cases_lt, cond-true, cond-false, eq-eqb, ne_eqb, ltb-true}
+use Rattle.std.proofs.Common.{◌≡◌, ◌≢◌, ℕ, ◌+◌, ◌<◌, ◌||◌, ◌&&◌, not, Bool, true, false, List, Option, Some, None, is_some, get_or, length, nat_lt, refl, sym, ap, ◌∙◌, inl, inr, arith}
+use Rattle.std.proofs.lemmas.Bool.{and_parts, cases_eq, cases_lt, cond-true, cond-false, eq-eqb, ne_eqb, le-ltb, ltb-true}
 use Rattle.std.proofs.lemmas.List.{length-map}
+use Rattle.mw_words.specs.declared.jobs.Entry.{Entry}
 use Rattle.mw_look.specs.declared.steps.Call.{Call}
 use Rattle.mw_look.specs.declared.steps.Call.TheVariants.{Prepare as PrepareCall, Seal as SealCall, Settle as SettleCall, Cancel as CancelCall}
 use Rattle.mw_disk.specs.Facts.{Facts}
 use Rattle.mw_file.specs.PlaceStates.{stage_of, IsOnlySealed}
 use Rattle.mw_file.proofs.SharedSettles.{one_count}
 use Rattle.mw_world_file.specs.Devices.{stage_told}
-use Rattle.mw_world_file.specs.Files.{File, Place, Empty, Prepared, Sealed, entries_at, is_sealed}
+use Rattle.mw_world_file.specs.Files.{File, Place, Empty, Prepared, Sealed, empty_from, entries_at, is_sealed}
 use Rattle.mw_book.specs.declared.answers.Filed.{Filed}
 use Rattle.mw_book.specs.declared.answers.Filed.TheVariants.{Made, Broken, Untouched}
 use Rattle.mw_book.specs.declared.book.Book.{Book}
 use Rattle.mw_book.specs.Alone.{AloneLeavesNoneAhead, AloneMakesListedCalls, FindsAlone}
-use Rattle.mw_book.specs.Ends.{settle_calls}
+use Rattle.mw_book.specs.Ends.{prepare_calls, settle_calls}
+use Rattle.mw_book.specs.PreparedAhead.{HasNonePrepared, are_writes_of, has_written, is_for, written_place}
 use Rattle.mw_book.specs.SettledAhead.{is_sealed_stage, ahead_after, ahead_by_settle}
 use Rattle.mw_book.specs.OpenFile.{states_in}
-use Rattle.mw_book.specs.Representation.{is_prepared_ahead, is_settled, place_at, place_in_file, stage_held, stage_in_file}
+use Rattle.mw_book.specs.Representation.{is_prepared_ahead, is_settled, place_at, place_in_file, stage_held, stage_in_file, writes_in_file}
 use Rattle.mw_book.proofs.ApartChanges.{sealed_stage}
 use Rattle.mw_book.proofs.FilePlaces.{IsAt, used_at}
 use Rattle.mw_book.proofs.PlacesAhead.{busy_sealed, held_plain, own_busy}
+use Rattle.mw_book.proofs.WrittenPlaces.{written_none}
 
 told_open : (p : Place) → is_sealed p ≡ false → is_sealed_stage (stage_told p) ≡ false
 told_open Empty is = refl
@@ -89,11 +92,22 @@ module _ {D : Type 0} (facts : D → Facts) (book : Book D) (file : File) (slot 
     rest : Bool
     rest = is_settled book.table place || (not (is_settled book.table (place_at book slot)) && is_sealed_stage (stage_in_file (states_in book.held) book.table place))
 
+-- where none is prepared ahead no record is
+none_for : (found : Option ℕ) (slot : ℕ) → is_some found ≡ false → is_for found slot ≡ false
+none_for None slot none = refl
+none_for (Some other) slot none = absurd (let e : true ≡ false = none in cc)
+
+none_written : {D : Type 0} (book : Book D) (slot : ℕ) (entries : List Entry) → HasNonePrepared book → has_written book slot entries ≡ false
+none_written book slot entries none =
+    let at = written_none (states_in book.held) book.table slot entries 0 book.places (λ place. ap (λ b. b && are_writes_of (writes_in_file (states_in book.held) book.table place) entries)
+    (none_for (get_or book.table.ahead_for place None) slot (none place))) in
+    le-ltb (written_place (states_in book.held) book.table slot entries book.places) book.places (omega (arith, at))
+
 pub makes_listed : {D : Type 0} (facts : D → Facts) → AloneMakesListedCalls facts
-makes_listed facts book file PrepareCall slot finds = refl
-makes_listed facts book file SealCall slot finds = refl
-makes_listed facts book file SettleCall slot finds = settle_listed facts book file slot finds
-makes_listed facts book file CancelCall slot finds = refl
+makes_listed facts book file PrepareCall slot entries finds = ap (λ b. prepare_calls b (entries_at file (empty_from file 0 book.places))) (none_written book slot entries finds.none_prepared)
+makes_listed facts book file SealCall slot entries finds = refl
+makes_listed facts book file SettleCall slot entries finds = settle_listed facts book file slot finds
+makes_listed facts book file CancelCall slot entries finds = refl
 
 none_ahead_after : {D : Type 0} (facts : D → Facts) (old : Book D) (file : File) (call : Call) (slot : ℕ) (answer : Filed) → FindsAlone facts old file call slot → (place : ℕ)
     → ahead_after call slot old answer place ≡ false

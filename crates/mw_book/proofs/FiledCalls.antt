@@ -34,8 +34,9 @@ use Rattle.mw_book.specs.declared.place_table.PlaceTable.{PlaceTable}
 use Rattle.mw_book.specs.FilePlaces.{flag_of}
 use Rattle.mw_book.specs.Answers.{Answers, is_refused, NoFault, OneFault}
 use Rattle.mw_book.specs.Crashes.{LeavesEither, stake_of}
-use Rattle.mw_book.specs.Ends.{Ends, FailedAt, calls_on, settle_calls}
+use Rattle.mw_book.specs.Ends.{Ends, FailedAt, calls_on, prepare_calls, settle_calls}
 use Rattle.mw_book.specs.CallOutcome.{IsFiled}
+use Rattle.mw_book.specs.PreparedAhead.{has_written}
 use Rattle.mw_book.specs.SameFiles.{RepresentsSame}
 use Rattle.mw_book.specs.SettledAhead.{ahead_after, ahead_by_settle}
 use Rattle.mw_book.specs.Permits.{HasPlace, vacant_place}
@@ -137,7 +138,7 @@ module _ {D : Type 0} (facts : D → Facts) (old new : Book D) (held now : Tenan
   -- a device call failed
   module _ (parts : HasParts new (Some now) old.words old.places old.place_of old.table true) (sound : old.has_failed ≡ false) (calls : ℕ) (met : MetFault facts calls held now)
       (call : Call) (slot : ℕ) (entries : List Entry) (other : call ≡ CancelCall → ⊥) (fails : (file : File) → fails_on call file ≡ file.has_failed) where
-    pub broke : ((entries_there : List Entry) → calls ≡ calls_on old call slot entries_there)
+    pub broke : ((entries_there : List Entry) → calls ≡ calls_on old call slot entries entries_there)
         → ((file : File) → Represents facts old file → IsTrue (facts (disk_of held)).honest → RecoversTo facts now file.contents (pairs_of (doubt_of call (entries_at file (place_for call file old.places slot)))))
         → ((file : File) → Represents facts old file → LeavesEither file.contents (at_stake call file (place_for call file old.places slot)) (facts (disk_of held)) (facts (disk_of now)))
         → IsFiled facts call slot entries old new Broken
@@ -151,7 +152,7 @@ module _ {D : Type 0} (facts : D → Facts) (old new : Book D) (held now : Tenan
             began = fails file ∙ shows.same_failed ∙ sound;
             number = so.number;
             within = so.within;
-            failed = on_disk facts (Bad (calls_on old call slot (entries_at file place))) old.held new.held held now is_old parts.is_held
+            failed = on_disk facts (Bad (calls_on old call slot entries (entries_at file place))) old.held new.held held now is_old parts.is_held
                 (subst (λ n. Bad n (facts (disk_of held)) (facts (disk_of now))) (many (entries_at file place)) met.made);
             made = λ same. on_disk facts (FailedAt listed so.number) old.held new.held held now is_old parts.is_held
                 (subst (λ n. FailedAt n so.number (facts (disk_of held)) (facts (disk_of now))) (many (entries_at file place) ∙ same)
@@ -187,23 +188,25 @@ module _ {D : Type 0} (facts : D → Facts) (old new : Book D) (held now : Tenan
         subst (λ doubt. RecoversTo facts now file.contents doubt) (certain facts old held is_old file shows sound honest) (stays file shows honest).after
 
     -- a prepare in which the device failed
-    pub prepare_broken : (slot : ℕ) (entries : List Entry) → HasParts new (Some now) old.words old.places old.place_of old.table true → old.has_failed ≡ false → MetFault facts 2 held now
+    pub prepare_broken : (slot : ℕ) (entries : List Entry) → HasParts new (Some now) old.words old.places old.place_of old.table true → old.has_failed ≡ false → has_written old slot entries ≡ false → MetFault facts 2 held now
         → IsFiled facts PrepareCall slot entries old new Broken
-    prepare_broken slot entries parts sound met =
-        broke parts sound 2 met PrepareCall slot entries (λ is. let e : PrepareCall ≡ CancelCall = is in cc) (λ file. refl) (λ there. refl) (stays_certain sound) stays_safe
+    prepare_broken slot entries parts sound none met =
+        broke parts sound 2 met PrepareCall slot entries (λ is. let e : PrepareCall ≡ CancelCall = is in cc) (λ file. refl) (λ there. sym (ap (λ b. prepare_calls b there) none)) (stays_certain sound)
+        stays_safe
 
-    pub prepare_made : (slot place : ℕ) (entries : List Entry) → place ≡ vacant_place (states_of held) old.table old.places → is_prepared_ahead old.table place ≡ false
+    pub prepare_made : (slot place : ℕ) (entries : List Entry) → place ≡ vacant_place (states_of held) old.table old.places → is_prepared_ahead old.table place ≡ false → has_written old slot entries ≡ false
         → HasParts new (Some now) old.words old.places (slice_set old.place_of slot place) old.table old.has_failed
         → old.has_failed ≡ false → slot < MAX_POOL → MAX_POOL ≤ length old.place_of → WentWell facts 2 held now
         → IsStaged (states_of held) (states_of now) (place_in_file old.table place) PreparedStage (pairs_of entries) → HasPlace (states_of held) old.table old.places
         → IsFiled facts PrepareCall slot entries old new Made
-    prepare_made slot place entries is own parts sound within long went staged room = record {
+    prepare_made slot place entries is own none parts sound within long went staged room = record {
       ends = λ file shows.
           let placed = placed_in facts old held is_old file shows in
           let same = is ∙ found_at (states_of held) old.table old.places file placed in
           record {
             began = shows.same_failed ∙ sound;
-            made = on_disk facts (Good 2) old.held new.held held now is_old parts.is_held went.made;
+            made = on_disk facts (Good (prepare_calls (has_written old slot entries) (entries_at file (place_for PrepareCall file old.places slot)))) old.held new.held held now is_old parts.is_held
+                (subst (λ b. Good (prepare_calls b (entries_at file (place_for PrepareCall file old.places slot))) (facts (disk_of held)) (facts (disk_of now))) (sym none) went.made);
             shows = subst (λ p. Represents facts new (prepared file slot p entries)) same
                 (shows_parts facts new (Some now) old.words old.places (slice_set old.place_of slot place) old.table old.has_failed (prepared file slot place entries) parts (record {
                   same_words = shows.same_words;
@@ -383,22 +386,29 @@ settle_ahead facts old new slot entries flags within sound ahead parts are = rec
 }
 
 -- After a change that was prepared ahead was given up, a prepare that was tried ends for the book before that too.
-tried_same : {D : Type 0} (facts : D → Facts) (slot : ℕ) (entries : List Entry) (old mid new : Book D) (result : Filed) → RepresentsSame facts old mid → (result ≡ Untouched → ⊥)
-    → (file : File) → Ends facts PrepareCall slot entries file mid new result → Represents facts old file → Ends facts PrepareCall slot entries file old new result
-tried_same facts slot entries old mid new Made same tried file ends shows = record {
-  began = ends.began;
-  made = subst (λ d. OnDisk facts (Good 2) d (disk_in new.held)) same.disk ends.made;
-  shows = subst (λ n. Represents facts new (filed PrepareCall file slot (place_for PrepareCall file n slot) entries)) same.places ends.shows;
-}
-tried_same facts slot entries old mid new Broken same tried file ends shows = record {
-  began = ends.began;
-  number = ends.number;
-  within = ends.within;
-  failed = subst (λ d. OnDisk facts (Bad 2) d (disk_in new.held)) same.disk ends.failed;
-  made = λ is. subst (λ d. OnDisk facts (FailedAt 2 ends.number) d (disk_in new.held)) same.disk (ends.made is);
-  shows = ends.shows;
-}
-tried_same facts slot entries old mid new Untouched same tried file ends shows = absurd (tried refl)
+module _ {D : Type 0} (facts : D → Facts) (slot : ℕ) (entries : List Entry) (old mid new : Book D) (same : RepresentsSame facts old mid) (none : has_written old slot entries ≡ false) (still_none : has_written mid slot entries ≡ false) where
+  same_calls : (there : List Entry) → calls_on mid PrepareCall slot entries there ≡ calls_on old PrepareCall slot entries there
+  same_calls there = ap (λ b. prepare_calls b there) (still_none ∙ sym none)
+
+  tried_same : (result : Filed) → (result ≡ Untouched → ⊥) → (file : File) → Ends facts PrepareCall slot entries file mid new result → Represents facts old file → Ends facts PrepareCall slot entries file old new result
+  tried_same Made tried file ends shows = record {
+    began = ends.began;
+    made = subst (λ d. OnDisk facts (Good (calls_on old PrepareCall slot entries (entries_at file (place_for PrepareCall file old.places slot)))) d (disk_in new.held)) same.disk
+        (subst (λ n. OnDisk facts (Good n) (disk_in mid.held) (disk_in new.held)) (same_calls (entries_at file (place_for PrepareCall file old.places slot)))
+        (subst (λ places. OnDisk facts (Good (calls_on mid PrepareCall slot entries (entries_at file (place_for PrepareCall file places slot)))) (disk_in mid.held) (disk_in new.held)) same.places ends.made));
+    shows = subst (λ n. Represents facts new (filed PrepareCall file slot (place_for PrepareCall file n slot) entries)) same.places ends.shows;
+  }
+  tried_same Broken tried file ends shows = record {
+    began = ends.began;
+    number = ends.number;
+    within = ends.within;
+    failed = subst (λ d. OnDisk facts (Bad (calls_on old PrepareCall slot entries (entries_at file (place_for PrepareCall file old.places slot)))) d (disk_in new.held)) same.disk
+        (subst (λ n. OnDisk facts (Bad n) (disk_in mid.held) (disk_in new.held)) (same_calls (entries_at file (place_for PrepareCall file old.places slot)))
+        (subst (λ places. OnDisk facts (Bad (calls_on mid PrepareCall slot entries (entries_at file (place_for PrepareCall file places slot)))) (disk_in mid.held) (disk_in new.held)) same.places ends.failed));
+    made = λ is. subst (λ d. OnDisk facts (FailedAt 2 ends.number) d (disk_in new.held)) same.disk (ends.made (ap (λ b. prepare_calls b (entries_at file (place_for PrepareCall file mid.places slot))) still_none));
+    shows = ends.shows;
+  }
+  tried_same Untouched tried file ends shows = absurd (tried refl)
 
 answered_same : {D : Type 0} (facts : D → Facts) (old mid new : Book D) (result : Filed) → RepresentsSame facts old mid → (result ≡ Untouched → ⊥) → Answers facts PrepareCall mid new result → Answers facts PrepareCall old new result
 answered_same facts old mid new Made same tried answers = record {
@@ -420,9 +430,9 @@ stake_prepare Broken file place other = refl
 stake_prepare Untouched file place other = refl
 
 pub prepare_after : {D : Type 0} (facts : D → Facts) (slot : ℕ) (entries : List Entry) (old mid new : Book D) (result : Filed) → RepresentsSame facts old mid → (result ≡ Untouched → ⊥)
-    → IsFiled facts PrepareCall slot entries mid new result → IsFiled facts PrepareCall slot entries old new result
-prepare_after facts slot entries old mid new result same tried is = record {
-  ends = λ file shows. tried_same facts slot entries old mid new result same tried file (is.ends file (same.shows file shows)) shows;
+    → has_written old slot entries ≡ false → has_written mid slot entries ≡ false → IsFiled facts PrepareCall slot entries mid new result → IsFiled facts PrepareCall slot entries old new result
+prepare_after facts slot entries old mid new result same tried none still_none is = record {
+  ends = λ file shows. tried_same facts slot entries old mid new same none still_none result tried file (is.ends file (same.shows file shows)) shows;
   answers = answered_same facts old mid new result same tried is.answers;
   moments = λ file shows.
       subst (λ change. OnDisk facts (LeavesEither file.contents change) (disk_in old.held) (disk_in new.held))

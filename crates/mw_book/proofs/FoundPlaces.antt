@@ -25,7 +25,7 @@ vacant_held false false (Prepared entries) settled none = refl
 vacant_held false false (Sealed entries) settled none = refl
 
 module _ (states : List PlaceState) (table : PlaceTable) (places : ℕ) (file : File) (placed : ArePlaced states table places file.places) where
-  vacant_told : (place : ℕ) → place < places → is_vacant states table place ≡ is_empty (file.places place)
+  pub vacant_told : (place : ℕ) → place < places → is_vacant states table place ≡ is_empty (file.places place)
   vacant_told place lt =
       ap (λ s. is_left (is_prepared_ahead table place) s && not (is_settled table place)) (placed.stages place lt)
       ∙ vacant_held (is_settled table place) (is_prepared_ahead table place) (file.places place) (placed.ahead place lt) (placed.empty_ahead place lt)

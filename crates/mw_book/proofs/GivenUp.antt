@@ -1,10 +1,11 @@
 -- If a change that was prepared ahead is given up in the lowest vacant place, the book represents the same files, and that place is the
 -- lowest vacant one still.
 -- Used by: the proof of Book::make_room. It may change freely as long as this crate checks.
-use Rattle.std.proofs.Common.{◌≡◌, ◌≢◌, ℕ, ◌<◌, ◌≤◌, ◌&&◌, not, Bool, true, false, List, length, Option, Some, None, is_some, get_or, slice_set, IsTrue, refl, sym, ap, subst, ◌∙◌, inl, inr, arith}
-use Rattle.std.proofs.lemmas.Bool.{cases_eq}
+use Rattle.std.proofs.Common.{◌≡◌, ◌≢◌, ℕ, ◌<◌, ◌≤◌, ◌&&◌, not, Bool, true, false, List, length, Option, Some, None, is_some, get_or, slice_set, nat_lt, IsTrue, refl, sym, ap, subst, ◌∙◌, inl, inr, arith}
+use Rattle.std.proofs.lemmas.Bool.{cases_eq, lt-ltb, ltb-true}
 use Rattle.std.proofs.lemmas.List.{get_or-set_same, get_or-set_other}
 use Rattle.mw_words.specs.declared.limits.TheConstants.{MAX_PLACES}
+use Rattle.mw_words.specs.declared.jobs.Entry.{Entry}
 use Rattle.mw_disk.specs.Facts.{Facts}
 use Rattle.mw_record.specs.Records.{Pairs}
 use Rattle.mw_record.specs.Layout.{pairs_of}
@@ -18,11 +19,13 @@ use Rattle.mw_book.specs.declared.book.Book.{Book}
 use Rattle.mw_book.specs.declared.place_table.PlaceTable.{PlaceTable}
 use Rattle.mw_book.specs.OpenFile.{states_in, disk_in}
 use Rattle.mw_book.specs.Permits.{HasPlace, is_left, is_vacant, vacant_place}
-use Rattle.mw_book.specs.Representation.{HasParts, Represents, is_prepared_ahead, is_settled, place_in_file, stage_in_file}
+use Rattle.mw_book.specs.PreparedAhead.{are_writes_of, is_for, is_written, written_place}
+use Rattle.mw_book.specs.Representation.{HasParts, Represents, is_prepared_ahead, is_settled, place_in_file, stage_in_file, writes_in_file}
 use Rattle.mw_book.specs.SameFiles.{RepresentsSame}
 use Rattle.mw_book.proofs.FoundPlaces.{vacant_alike, vacant_plain, vacant_prepared, vacant_so}
 use Rattle.mw_book.proofs.RepresentedFiles.{keeps_in, placed_in, shows_parts, there_held}
 use Rattle.mw_book.proofs.StagedPlaces.{placed_without}
+use Rattle.mw_book.proofs.WrittenPlaces.{written_ahead, written_found, written_there}
 
 -- the table without the change that was prepared ahead in a place
 abbrev pub without : PlaceTable → ℕ → PlaceTable
@@ -67,6 +70,28 @@ module _ {D : Type 0} (facts : D → Facts) (old : Book D) (held now : TenantFil
 
   pub still_room : HasPlace (states_of now) (without old.table place) old.places
   still_room = let lt = low in let at = still_lowest in omega (arith, at, lt)
+
+  -- a record that is prepared ahead was so before
+  fewer_at : (slot : ℕ) (entries : List Entry) (k : ℕ) → k < old.places → is_written (states_of now) (without old.table place) slot entries k ≡ true → is_written (states_of held) old.table slot entries k ≡ true
+  fewer_at slot entries k lt has = elim (cases_eq k place) [
+    | inl here ↦ absurd (let e : true ≡ false = sym (written_ahead (states_of now) (without old.table place) slot entries k has) ∙ ap (is_prepared_ahead (without old.table place)) here ∙ gone in cc)
+    | inr apart ↦
+        ap (λ found. is_for found slot && are_writes_of (writes_in_file (states_of held) old.table k) entries) (sym (get_or-set_other old.table.ahead_for place k None None apart))
+        ∙ ap (λ ws. is_for (get_or (without old.table place).ahead_for k None) slot && are_writes_of ws entries)
+        (sym (staged.writes_there (place_in_file old.table k) (λ same. apart (old.permuted.apart k place lt low same)))) ∙ has
+  ]
+
+  pub fewer : (slot : ℕ) (entries : List Entry) → nat_lt (written_place (states_of held) old.table slot entries old.places) old.places ≡ false
+      → nat_lt (written_place (states_of now) (without old.table place) slot entries old.places) old.places ≡ false
+  fewer slot entries none = by (nat_lt (written_place (states_of now) (without old.table place) slot entries old.places) old.places) refl where
+    by : (b : Bool) → nat_lt (written_place (states_of now) (without old.table place) slot entries old.places) old.places ≡ b → b ≡ false
+    by false is = refl
+    by true is =
+        let lt = ltb-true (written_place (states_of now) (without old.table place) slot entries old.places) old.places is in
+        let there = written_there (states_of now) (without old.table place) slot entries 0 old.places (omega (arith, lt)) in
+        let was = fewer_at slot entries (written_place (states_of now) (without old.table place) slot entries old.places) lt there in
+        let found = written_found (states_of held) old.table slot entries 0 old.places (written_place (states_of now) (without old.table place) slot entries old.places) (omega arith) (omega (arith, lt)) was in
+        absurd (let e : true ≡ false = sym (lt-ltb (written_place (states_of held) old.table slot entries old.places) old.places (omega (arith, found))) ∙ none in cc)
 
   pub represents_same : (new : Book D) → HasParts new (Some now) old.words old.places old.place_of (without old.table place) old.has_failed → disk_of now ≡ disk_of held → ContentsStay facts held now → RepresentsSame facts old new
   represents_same new parts same safe = record {

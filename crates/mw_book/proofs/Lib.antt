@@ -10,3 +10,5 @@ pub mod PermittedCalls
 pub mod PlacesAhead
 pub mod RepresentedFiles
 pub mod StagedPlaces
+pub mod TakenPlaces
+pub mod WrittenPlaces

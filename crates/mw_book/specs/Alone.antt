@@ -1,4 +1,4 @@
--- Defines that a change is alone: no other change is sealed, as with one client. Then each call makes just the device calls that the
+-- Defines that a change is alone: no other change is sealed, and none is settled or prepared ahead, as with one client. Then each call makes just the device calls that the
 -- world lists, and leaves no change settled ahead.
 -- Used by: the contracts of laws.rt. A change here changes the law a_change_alone_makes_the_listed_calls.
 use Rattle.std.specs.Prelude.{◌≡◌, ◌≢◌, ◌<◌, ℕ, true, false, List}
@@ -12,6 +12,7 @@ use Rattle.mw_book.specs.declared.answers.Filed.{Filed}
 use Rattle.mw_book.specs.declared.book.Book.{Book}
 use Rattle.mw_book.specs.CallOutcome.{IsFiled}
 use Rattle.mw_book.specs.Ends.{calls_on}
+use Rattle.mw_book.specs.PreparedAhead.{HasNonePrepared}
 use Rattle.mw_book.specs.SettledAhead.{HasNoneAhead}
 use Rattle.mw_book.specs.Representation.{Represents}
 
@@ -20,18 +21,19 @@ abbrev pub IsAlone : File → ℕ → ℕ → Type 0
 IsAlone file places place = (other : ℕ) → other < places → other ≢ place → is_sealed (file.places other) ≡ false
 
 module _ {D : Type 0} (facts : D → Facts) where
-  -- The call suits the place that it is for. No other change is sealed, and none is settled ahead.
+  -- The call suits the place that it is for. No other change is sealed, none is settled ahead, and none is prepared ahead.
   pub record FindsAlone (book : Book D) (file : File) (call : Call) (slot : ℕ) : Type 0 where
     pub within : slot < MAX_POOL
     pub shows : Represents facts book file
     pub suited : suits call file book.places (place_for call file book.places slot) ≡ true
     pub alone : IsAlone file book.places (place_for call file book.places slot)
     pub none_ahead : HasNoneAhead book
+    pub none_prepared : HasNonePrepared book
 
   -- such a call makes as many device calls as the world lists
   abbrev pub AloneMakesListedCalls : Type 0
-  AloneMakesListedCalls = (book : Book D) (file : File) (call : Call) (slot : ℕ) → FindsAlone book file call slot
-      → calls_on book call slot (entries_at file (place_for call file book.places slot)) ≡ device_calls call (entries_at file (place_for call file book.places slot))
+  AloneMakesListedCalls = (book : Book D) (file : File) (call : Call) (slot : ℕ) (entries : List Entry) → FindsAlone book file call slot
+      → calls_on book call slot entries (entries_at file (place_for call file book.places slot)) ≡ device_calls call (entries_at file (place_for call file book.places slot))
 
   -- and it settles none ahead
   abbrev pub AloneLeavesNoneAhead : Type 0

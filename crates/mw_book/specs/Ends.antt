@@ -4,7 +4,7 @@
 use Rattle.std.specs.Prelude.{◌≡◌, ◌+◌, ℕ, Bool, true, false, List}
 use Rattle.mw_words.specs.declared.jobs.Entry.{Entry}
 use Rattle.mw_look.specs.declared.steps.Call.{Call}
-use Rattle.mw_look.specs.declared.steps.Call.TheVariants.{Settle as SettleCall}
+use Rattle.mw_look.specs.declared.steps.Call.TheVariants.{Prepare as PrepareCall, Settle as SettleCall}
 use Rattle.mw_disk.specs.Facts.{Facts}
 use Rattle.mw_disk.specs.Runs.{Good, Bad}
 use Rattle.mw_file.specs.declared.place_states.PlaceState.{PlaceState}
@@ -15,6 +15,7 @@ use Rattle.mw_book.specs.declared.answers.Filed.{Filed}
 use Rattle.mw_book.specs.declared.answers.Filed.TheVariants.{Made, Broken, Untouched}
 use Rattle.mw_book.specs.declared.book.Book.{Book}
 use Rattle.mw_book.specs.OpenFile.{disk_in, states_in, OnDisk}
+use Rattle.mw_book.specs.PreparedAhead.{has_written}
 use Rattle.mw_book.specs.Representation.{Represents, is_settled, place_at}
 
 -- A run of so many device calls failed at the call with this number, counted from 1. The calls before it went well, and none was made
@@ -28,11 +29,17 @@ abbrev pub settle_calls : Bool → List PlaceState → ℕ
 settle_calls true states = 0
 settle_calls false states = roll_calls states
 
--- How many device calls a call makes on a book, for a change with these entries: for a settle as many as the book's file needs, for any
--- other call as many as the world lists.
-abbrev pub calls_on : {D : Type 0} → Book D → Call → ℕ → List Entry → ℕ
-calls_on book SettleCall slot entries = settle_calls (is_settled book.table (place_at book slot)) (states_in book.held)
-calls_on book call slot entries = device_calls call entries
+-- How many device calls a prepare makes: none if the record is prepared ahead, else as many as the world lists.
+abbrev pub prepare_calls : Bool → List Entry → ℕ
+prepare_calls true entries = 0
+prepare_calls false entries = device_calls PrepareCall entries
+
+-- How many device calls a call makes on a book, for a change of a slot that takes these entries, on a place with those: for a prepare
+-- none if its record is prepared ahead, for a settle as many as the book's file needs, and else as many as the world lists.
+abbrev pub calls_on : {D : Type 0} → Book D → Call → ℕ → List Entry → List Entry → ℕ
+calls_on book PrepareCall slot taken entries = prepare_calls (has_written book slot taken) entries
+calls_on book SettleCall slot taken entries = settle_calls (is_settled book.table (place_at book slot)) (states_in book.held)
+calls_on book call slot taken entries = device_calls call entries
 
 module _ {D : Type 0} (facts : D → Facts) (call : Call) (slot : ℕ) (entries : List Entry) (file : File) (old new : Book D) where
   -- the place that the call is for, how many device calls the world lists for it, and how many it makes on the book
@@ -43,7 +50,7 @@ module _ {D : Type 0} (facts : D → Facts) (call : Call) (slot : ℕ) (entries 
   calls_listed = device_calls call (entries_at file place_called)
 
   abbrev pub calls_made : ℕ
-  calls_made = calls_on old call slot (entries_at file place_called)
+  calls_made = calls_on old call slot entries (entries_at file place_called)
 
   -- The call was made. All its device calls went well, as an honest disk counts them, and the book represents the file after the call.
   pub record WasMade : Type 0 where

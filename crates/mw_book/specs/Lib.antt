@@ -7,6 +7,8 @@ pub mod FilePlaces
 pub mod CallOutcome
 pub mod OpenFile
 pub mod Permits
+pub mod PreparedAhead
 pub mod Representation
 pub mod SameFiles
 pub mod SettledAhead
+pub mod TakenPlaces

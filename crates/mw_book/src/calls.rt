@@ -2,7 +2,7 @@
 //!
 //! mw_core makes these calls, in its `file_calls.rt`. `specs/Permits` says when one may be made, and
 //! `specs/CallOutcome` what it leaves: change them together. README and docs/PROMISES cite `call`.
-ghost use Rattle.std.specs.Prelude.{◌≡◌, ◌≢◌, List, [], false};
+ghost use Rattle.std.specs.Prelude.{◌≡◌, ◌≢◌, ℕ, List, [], true, false};
 ghost use Rattle.mw_disk.specs.Runs.{Later};
 ghost use Rattle.mw_words.specs.declared.jobs.Entry.{Entry as EntryAt};
 ghost use Rattle.mw_world_file.specs.Files.{File};
@@ -19,6 +19,7 @@ impl<D: Disk> Book<D> {
     ghost use Rattle.mw_book.specs.OpenFile.{disk_in, states_in, OnDisk};
     ghost use Rattle.mw_book.specs.Representation.{Represents, is_prepared_ahead};
     ghost use Rattle.mw_book.specs.Permits.{HasPlace, HasRoom, MayCall, vacant_place};
+    ghost use Rattle.mw_book.specs.PreparedAhead.{has_written};
     ghost use Rattle.mw_book.specs.SameFiles.{RepresentsSame};
     ghost use Rattle.mw_book.specs.Ends.{Ends};
     ghost use Rattle.mw_book.specs.Crashes.{IsCrashSafe};
@@ -68,8 +69,33 @@ impl<D: Disk> Book<D> {
         if self.has_failed {
             return Filed::Untouched;
         }
+        if self.take_written(slot, entries) {
+            return Filed::Made;
+        }
         let place = self.make_room();
         self.write_down(place, slot, entries)
+    }
+
+    /// Takes the record of a change for a slot, if it is prepared ahead, and tells whether it is. Then the slot's place
+    /// is the lowest vacant one, which has the record. Else nothing changes. It makes no device call.
+    fn take_written(&mut self, slot: u8, entries: &Entries) -> bool
+        requires sound { self.old.has_failed ≡ false }
+        requires room { HasPlace (states_in self.old.held) self.old.table self.old.places }
+        ensures taken { result ≡ true → IsFiled D.facts Call.Prepare slot entries.now.items self.old self.new Filed.Made }
+        ensures left { result ≡ false → self.new ≡ self.old }
+        ensures none { result ≡ false → has_written self.old slot entries.now.items ≡ false }
+    {
+        let Some(file) = &self.held else {
+            unreachable!()
+        };
+        let written = self.table.written_place(file.states(), slot, entries, self.places);
+        if written == self.places {
+            return false;
+        }
+        let place = self.table.vacant_place(file.states(), self.places);
+        self.table.take(place, written);
+        self.place_of[slot as usize] = place;
+        true
     }
 
     /// Frees the lowest vacant place in the file, if a change is prepared ahead in it, and returns it.
@@ -80,6 +106,7 @@ impl<D: Disk> Book<D> {
         ensures room { HasPlace (states_in self.new.held) self.new.table self.new.places }
         ensures none_ahead { is_prepared_ahead self.new.table result ≡ false }
         ensures same { RepresentsSame D.facts self.old self.new }
+        ensures fewer { (slot : ℕ) (entries : List EntryAt) → has_written self.old slot entries ≡ false → has_written self.new slot entries ≡ false }
     {
         let Some(file) = &mut self.held else {
             unreachable!()
@@ -100,6 +127,7 @@ impl<D: Disk> Book<D> {
         requires room { HasRoom (states_in self.old.held) self.old.table self.old.places self.old.words entries.now.items }
         requires lowest { place ≡ vacant_place (states_in self.old.held) self.old.table self.old.places }
         requires none_ahead { is_prepared_ahead self.old.table place ≡ false }
+        requires none_written { has_written self.old slot entries.now.items ≡ false }
         ensures filed { IsFiled D.facts Call.Prepare slot entries.now.items self.old self.new result }
         ensures tried { result ≢ Filed.Untouched }
     {

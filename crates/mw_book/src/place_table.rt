@@ -7,12 +7,15 @@ ghost use Rattle.std.specs.Prelude.{◌≡◌, ◌≤◌, ◌<◌, ◌||◌, ℕ
 ghost use Rattle.mw_words.specs.declared.limits.TheConstants.{MAX_PLACES};
 ghost use Rattle.mw_file.specs.PlaceStates as spec;
 ghost use Rattle.mw_book.specs.Permits as permit;
+ghost use Rattle.mw_book.specs.PreparedAhead as ahead;
 ghost use Rattle.mw_book.specs.Representation as held;
+ghost use Rattle.mw_book.specs.TakenPlaces.{taken};
 ghost use Rattle.mw_book.specs.SettledAhead.{is_sealed_stage};
 ghost use Rattle.mw_book.specs.FilePlaces.{flag_of, place_in};
 
 use crate::book::PLACES;
 use mw_file::{PlaceState, Stage};
+use mw_words::{Entries, Entry};
 
 /// What a book keeps for each place that the world knows.
 #[derive(Clone, Copy)]
@@ -67,6 +70,51 @@ impl PlaceTable {
         places
     }
 
+    /// Returns the lowest place among the first `places` places in which a change of this slot with these entries is
+    /// prepared ahead, or `places` if there is none.
+    pub(crate) fn written_place(
+        &self,
+        states: &[PlaceState],
+        slot: u8,
+        entries: &Entries,
+        places: u16,
+    ) -> u16
+        requires few { places ≤ MAX_PLACES }
+        ensures { result ≡ ahead.written_place states.now self.now slot entries.now.items places }
+    {
+        for place in 0..places {
+            if self.is_written(states, slot, entries, place) {
+                return place;
+            }
+        }
+        places
+    }
+
+    /// Tells whether a change of this slot with these entries is prepared ahead in a place.
+    fn is_written(&self, states: &[PlaceState], slot: u8, entries: &Entries, place: u16) -> bool
+        requires { place < MAX_PLACES }
+        ensures { result ≡ ahead.is_written states.now self.now slot entries.now.items place }
+    {
+        is_for(self.ahead_for[place as usize], slot)
+            && writes_just(states, self.file_place(place), entries)
+    }
+
+    /// Gives a place the record that is prepared ahead in another one: the two change their places in the file. What
+    /// was prepared ahead in the first is now in the other.
+    pub(crate) fn take(&mut self, place: u16, written: u16)
+        requires place { place < MAX_PLACES }
+        requires written { written < MAX_PLACES }
+        ensures { self.new ≡ taken self.old place written }
+    {
+        let number = self.file_place(place);
+        let other = self.file_place(written);
+        let slot = self.ahead_for[place as usize];
+        self.file_place[place as usize] = other;
+        self.file_place[written as usize] = number;
+        self.ahead_for[written as usize] = slot;
+        self.ahead_for[place as usize] = None;
+    }
+
     /// Returns which places' changes are settled ahead if each sealed one is too.
     pub(crate) fn settled_with_sealed(&self, states: &[PlaceState]) -> [bool; PLACES]
         requires few { length states.now ≤ MAX_PLACES }
@@ -101,6 +149,41 @@ fn is_left(ahead: bool, stage: Stage) -> bool
         Stage::Prepared => ahead,
         Stage::Sealed => false,
     }
+}
+
+/// Tells whether it is this slot.
+fn is_for(found: Option<u8>, slot: u8) -> bool
+    ensures { result ≡ ahead.is_for found slot }
+{
+    match found {
+        Some(other) => other == slot,
+        None => false,
+    }
+}
+
+/// Tells whether a place of a file has just the writes of these entries.
+fn writes_just(states: &[PlaceState], place: u16, entries: &Entries) -> bool
+    ensures { result ≡ ahead.are_writes_of (spec.writes_of_place states.now place) entries.now.items }
+{
+    match states.get(place as usize) {
+        Some(state) => are_writes_of(state.writes.as_slice(), entries.as_slice()),
+        None => entries.is_empty(),
+    }
+}
+
+/// Tells whether these are the writes of a change with these entries.
+fn are_writes_of(writes: &[(u16, u64)], entries: &[Entry]) -> bool
+    ensures { result ≡ ahead.are_writes_of writes.now entries.now }
+{
+    if writes.len() != entries.len() {
+        return false;
+    }
+    for i in 0..writes.len() {
+        if writes[i].0 != entries[i].addr || writes[i].1 != entries[i].new {
+            return false;
+        }
+    }
+    true
 }
 
 /// Returns the table in which each place is the file's place of the same number.

@@ -19,7 +19,7 @@ returns-then-is_err-clause-filed g c =
     let old = c.args.self.now in
     let bad = sym c.is_err.ensures.value ∙ c.if-is_err.true in
     prepare_broken g.D.Disk.facts old _ c.in-Some.file c.prepare_at.new.self c.in-Some.is c.prepare_at.ensures.later c.prepare_at.ensures.safe c.args.slot c.args.entries.now.items
-    (record { is_held = refl; is_words = refl; is_places = refl; is_place_of = refl; is_table = refl; is_failed = refl }) c.requires.sound
+    (record { is_held = refl; is_words = refl; is_places = refl; is_place_of = refl; is_table = refl; is_failed = refl }) c.requires.sound c.requires.none_written
     (met_fault g.D.Disk.facts 2 c.in-Some.file c.prepare_at.new.self c.prepare_at.result bad (failed_as g.D.Disk.facts old c.in-Some.file c.in-Some.is ∙ c.requires.sound) c.prepare_at.ensures.ends)
 
 pub prepare_at-requires-clause-there : goal.prepare_at-requires-clause-there
@@ -44,7 +44,7 @@ returns-clause-filed g c =
     let old = c.args.self.now in
     let well = sym c.is_err.ensures.value ∙ c.if-is_err.false in
     prepare_made g.D.Disk.facts old _ c.in-Some.file c.prepare_at.new.self c.in-Some.is c.prepare_at.ensures.later c.prepare_at.ensures.safe c.args.slot c.args.place c.args.entries.now.items
-    (c.requires.lowest ∙ ap (λ held. vacant_place (states_in held) old.table old.places) c.in-Some.is) c.requires.none_ahead
+    (c.requires.lowest ∙ ap (λ held. vacant_place (states_in held) old.table old.places) c.in-Some.is) c.requires.none_ahead c.requires.none_written
     (record { is_held = refl; is_words = refl; is_places = refl; is_place_of = refl; is_table = refl; is_failed = refl }) c.requires.sound (omega (arith, c.ranges.slot.fits)) (omega arith)
     (ended_well g.D.Disk.facts 2 c.in-Some.file c.prepare_at.new.self c.prepare_at.result well c.prepare_at.ensures.ends)
     (subst (λ n. IsStaged (states_of c.in-Some.file) (states_of c.prepare_at.new.self) n Prepared (pairs_of c.args.entries.now.items)) c.file_place-number.ensures

@@ -1,0 +1,13 @@
+-- Defines how a place takes the record that was prepared ahead in another one: the two change their places in the file.
+-- Used by: the contracts of place_table.rt. It is private to this crate: it may change freely as long as this crate checks.
+use Rattle.std.specs.Prelude.{ℕ, None, get_or, slice_set}
+use Rattle.mw_book.specs.declared.place_table.PlaceTable.{PlaceTable}
+use Rattle.mw_book.specs.Representation.{place_in_file}
+
+-- What was prepared ahead in `written` is now in `place`, for its own slot. What was prepared ahead in `place` is in `written`.
+abbrev pub taken : PlaceTable → ℕ → ℕ → PlaceTable
+taken table place written = record {
+  file_place = slice_set (slice_set table.file_place place (place_in_file table written)) written (place_in_file table place);
+  settled = table.settled;
+  ahead_for = slice_set (slice_set table.ahead_for written (get_or table.ahead_for place None)) place None;
+}
