@@ -171,7 +171,7 @@ fn none_sealed(states: &[PlaceState]) -> bool
 }
 
 /// Gives true only if this place may be sealed: no other one is sealed.
-fn may_seal(states: &[PlaceState], place: Place) -> bool
+pub(crate) fn may_seal(states: &[PlaceState], place: Place) -> bool
     ensures { result ≡ true → MaySeal states.now place.0 }
 {
     is_at(states, place, Stage::Prepared) && none_sealed(states)

@@ -5,6 +5,8 @@
 #![tactic(auto)]
 
 #[cfg(test)]
+mod ahead_tests;
+#[cfg(test)]
 mod book_tests;
 #[cfg(test)]
 mod byte_tests;
