@@ -25,7 +25,7 @@ use mw_record::{COMMITTED, body, place_at};
 use mw_words::Entries;
 
 /// A change to be prepared.
-#[derive(Debug, Drop)]
+#[derive(Debug, Default, Drop)]
 pub struct NewChange {
     /// The place for the change's record.
     pub place: Place,

@@ -18,7 +18,7 @@ pub enum FileFault {
 }
 
 /// The number of a place of a file.
-#[derive(Clone, Copy, Debug, PartialEq, Eq)]
+#[derive(Clone, Copy, Debug, Default, PartialEq, Eq)]
 pub struct Place(pub u16);
 
 /// A tenant's open file on a disk. Its words and its places are in its second layout, and no call writes a
