@@ -9,13 +9,14 @@ use Rattle.mw_look.specs.declared.steps.Call.TheVariants.{Prepare as PrepareCall
 use Rattle.mw_disk.specs.Facts.{Facts}
 use Rattle.mw_file.specs.PlaceStates.{stage_of, IsOnlySealed}
 use Rattle.mw_file.proofs.SharedSettles.{one_count}
+use Rattle.mw_world_file.specs.Calls.{device_calls, place_for}
 use Rattle.mw_world_file.specs.Devices.{stage_told}
 use Rattle.mw_world_file.specs.Files.{File, Place, Empty, Prepared, Sealed, empty_from, entries_at, is_sealed}
 use Rattle.mw_book.specs.declared.answers.Filed.{Filed}
 use Rattle.mw_book.specs.declared.answers.Filed.TheVariants.{Made, Broken, Untouched}
 use Rattle.mw_book.specs.declared.book.Book.{Book}
 use Rattle.mw_book.specs.Alone.{AloneLeavesNoneAhead, AloneMakesListedCalls, FindsAlone}
-use Rattle.mw_book.specs.Ends.{prepare_calls, settle_calls}
+use Rattle.mw_book.specs.Ends.{calls_on, prepare_calls, settle_calls}
 use Rattle.mw_book.specs.PreparedAhead.{HasNonePrepared, are_writes_of, has_written, is_for, written_place}
 use Rattle.mw_book.specs.SettledAhead.{is_sealed_stage, ahead_after, ahead_by_settle}
 use Rattle.mw_book.specs.OpenFile.{states_in}
@@ -103,11 +104,15 @@ none_written book slot entries none =
     (none_for (get_or book.table.ahead_for place None) slot (none place))) in
     le-ltb (written_place (states_in book.held) book.table slot entries book.places) book.places (omega (arith, at))
 
+own_listed : {D : Type 0} (facts : D → Facts) (book : Book D) (file : File) (call : Call) (slot : ℕ) (entries : List Entry) → FindsAlone facts book file call slot
+    → calls_on book call slot entries (entries_at file (place_for call file book.places slot)) ≡ device_calls call (entries_at file (place_for call file book.places slot))
+own_listed facts book file PrepareCall slot entries finds = ap (λ b. prepare_calls b (entries_at file (empty_from file 0 book.places))) (none_written book slot entries finds.none_prepared)
+own_listed facts book file SealCall slot entries finds = refl
+own_listed facts book file SettleCall slot entries finds = settle_listed facts book file slot finds
+own_listed facts book file CancelCall slot entries finds = refl
+
 pub makes_listed : {D : Type 0} (facts : D → Facts) → AloneMakesListedCalls facts
-makes_listed facts book file PrepareCall slot entries finds = ap (λ b. prepare_calls b (entries_at file (empty_from file 0 book.places))) (none_written book slot entries finds.none_prepared)
-makes_listed facts book file SealCall slot entries finds = refl
-makes_listed facts book file SettleCall slot entries finds = settle_listed facts book file slot finds
-makes_listed facts book file CancelCall slot entries finds = refl
+makes_listed facts book file call slot entries finds written none = let listed = own_listed facts book file call slot entries finds in omega (arith, listed, none)
 
 none_ahead_after : {D : Type 0} (facts : D → Facts) (old : Book D) (file : File) (call : Call) (slot : ℕ) (answer : Filed) → FindsAlone facts old file call slot → (place : ℕ)
     → ahead_after call slot old answer place ≡ false
@@ -119,4 +124,4 @@ none_ahead_after facts old file SettleCall slot Untouched finds place = finds.no
 none_ahead_after facts old file CancelCall slot answer finds place = finds.none_ahead place
 
 pub leaves_none_ahead : {D : Type 0} (facts : D → Facts) → AloneLeavesNoneAhead facts
-leaves_none_ahead facts old new file call slot entries answer finds filed place = filed.ahead place ∙ none_ahead_after facts old file call slot answer finds place
+leaves_none_ahead facts old new file call slot entries most answer finds filed place = filed.ahead place ∙ none_ahead_after facts old file call slot answer finds place

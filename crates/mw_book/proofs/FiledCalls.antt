@@ -1,7 +1,9 @@
 -- Each call on a book ends as its contract says, whether the device fails in it or not.
 -- Used by: the proofs of all calls of Book. It may change freely as long as this crate checks.
-use Rattle.std.proofs.Common.{◌≡◌, ℕ, ◌+◌, ◌<◌, ◌≤◌, Bool, true, false, List, [], length, Some, Result, Ok, Err, is_err, slice_set, nat_le, IsTrue, refl, sym, ap, subst, ◌∙◌, inl, inr, arith}
-use Rattle.std.proofs.lemmas.Bool.{and_from, cases_eq, le-leb}
+use Rattle.std.proofs.Common.{◌≡◌, ◌≢◌, ℕ, ◌+◌, ◌==◌, ◌∷◌, ◌++◌, ◌<◌, ◌≤◌, Bool, true, false, List, [], length, Some, Result, Ok, Err, is_err, slice_set, nat_le, IsTrue, refl, sym, ap, subst, ◌∙◌, inl, inr, arith}
+use Rattle.std.proofs.lemmas.Bool.{and_from, cases_eq, cond-true, cond-false, eq-eqb, le-leb, ne_eqb}
+use Rattle.std.proofs.lemmas.List.{length-append}
+use Rattle.std.proofs.lemmas.List.Elements.{All-push}
 use Rattle.mw_words.specs.declared.limits.TheConstants.{MAX_POOL}
 use Rattle.mw_words.specs.declared.jobs.Entry.{Entry}
 use Rattle.mw_words.specs.Change.{put}
@@ -21,7 +23,9 @@ use Rattle.mw_file.specs.declared.tenant_file.FileFault.{FileFault}
 use Rattle.mw_file.specs.declared.tenant_file.FileFault.TheVariants.{Disk, Failed}
 use Rattle.mw_file.specs.File.{disk_of, states_of, has_failed, WentWell, MetFault, Ends as FileEnds}
 use Rattle.mw_file.specs.RecoveryInvariant.{RecoversTo, CrashSafe, ContentsStay, ChangeIsSealed}
-use Rattle.mw_file.specs.PlaceStates.{is_free_stage, roll_calls, AreFreed, IsStaged}
+use Rattle.mw_file.specs.PlaceStates.{is_free_stage, roll_calls, stage_of, writes_of_place, IsStaged}
+use Rattle.mw_file.specs.declared.new_changes.NewChange.{NewChange}
+use Rattle.mw_file.specs.NewChanges.{ArePrepared, AreSettledWith, IsNoPlaceOf, IsSealedWith}
 use Rattle.mw_world_file.specs.Calls.{fails_on, filed, place_for, device_calls, is_made, doubt_of}
 use Rattle.mw_world_file.specs.Crashes.{at_stake}
 use Rattle.mw_world_file.specs.Files.{File, Empty, Prepared, Sealed, entries_at, broken, prepared, sealed, emptied}
@@ -33,6 +37,7 @@ use Rattle.mw_book.specs.declared.book.Book.{Book}
 use Rattle.mw_book.specs.declared.place_table.PlaceTable.{PlaceTable}
 use Rattle.mw_book.specs.FilePlaces.{flag_of}
 use Rattle.mw_book.specs.Answers.{Answers, is_refused, NoFault, OneFault}
+use Rattle.mw_book.specs.ChosenPlaces.{AreChosen}
 use Rattle.mw_book.specs.Crashes.{LeavesEither, stake_of}
 use Rattle.mw_book.specs.Ends.{Ends, FailedAt, calls_on, prepare_calls, settle_calls}
 use Rattle.mw_book.specs.CallOutcome.{IsFiled}
@@ -42,15 +47,17 @@ use Rattle.mw_book.specs.SettledAhead.{ahead_after, ahead_by_settle}
 use Rattle.mw_book.specs.Permits.{HasPlace, vacant_place}
 use Rattle.mw_book.specs.OpenFile.{states_in, disk_in, OnDisk}
 use Rattle.mw_book.specs.Representation.{ArePlaced, Represents, HasParts, is_prepared_ahead, is_settled, place_at, place_in_file, stage_in_file, writes_in_file}
-use Rattle.mw_book.proofs.FoundPlaces.{found_at, vacant_plain}
-use Rattle.mw_book.proofs.PlacesAhead.{placed_let_go, placed_rolled}
+use Rattle.mw_book.proofs.ChosenPlaces.{front_of, last_of}
+use Rattle.mw_book.proofs.FoundPlaces.{found_at, free_of, vacant_plain}
+use Rattle.mw_book.proofs.PlacedAhead.{IsFresh, fresh_or_same, placed_beside, placed_settled}
+use Rattle.mw_book.proofs.PlacesAhead.{placed_let_go}
 use Rattle.mw_book.proofs.RepresentedFiles.{shows_parts, on_disk, on_same, leaves_either, untouched, failed_as, placed_in, keeps_in, certain, same_place, place_within, plain_at, writes_called}
-use Rattle.mw_book.proofs.StagedPlaces.{placed_on, placed_as}
+use Rattle.mw_book.proofs.StagedPlaces.{placed_on, placed_as, staged_by}
 
 -- the same fact, if the call is known by another name
-pub filed_as : {D : Type 0} (facts : D → Facts) (call other : Call) (slot : ℕ) (entries : List Entry) (old new : Book D) (result : Filed) → call ≡ other → IsFiled facts other slot entries old new result
-    → IsFiled facts call slot entries old new result
-filed_as facts call other slot entries old new result same is = subst (λ k. IsFiled facts k slot entries old new result) (sym same) is
+pub filed_as : {D : Type 0} (facts : D → Facts) (call other : Call) (slot : ℕ) (entries : List Entry) (most : ℕ) (old new : Book D) (result : Filed) → call ≡ other → IsFiled facts other slot entries most old new result
+    → IsFiled facts call slot entries most old new result
+filed_as facts call other slot entries most old new result same is = subst (λ k. IsFiled facts k slot entries most old new result) (sym same) is
 
 -- a call that is not a cancel is refused exactly if the book has failed
 refused_so : (call : Call) (failed : Bool) → (call ≡ CancelCall → ⊥) → is_refused call failed ≡ failed
@@ -69,9 +76,9 @@ same_ahead SettleCall Untouched slot old other place = refl
 same_ahead CancelCall answer slot old other place = refl
 
 -- a call on a file that had failed before
-pub refused : {D : Type 0} (facts : D → Facts) (call : Call) (slot : ℕ) (entries : List Entry) (old : Book D) → old.has_failed ≡ true → ((file : File) → fails_on call file ≡ file.has_failed)
-    → (call ≡ CancelCall → ⊥) → IsFiled facts call slot entries old old Untouched
-refused facts call slot entries old failed fails other = record {
+pub refused : {D : Type 0} (facts : D → Facts) (call : Call) (slot : ℕ) (entries : List Entry) (most : ℕ) (old : Book D) → old.has_failed ≡ true → ((file : File) → fails_on call file ≡ file.has_failed)
+    → (call ≡ CancelCall → ⊥) → IsFiled facts call slot entries most old old Untouched
+refused facts call slot entries most old failed fails other = record {
   ahead = same_ahead call Untouched slot old (λ is. absurd (let e : Untouched ≡ Made = is in cc));
   ends = λ file shows. record { refused = fails file ∙ shows.same_failed ∙ failed; same = refl };
   answers = record { refused = refused_so call old.has_failed other ∙ failed; same = refl };
@@ -129,6 +136,13 @@ pub busy_in : {D : Type 0} (old : Book D) (held : TenantFile D) (slot : ℕ) (st
     → is_free_stage (stage_in_file (states_of held) old.table (place_at old slot)) ≡ false
 busy_in old held slot stage is_old at busy = ap (λ h. is_free_stage (stage_in_file (states_in h) old.table (place_at old slot))) (sym is_old) ∙ ap is_free_stage at ∙ busy
 
+-- one change more
+pub one_longer : (changes all : List NewChange) (own : NewChange) → all ≡ changes ++ own ∷ [] → length all + 1 ≡ length changes + 2
+one_longer changes all own is_all =
+    let long : length all ≡ length (changes ++ own ∷ []) = ap length is_all in
+    let more : length (changes ++ own ∷ []) ≡ length changes + 1 = length-append changes (own ∷ []) in
+    omega (arith, long, more)
+
 -- The old book holds one open file, and the new book holds what a call made of it.
 module _ {D : Type 0} (facts : D → Facts) (old new : Book D) (held now : TenantFile D) (is_old : old.held ≡ Some held) (later : Later (facts (disk_of held)) (facts (disk_of now))) where
   -- the disk is still honest, so a fact of an honest disk may be used
@@ -137,11 +151,11 @@ module _ {D : Type 0} (facts : D → Facts) (old new : Book D) (held now : Tenan
 
   -- a device call failed
   module _ (parts : HasParts new (Some now) old.words old.places old.place_of old.table true) (sound : old.has_failed ≡ false) (calls : ℕ) (met : MetFault facts calls held now)
-      (call : Call) (slot : ℕ) (entries : List Entry) (other : call ≡ CancelCall → ⊥) (fails : (file : File) → fails_on call file ≡ file.has_failed) where
-    pub broke : ((entries_there : List Entry) → calls ≡ calls_on old call slot entries entries_there)
+      (call : Call) (slot : ℕ) (entries : List Entry) (written most : ℕ) (few : written ≤ most) (other : call ≡ CancelCall → ⊥) (fails : (file : File) → fails_on call file ≡ file.has_failed) where
+    pub broke : ((entries_there : List Entry) → calls ≡ written + calls_on old call slot entries entries_there)
         → ((file : File) → Represents facts old file → IsTrue (facts (disk_of held)).honest → RecoversTo facts now file.contents (pairs_of (doubt_of call (entries_at file (place_for call file old.places slot)))))
         → ((file : File) → Represents facts old file → LeavesEither file.contents (at_stake call file (place_for call file old.places slot)) (facts (disk_of held)) (facts (disk_of now)))
-        → IsFiled facts call slot entries old new Broken
+        → IsFiled facts call slot entries most old new Broken
     broke many keeps leaves = record {
       ends = λ file shows.
           let place : ℕ = place_for call file old.places slot in
@@ -152,7 +166,9 @@ module _ {D : Type 0} (facts : D → Facts) (old new : Book D) (held now : Tenan
             began = fails file ∙ shows.same_failed ∙ sound;
             number = so.number;
             within = so.within;
-            failed = on_disk facts (Bad (calls_on old call slot entries (entries_at file place))) old.held new.held held now is_old parts.is_held
+            written = written;
+            few = few;
+            failed = on_disk facts (Bad (written + calls_on old call slot entries (entries_at file place))) old.held new.held held now is_old parts.is_held
                 (subst (λ n. Bad n (facts (disk_of held)) (facts (disk_of now))) (many (entries_at file place)) met.made);
             made = λ same. on_disk facts (FailedAt listed so.number) old.held new.held held now is_old parts.is_held
                 (subst (λ n. FailedAt n so.number (facts (disk_of held)) (facts (disk_of now))) (many (entries_at file place) ∙ same)
@@ -188,30 +204,42 @@ module _ {D : Type 0} (facts : D → Facts) (old new : Book D) (held now : Tenan
         subst (λ doubt. RecoversTo facts now file.contents doubt) (certain facts old held is_old file shows sound honest) (stays file shows honest).after
 
     -- a prepare in which the device failed
-    pub prepare_broken : (slot : ℕ) (entries : List Entry) → HasParts new (Some now) old.words old.places old.place_of old.table true → old.has_failed ≡ false → has_written old slot entries ≡ false → MetFault facts 2 held now
-        → IsFiled facts PrepareCall slot entries old new Broken
-    prepare_broken slot entries parts sound none met =
-        broke parts sound 2 met PrepareCall slot entries (λ is. let e : PrepareCall ≡ CancelCall = is in cc) (λ file. refl) (λ there. sym (ap (λ b. prepare_calls b there) none)) (stays_certain sound)
+    pub prepare_broken : (slot : ℕ) (entries : List Entry) (written most : ℕ) → written ≤ most → HasParts new (Some now) old.words old.places old.place_of old.table true → old.has_failed ≡ false → has_written old slot entries ≡ false → MetFault facts (written + 2) held now
+        → IsFiled facts PrepareCall slot entries most old new Broken
+    prepare_broken slot entries written most few parts sound none met =
+        broke parts sound (written + 2) met PrepareCall slot entries written most few (λ is. let e : PrepareCall ≡ CancelCall = is in cc) (λ file. refl) (λ there. sym (ap (λ b. written + prepare_calls b there) none)) (stays_certain sound)
         stays_safe
 
-    pub prepare_made : (slot place : ℕ) (entries : List Entry) → place ≡ vacant_place (states_of held) old.table old.places → is_prepared_ahead old.table place ≡ false → has_written old slot entries ≡ false
-        → HasParts new (Some now) old.words old.places (slice_set old.place_of slot place) old.table old.has_failed
-        → old.has_failed ≡ false → slot < MAX_POOL → MAX_POOL ≤ length old.place_of → WentWell facts 2 held now
-        → IsStaged (states_of held) (states_of now) (place_in_file old.table place) PreparedStage (pairs_of entries) → HasPlace (states_of held) old.table old.places
-        → IsFiled facts PrepareCall slot entries old new Made
-    prepare_made slot place entries is own none parts sound within long went staged room = record {
+    pub prepare_made : (slot place : ℕ) (entries : List Entry) (most : ℕ) (next : PlaceTable) (changes all : List NewChange) (top : ℕ) (own : NewChange) → all ≡ changes ++ own ∷ [] → place ≡ vacant_place (states_of held) old.table old.places
+        → is_prepared_ahead old.table place ≡ false → has_written old slot entries ≡ false → AreChosen old.words (states_of held) old.table old.places (place + 1) next changes top → length changes ≤ most
+        → own.place.0 ≡ place_in_file old.table place → own.entries.items ≡ entries
+        → HasParts new (Some now) old.words old.places (slice_set old.place_of slot place) next old.has_failed
+        → old.has_failed ≡ false → slot < MAX_POOL → MAX_POOL ≤ length old.place_of → WentWell facts (length all + 1) held now
+        → ArePrepared (states_of held) (states_of now) all → HasPlace (states_of held) old.table old.places
+        → IsFiled facts PrepareCall slot entries most old new Made
+    prepare_made slot place entries most next changes all top own is_all is off none are fewer number_is entries_are parts sound within long went_all staged_all room = record {
       ends = λ file shows.
           let placed = placed_in facts old held is_old file shows in
           let same = is ∙ found_at (states_of held) old.table old.places file placed in
+          let used : place < old.places = (let lt = room in omega (arith, is, lt)) in
           record {
             began = shows.same_failed ∙ sound;
-            made = on_disk facts (Good (prepare_calls (has_written old slot entries) (entries_at file (place_for PrepareCall file old.places slot)))) old.held new.held held now is_old parts.is_held
-                (subst (λ b. Good (prepare_calls b (entries_at file (place_for PrepareCall file old.places slot))) (facts (disk_of held)) (facts (disk_of now))) (sym none) went.made);
+            written = length changes;
+            few = fewer;
+            made = on_disk facts (Good (length changes + prepare_calls (has_written old slot entries) (entries_at file (place_for PrepareCall file old.places slot)))) old.held new.held held now is_old parts.is_held
+                (subst (λ b. Good (length changes + prepare_calls b (entries_at file (place_for PrepareCall file old.places slot))) (facts (disk_of held)) (facts (disk_of now))) (sym none) went.made);
             shows = subst (λ p. Represents facts new (prepared file slot p entries)) same
-                (shows_parts facts new (Some now) old.words old.places (slice_set old.place_of slot place) old.table old.has_failed (prepared file slot place entries) parts (record {
+                (shows_parts facts new (Some now) old.words old.places (slice_set old.place_of slot place) next old.has_failed (prepared file slot place entries) parts (record {
                   same_words = shows.same_words;
-                  same_places = placed_on (states_of held) (states_of now) old.table old.places place file.places PreparedStage (pairs_of entries) placed old.permuted staged
-                      (let lt = room in omega (arith, is, lt)) (Prepared entries) (ap (is_settled old.table) is ∙ vacant_plain (states_of held) old.table old.places room) own refl (λ busy. refl);
+                  same_places = placed_beside old.words (states_of held) (states_of now) old.table next old.places (place + 1) changes top are old.permuted file.places placed place used PreparedStage (pairs_of entries)
+                      (Prepared entries) (ap (is_settled old.table) is ∙ vacant_plain (states_of held) old.table old.places room) off refl (λ busy. refl)
+                      (λ k lt fresh here. let high = (are.chosen k lt fresh.was fresh.now).high in omega (arith, high, here))
+                      (λ k lt fresh. (are.chosen k lt fresh.was fresh.now).here (states_of now) (front_of (λ d. stage_of (states_of now) d.place.0 ≡ PreparedStage) changes own staged.stage_here))
+                      (ap (stage_of (states_of now)) (sym number_is) ∙ last_of (λ d. stage_of (states_of now) d.place.0 ≡ PreparedStage) changes own staged.stage_here,
+                      ap (writes_of_place (states_of now)) (sym number_is) ∙ last_of (λ d. writes_of_place (states_of now) d.place.0 ≡ pairs_of d.entries.items) changes own staged.writes_here ∙ ap pairs_of entries_are)
+                      (λ n other kept.
+                          let nowhere : IsNoPlaceOf (changes ++ own ∷ []) n = All-push (λ d. d.place.0 ≢ n) changes own (are.others n kept) (λ is_it. other (sym is_it ∙ number_is)) in
+                          (staged.stage_there n nowhere, staged.writes_there n nowhere));
                   same_place_of = set_number file.place_of old.place_of slot place MAX_POOL long within shows.same_place_of;
                   same_failed = shows.same_failed;
                   stands = still file.contents (pairs_of file.doubt) (λ honest. (stays file shows honest).after);
@@ -223,8 +251,13 @@ module _ {D : Type 0} (facts : D → Facts) (old new : Book D) (held now : Tenan
       quiet = λ is. absurd (let e : PrepareCall ≡ CancelCall = is in cc);
       words = parts.is_words;
       places = parts.is_places;
-      ahead = λ place. ap (λ table. is_settled table place) parts.is_table;
-    }
+      ahead = λ k. ap (λ table. is_settled table k) parts.is_table ∙ ap (λ flags. flag_of flags k) are.same_settled;
+    } where
+      went : WentWell facts (length changes + 2) held now
+      went = subst (λ n. WentWell facts n held now) (one_longer changes all own is_all) went_all
+
+      staged : ArePrepared (states_of held) (states_of now) (changes ++ own ∷ [])
+      staged = subst (λ cs. ArePrepared (states_of held) (states_of now) cs) is_all staged_all
 
     -- A settle or a cancel, after which the place is empty, as the file's places and the book's flags show.
     module _ (slot : ℕ) (within : slot < MAX_POOL) (busy : is_free_stage (stage_in_file (states_of held) old.table (place_at old slot)) ≡ false) (table : PlaceTable)
@@ -244,10 +277,12 @@ module _ {D : Type 0} (facts : D → Facts) (old new : Book D) (held now : Tenan
 
     pub cancel_made : (slot : ℕ) → slot < MAX_POOL → is_free_stage (stage_in_file (states_of held) old.table (place_at old slot)) ≡ false → is_prepared_ahead old.table (place_at old slot) ≡ false → (w : Pairs)
         → IsStaged (states_of held) (states_of now) (place_in_file old.table (place_at old slot)) FreeStage w → HasParts new (Some now) old.words old.places old.place_of old.table old.has_failed
-        → (entries : List Entry) → disk_of now ≡ disk_of held → IsFiled facts CancelCall slot entries old new Made
-    cancel_made slot within busy own w staged parts entries same = record {
+        → (entries : List Entry) (most : ℕ) → disk_of now ≡ disk_of held → IsFiled facts CancelCall slot entries most old new Made
+    cancel_made slot within busy own w staged parts entries most same = record {
       ends = λ file shows. record {
         began = refl;
+        written = 0;
+        few = omega arith;
         made = on_disk facts (Good 0) old.held new.held held now is_old parts.is_held
             (subst (λ d. Good 0 (facts (disk_of held)) (facts d)) (sym same) (good_none (facts (disk_of held))));
         shows = emptied_shown slot within busy old.table parts placed file shows;
@@ -262,8 +297,8 @@ module _ {D : Type 0} (facts : D → Facts) (old new : Book D) (held now : Tenan
     } where
       placed : (file : File) → Represents facts old file → ArePlaced (states_of now) old.table old.places (upd file.places (place_at old slot) Empty)
       placed file shows =
-          placed_on (states_of held) (states_of now) old.table old.places (place_at old slot) file.places FreeStage w (placed_in facts old held is_old file shows) old.permuted staged
-          (place_within facts old held is_old file shows slot within busy) Empty (plain_at facts old held is_old file shows slot within busy) own refl (λ none. absurd (let e : true ≡ false = none in cc))
+          placed_on (states_of held) (stage_of (states_of now)) (writes_of_place (states_of now)) old.table old.places (place_at old slot) file.places FreeStage w (placed_in facts old held is_old file shows) old.permuted
+          (staged_by (states_of held) (states_of now) (place_in_file old.table (place_at old slot)) FreeStage w staged) (place_within facts old held is_old file shows slot within busy) Empty (plain_at facts old held is_old file shows slot within busy) own refl (λ none. absurd (let e : true ≡ false = none in cc))
 
     -- A settle that makes device calls.
     module _ (slot : ℕ) (within : slot < MAX_POOL) (is_sealed_there : stage_in_file (states_of held) old.table (place_at old slot) ≡ SealedStage) (plain : is_settled old.table (place_at old slot) ≡ false)
@@ -271,15 +306,18 @@ module _ {D : Type 0} (facts : D → Facts) (old new : Book D) (held now : Tenan
       many_made : roll_calls (states_of held) ≡ settle_calls (is_settled old.table (place_at old slot)) (states_in old.held)
       many_made = ap (λ h. roll_calls (states_in h)) (sym is_old) ∙ ap (λ flag. settle_calls flag (states_in old.held)) (sym plain)
 
-      pub settle_made : (entries : List Entry) (flags : List Bool) → HasParts new (Some now) old.words old.places old.place_of (record old.table { settled = flags }) old.has_failed
-          → ((place : ℕ) → flag_of flags place ≡ ahead_by_settle (states_of held) old.table (place_at old slot) place) → AreFreed (states_of held) (states_of now)
-          → WentWell facts (roll_calls (states_of held)) held now → IsFiled facts SettleCall slot entries old new Made
-      settle_made entries flags parts are free went = record {
+      pub settle_made : (entries : List Entry) (most : ℕ) (flags : List Bool) (next : PlaceTable) (changes : List NewChange) (low top : ℕ) → AreChosen old.words (states_of held) old.table old.places low next changes top
+          → length changes ≤ most → HasParts new (Some now) old.words old.places old.place_of (record next { settled = flags }) old.has_failed
+          → ((place : ℕ) → flag_of flags place ≡ ahead_by_settle (states_of held) old.table (place_at old slot) place) → AreSettledWith (states_of held) (states_of now) changes
+          → WentWell facts (length changes + roll_calls (states_of held)) held now → IsFiled facts SettleCall slot entries most old new Made
+      settle_made entries most flags next changes low top chosen fewer parts are settled went = record {
         ends = λ file shows. record {
           began = shows.same_failed ∙ sound;
-          made = on_disk facts (Good (settle_calls (is_settled old.table (place_at old slot)) (states_in old.held))) old.held new.held held now is_old parts.is_held
-              (subst (λ n. Good n (facts (disk_of held)) (facts (disk_of now))) many_made went.made);
-          shows = emptied_shown slot within (ap is_free_stage is_sealed_there) (record old.table { settled = flags }) parts placed file shows;
+          written = length changes;
+          few = fewer;
+          made = on_disk facts (Good (length changes + settle_calls (is_settled old.table (place_at old slot)) (states_in old.held))) old.held new.held held now is_old parts.is_held
+              (subst (λ n. Good (length changes + n) (facts (disk_of held)) (facts (disk_of now))) many_made went.made);
+          shows = emptied_shown slot within (ap is_free_stage is_sealed_there) (record next { settled = flags }) parts placed file shows;
         };
         answers = record { began = sound; same_failed = parts.is_failed; faults = on_disk facts NoFault old.held new.held held now is_old parts.is_held went.made.faults };
         moments = λ file shows. on_disk facts (LeavesEither file.contents file.doubt) old.held new.held held now is_old parts.is_held (stays_safe file shows);
@@ -289,15 +327,16 @@ module _ {D : Type 0} (facts : D → Facts) (old new : Book D) (held now : Tenan
         places = parts.is_places;
         ahead = λ place. ap (λ table. is_settled table place) parts.is_table ∙ are place ∙ ap (λ h. ahead_by_settle (states_in h) old.table (place_at old slot) place) (sym is_old);
       } where
-        placed : (file : File) → Represents facts old file → ArePlaced (states_of now) (record old.table { settled = flags }) old.places (upd file.places (place_at old slot) Empty)
+        placed : (file : File) → Represents facts old file → ArePlaced (states_of now) (record next { settled = flags }) old.places (upd file.places (place_at old slot) Empty)
         placed file shows =
-            placed_rolled (states_of held) (states_of now) old.table flags old.places (place_at old slot) file.places (placed_in facts old held is_old file shows) is_sealed_there plain are free old.permuted
+            placed_settled old.words (states_of held) (states_of now) old.table next old.places low changes top chosen old.permuted file.places (placed_in facts old held is_old file shows)
+            (place_at old slot) flags is_sealed_there plain are settled
 
-      pub settle_broken : (entries : List Entry) → HasParts new (Some now) old.words old.places old.place_of old.table true → MetFault facts (roll_calls (states_of held)) held now
-          → IsFiled facts SettleCall slot entries old new Broken
-      settle_broken entries parts met =
-          broke parts sound (roll_calls (states_of held)) met SettleCall slot entries (λ is. let e : SettleCall ≡ CancelCall = is in cc) (λ file. refl)
-          (λ there. many_made) (stays_certain sound) stays_safe
+      pub settle_broken : (entries : List Entry) (written most : ℕ) → written ≤ most → HasParts new (Some now) old.words old.places old.place_of old.table true → MetFault facts (written + roll_calls (states_of held)) held now
+          → IsFiled facts SettleCall slot entries most old new Broken
+      settle_broken entries written most few parts met =
+          broke parts sound (written + roll_calls (states_of held)) met SettleCall slot entries written most few (λ is. let e : SettleCall ≡ CancelCall = is in cc) (λ file. refl)
+          (λ there. ap (λ n. written + n) many_made) (stays_certain sound) stays_safe
 
   -- A seal, by its answer.
   module _ (slot : ℕ) (within : slot < MAX_POOL) (busy : is_free_stage (stage_in_file (states_of held) old.table (place_at old slot)) ≡ false) (own : is_prepared_ahead old.table (place_at old slot) ≡ false) (sound : old.has_failed ≡ false)
@@ -305,23 +344,27 @@ module _ {D : Type 0} (facts : D → Facts) (old new : Book D) (held now : Tenan
     safe_as : (file : File) → Represents facts old file → ChangeIsSealed facts held now (pairs_of (entries_at file (file.place_of slot))) r
     safe_as file shows = subst (λ w. ChangeIsSealed facts held now w r) (writes_called facts old held is_old file shows slot within busy own) safe
 
-    pub seal_broken : (entries : List Entry) → is_err r ≡ true → FileEnds facts 2 held now r → HasParts new (Some now) old.words old.places old.place_of old.table true → IsFiled facts SealCall slot entries old new Broken
-    seal_broken entries bad ends parts =
-        broke parts sound 2 (met_fault facts 2 held now r bad (failed_as facts old held is_old ∙ sound) ends) SealCall slot entries (λ is. let e : SealCall ≡ CancelCall = is in cc) (λ file. refl)
+    pub seal_broken : (entries : List Entry) (written most : ℕ) → written ≤ most → is_err r ≡ true → FileEnds facts (written + 2) held now r → HasParts new (Some now) old.words old.places old.place_of old.table true → IsFiled facts SealCall slot entries most old new Broken
+    seal_broken entries written most few bad ends parts =
+        broke parts sound (written + 2) (met_fault facts (written + 2) held now r bad (failed_as facts old held is_old ∙ sound) ends) SealCall slot entries written most few (λ is. let e : SealCall ≡ CancelCall = is in cc) (λ file. refl)
         (λ there. refl) (λ file shows honest. (left file shows honest).after)
         (λ file shows honest. leaves_either (facts (disk_of held)) (facts (disk_of now)) (length (states_of held)) file.contents (entries_at file (file.place_of slot)) (left file shows honest).moments) where
           left : (file : File) → Represents facts old file → IsTrue (facts (disk_of held)).honest
               → CrashSafe facts held now file.contents (pairs_of (entries_at file (file.place_of slot))) file.contents (pairs_of (entries_at file (file.place_of slot)))
           left file shows honest =
-              sealed_badly facts 2 held now (pairs_of (entries_at file (file.place_of slot))) r bad (failed_as facts old held is_old ∙ sound) ends (safe_as file shows) honest
+              sealed_badly facts (written + 2) held now (pairs_of (entries_at file (file.place_of slot))) r bad (failed_as facts old held is_old ∙ sound) ends (safe_as file shows) honest
               file.contents (pairs_of file.doubt) (keeps_in facts old held is_old file shows honest)
 
-    pub seal_made : (entries : List Entry) → is_err r ≡ false → WentWell facts 2 held now → IsStaged (states_of held) (states_of now) (place_in_file old.table (place_at old slot)) SealedStage (writes_in_file (states_of held) old.table (place_at old slot))
-        → HasParts new (Some now) old.words old.places old.place_of old.table old.has_failed → IsFiled facts SealCall slot entries old new Made
-    seal_made entries well went staged parts = record {
+    pub seal_made : (entries : List Entry) (most : ℕ) (next : PlaceTable) (changes : List NewChange) (low top : ℕ) → AreChosen old.words (states_of held) old.table old.places low next changes top → length changes ≤ most
+        → is_err r ≡ false → WentWell facts (length changes + 2) held now → stage_in_file (states_of held) old.table (place_at old slot) ≡ PreparedStage
+        → IsSealedWith (states_of held) (states_of now) (place_in_file old.table (place_at old slot)) changes
+        → HasParts new (Some now) old.words old.places old.place_of next old.has_failed → IsFiled facts SealCall slot entries most old new Made
+    seal_made entries most next changes low top are fewer well went was staged parts = record {
       ends = λ file shows. record {
         began = shows.same_failed ∙ sound;
-        made = on_disk facts (Good 2) old.held new.held held now is_old parts.is_held went.made;
+        written = length changes;
+        few = fewer;
+        made = on_disk facts (Good (length changes + 2)) old.held new.held held now is_old parts.is_held went.made;
         shows = shown file shows;
       };
       answers = record { began = sound; same_failed = parts.is_failed; faults = on_disk facts NoFault old.held new.held held now is_old parts.is_held went.made.faults };
@@ -331,8 +374,26 @@ module _ {D : Type 0} (facts : D → Facts) (old new : Book D) (held now : Tenan
       quiet = λ is. absurd (let e : SealCall ≡ CancelCall = is in cc);
       words = parts.is_words;
       places = parts.is_places;
-      ahead = λ place. ap (λ table. is_settled table place) parts.is_table;
+      ahead = λ k. ap (λ table. is_settled table k) parts.is_table ∙ ap (λ flags. flag_of flags k) are.same_settled;
     } where
+      number : ℕ
+      number = place_in_file old.table (place_at old slot)
+
+      -- the place of the change that is sealed was not chosen
+      away : (k : ℕ) → k < old.places → IsFresh old.table next k → k ≢ place_at old slot
+      away k lt fresh same =
+          let one = are.chosen k lt fresh.was fresh.now in
+          let e : FreeStage ≡ PreparedStage = sym (free_of (states_of held) old.table k one.vacant fresh.was) ∙ ap (stage_in_file (states_of held) old.table) same ∙ was in
+          cc
+
+      nowhere : IsNoPlaceOf changes number
+      nowhere = are.others number (λ k lt is. elim (fresh_or_same old.table next k (are.kept k)) [
+        | inl same ↦ same
+        | inr fresh ↦
+            let one = are.chosen k lt fresh.was fresh.now in
+            absurd (let e : FreeStage ≡ PreparedStage = sym (free_of (states_of held) old.table k one.vacant fresh.was) ∙ ap (stage_of (states_of held)) is ∙ was in cc)
+      ])
+
       done : (file : File) → Represents facts old file → IsTrue (facts (disk_of held)).honest
           → CrashSafe facts held now file.contents (pairs_of (entries_at file (file.place_of slot))) (put_pairs (pairs_of (entries_at file (file.place_of slot))) file.contents) []
       done file shows honest =
@@ -348,25 +409,36 @@ module _ {D : Type 0} (facts : D → Facts) (old new : Book D) (held now : Tenan
       shown file shows =
           let at = same_place facts old held is_old file shows slot within busy in
           let es : List Entry = entries_at file (file.place_of slot) in
-          shows_parts facts new (Some now) old.words old.places old.place_of old.table old.has_failed (sealed file (file.place_of slot)) parts (record {
+          shows_parts facts new (Some now) old.words old.places old.place_of next old.has_failed (sealed file (file.place_of slot)) parts (record {
             same_words = length-put file.contents es ∙ shows.same_words;
-            same_places = subst (λ p. ArePlaced (states_of now) old.table old.places (upd file.places p (Sealed es))) (sym at)
-                (placed_on (states_of held) (states_of now) old.table old.places (place_at old slot) file.places SealedStage (writes_in_file (states_of held) old.table (place_at old slot))
-                (placed_in facts old held is_old file shows) old.permuted staged (place_within facts old held is_old file shows slot within busy) (Sealed es) (plain_at facts old held is_old file shows slot within busy) own refl (λ full. writes_called facts old held is_old file shows slot within busy own));
+            same_places = subst (λ p. ArePlaced (states_of now) next old.places (upd file.places p (Sealed es))) (sym at)
+                (placed_beside old.words (states_of held) (states_of now) old.table next old.places low changes top are old.permuted file.places (placed_in facts old held is_old file shows) (place_at old slot)
+                (place_within facts old held is_old file shows slot within busy) SealedStage (writes_in_file (states_of held) old.table (place_at old slot)) (Sealed es)
+                (plain_at facts old held is_old file shows slot within busy) own refl (λ full. writes_called facts old held is_old file shows slot within busy own)
+                (λ k lt fresh. away k lt fresh)
+                (λ k lt fresh. (are.chosen k lt fresh.was fresh.now).here (states_of now) staged.stage_here)
+                (staged.stage_there number nowhere ∙ cond-true (number == number) SealedStage (stage_of (states_of held) number) (eq-eqb number number refl), staged.writes_there number nowhere)
+                (λ n other kept. (staged.stage_there n (are.others n kept) ∙ cond-false (n == number) SealedStage (stage_of (states_of held) n) (ne_eqb n number other), staged.writes_there n (are.others n kept))));
             same_place_of = shows.same_place_of;
             same_failed = shows.same_failed;
             stands = still (put file.contents es) (pairs_of file.doubt) (stands file shows);
           })
 
+none_more : (n : ℕ) → n ≡ 0 + n
+none_more n = omega arith
+
 -- A settle of a change that was settled ahead: only its flag is cleared.
-pub settle_ahead : {D : Type 0} (facts : D → Facts) (old new : Book D) (slot : ℕ) (entries : List Entry) (flags : List Bool) → slot < MAX_POOL → old.has_failed ≡ false
+pub settle_ahead : {D : Type 0} (facts : D → Facts) (old new : Book D) (slot : ℕ) (entries : List Entry) (most : ℕ) (flags : List Bool) → slot < MAX_POOL → old.has_failed ≡ false
     → is_settled old.table (place_at old slot) ≡ true → HasParts new old.held old.words old.places old.place_of (record old.table { settled = flags }) old.has_failed
-    → ((place : ℕ) → flag_of flags place ≡ ahead_by_settle (states_in old.held) old.table (place_at old slot) place) → IsFiled facts SettleCall slot entries old new Made
-settle_ahead facts old new slot entries flags within sound ahead parts are = record {
+    → ((place : ℕ) → flag_of flags place ≡ ahead_by_settle (states_in old.held) old.table (place_at old slot) place) → IsFiled facts SettleCall slot entries most old new Made
+settle_ahead facts old new slot entries most flags within sound ahead parts are = record {
   ends = λ file shows. record {
     began = shows.same_failed ∙ sound;
-    made = subst (λ h. OnDisk facts (Good (settle_calls (is_settled old.table (place_at old slot)) (states_in old.held))) (disk_in old.held) (disk_in h)) (sym parts.is_held)
-        (subst (λ flag. OnDisk facts (Good (settle_calls flag (states_in old.held))) (disk_in old.held) (disk_in old.held)) (sym ahead) (on_same facts (Good 0) old.held good_none));
+    written = 0;
+    few = omega arith;
+    made = subst (λ n. OnDisk facts (Good n) (disk_in old.held) (disk_in new.held)) (none_more (settle_calls (is_settled old.table (place_at old slot)) (states_in old.held)))
+        (subst (λ h. OnDisk facts (Good (settle_calls (is_settled old.table (place_at old slot)) (states_in old.held))) (disk_in old.held) (disk_in h)) (sym parts.is_held)
+        (subst (λ flag. OnDisk facts (Good (settle_calls flag (states_in old.held))) (disk_in old.held) (disk_in old.held)) (sym ahead) (on_same facts (Good 0) old.held good_none)));
     shows = subst (λ p. Represents facts new (emptied file p)) (sym (shows.same_place_of slot within))
         (shows_parts facts new old.held old.words old.places old.place_of (record old.table { settled = flags }) old.has_failed (emptied file (place_at old slot)) parts (record {
           same_words = shows.same_words;
@@ -386,26 +458,31 @@ settle_ahead facts old new slot entries flags within sound ahead parts are = rec
 }
 
 -- After a change that was prepared ahead was given up, a prepare that was tried ends for the book before that too.
-module _ {D : Type 0} (facts : D → Facts) (slot : ℕ) (entries : List Entry) (old mid new : Book D) (same : RepresentsSame facts old mid) (none : has_written old slot entries ≡ false) (still_none : has_written mid slot entries ≡ false) where
+module _ {D : Type 0} (facts : D → Facts) (slot : ℕ) (entries : List Entry) (most : ℕ) (old mid new : Book D) (same : RepresentsSame facts old mid) (none : has_written old slot entries ≡ false) (still_none : has_written mid slot entries ≡ false) where
   same_calls : (there : List Entry) → calls_on mid PrepareCall slot entries there ≡ calls_on old PrepareCall slot entries there
   same_calls there = ap (λ b. prepare_calls b there) (still_none ∙ sym none)
 
-  tried_same : (result : Filed) → (result ≡ Untouched → ⊥) → (file : File) → Ends facts PrepareCall slot entries file mid new result → Represents facts old file → Ends facts PrepareCall slot entries file old new result
+  tried_same : (result : Filed) → (result ≡ Untouched → ⊥) → (file : File) → Ends facts PrepareCall slot entries most file mid new result → Represents facts old file → Ends facts PrepareCall slot entries most file old new result
   tried_same Made tried file ends shows = record {
     began = ends.began;
-    made = subst (λ d. OnDisk facts (Good (calls_on old PrepareCall slot entries (entries_at file (place_for PrepareCall file old.places slot)))) d (disk_in new.held)) same.disk
-        (subst (λ n. OnDisk facts (Good n) (disk_in mid.held) (disk_in new.held)) (same_calls (entries_at file (place_for PrepareCall file old.places slot)))
-        (subst (λ places. OnDisk facts (Good (calls_on mid PrepareCall slot entries (entries_at file (place_for PrepareCall file places slot)))) (disk_in mid.held) (disk_in new.held)) same.places ends.made));
+    written = ends.written;
+    few = ends.few;
+    made = subst (λ d. OnDisk facts (Good (ends.written + calls_on old PrepareCall slot entries (entries_at file (place_for PrepareCall file old.places slot)))) d (disk_in new.held)) same.disk
+        (subst (λ n. OnDisk facts (Good (ends.written + n)) (disk_in mid.held) (disk_in new.held)) (same_calls (entries_at file (place_for PrepareCall file old.places slot)))
+        (subst (λ places. OnDisk facts (Good (ends.written + calls_on mid PrepareCall slot entries (entries_at file (place_for PrepareCall file places slot)))) (disk_in mid.held) (disk_in new.held)) same.places ends.made));
     shows = subst (λ n. Represents facts new (filed PrepareCall file slot (place_for PrepareCall file n slot) entries)) same.places ends.shows;
   }
   tried_same Broken tried file ends shows = record {
     began = ends.began;
     number = ends.number;
     within = ends.within;
-    failed = subst (λ d. OnDisk facts (Bad (calls_on old PrepareCall slot entries (entries_at file (place_for PrepareCall file old.places slot)))) d (disk_in new.held)) same.disk
-        (subst (λ n. OnDisk facts (Bad n) (disk_in mid.held) (disk_in new.held)) (same_calls (entries_at file (place_for PrepareCall file old.places slot)))
-        (subst (λ places. OnDisk facts (Bad (calls_on mid PrepareCall slot entries (entries_at file (place_for PrepareCall file places slot)))) (disk_in mid.held) (disk_in new.held)) same.places ends.failed));
-    made = λ is. subst (λ d. OnDisk facts (FailedAt 2 ends.number) d (disk_in new.held)) same.disk (ends.made (ap (λ b. prepare_calls b (entries_at file (place_for PrepareCall file mid.places slot))) still_none));
+    written = ends.written;
+    few = ends.few;
+    failed = subst (λ d. OnDisk facts (Bad (ends.written + calls_on old PrepareCall slot entries (entries_at file (place_for PrepareCall file old.places slot)))) d (disk_in new.held)) same.disk
+        (subst (λ n. OnDisk facts (Bad (ends.written + n)) (disk_in mid.held) (disk_in new.held)) (same_calls (entries_at file (place_for PrepareCall file old.places slot)))
+        (subst (λ places. OnDisk facts (Bad (ends.written + calls_on mid PrepareCall slot entries (entries_at file (place_for PrepareCall file places slot)))) (disk_in mid.held) (disk_in new.held)) same.places ends.failed));
+    made = λ is. subst (λ d. OnDisk facts (FailedAt 2 ends.number) d (disk_in new.held)) same.disk (ends.made (ap (λ b. ends.written + prepare_calls b (entries_at file (place_for PrepareCall file mid.places slot))) still_none
+        ∙ sym (ap (λ b. ends.written + prepare_calls b (entries_at file (place_for PrepareCall file old.places slot))) none) ∙ is));
     shows = ends.shows;
   }
   tried_same Untouched tried file ends shows = absurd (tried refl)
@@ -429,10 +506,10 @@ stake_prepare Made file place other = refl
 stake_prepare Broken file place other = refl
 stake_prepare Untouched file place other = refl
 
-pub prepare_after : {D : Type 0} (facts : D → Facts) (slot : ℕ) (entries : List Entry) (old mid new : Book D) (result : Filed) → RepresentsSame facts old mid → (result ≡ Untouched → ⊥)
-    → has_written old slot entries ≡ false → has_written mid slot entries ≡ false → IsFiled facts PrepareCall slot entries mid new result → IsFiled facts PrepareCall slot entries old new result
-prepare_after facts slot entries old mid new result same tried none still_none is = record {
-  ends = λ file shows. tried_same facts slot entries old mid new same none still_none result tried file (is.ends file (same.shows file shows)) shows;
+pub prepare_after : {D : Type 0} (facts : D → Facts) (slot : ℕ) (entries : List Entry) (most : ℕ) (old mid new : Book D) (result : Filed) → RepresentsSame facts old mid → (result ≡ Untouched → ⊥)
+    → has_written old slot entries ≡ false → has_written mid slot entries ≡ false → IsFiled facts PrepareCall slot entries most mid new result → IsFiled facts PrepareCall slot entries most old new result
+prepare_after facts slot entries most old mid new result same tried none still_none is = record {
+  ends = λ file shows. tried_same facts slot entries most old mid new same none still_none result tried file (is.ends file (same.shows file shows)) shows;
   answers = answered_same facts old mid new result same tried is.answers;
   moments = λ file shows.
       subst (λ change. OnDisk facts (LeavesEither file.contents change) (disk_in old.held) (disk_in new.held))

@@ -69,6 +69,17 @@ not_true : (b : Bool) → not b ≡ true → b ≡ false
 not_true true is = absurd (let e : false ≡ true = is in cc)
 not_true false is = refl
 
+-- a vacant place in which none is prepared ahead is free in the file, and no change is settled ahead in a vacant one
+module _ (states : List PlaceState) (table : PlaceTable) (place : ℕ) (vacant : is_vacant states table place ≡ true) where
+  both : (is_left (is_prepared_ahead table place) (stage_in_file states table place) ≡ true) × (not (is_settled table place) ≡ true)
+  both = and_parts (is_left (is_prepared_ahead table place) (stage_in_file states table place)) (not (is_settled table place)) vacant
+
+  pub free_of : is_prepared_ahead table place ≡ false → stage_in_file states table place ≡ Free
+  free_of none = free_only (stage_in_file states table place) (sym (ap (λ b. is_left b (stage_in_file states table place)) none) ∙ both.0)
+
+  pub plain_of : is_settled table place ≡ false
+  plain_of = not_true (is_settled table place) both.1
+
 -- The lowest vacant place has no change that is settled ahead. It is free in the file if none is prepared ahead there, else prepared.
 module _ (states : List PlaceState) (table : PlaceTable) (places : ℕ) (room : vacant_place states table places < places) where
   pub vacant_so : is_vacant states table (vacant_place states table places) ≡ true

@@ -12,7 +12,7 @@ use Rattle.mw_record.specs.Layout.{pairs_of}
 use Rattle.mw_file.specs.declared.place_states.Stage.TheVariants.{Free as FreeStage, Prepared as PreparedStage}
 use Rattle.mw_file.specs.declared.tenant_file.TenantFile.{TenantFile}
 use Rattle.mw_file.specs.File.{disk_of, states_of}
-use Rattle.mw_file.specs.PlaceStates.{IsStaged}
+use Rattle.mw_file.specs.PlaceStates.{stage_of, writes_of_place, IsStaged}
 use Rattle.mw_file.specs.RecoveryInvariant.{ContentsStay}
 use Rattle.mw_world_file.specs.Files.{File}
 use Rattle.mw_book.specs.declared.book.Book.{Book}
@@ -24,7 +24,7 @@ use Rattle.mw_book.specs.Representation.{HasParts, Represents, is_prepared_ahead
 use Rattle.mw_book.specs.SameFiles.{RepresentsSame}
 use Rattle.mw_book.proofs.FoundPlaces.{vacant_alike, vacant_plain, vacant_prepared, vacant_so}
 use Rattle.mw_book.proofs.RepresentedFiles.{keeps_in, placed_in, shows_parts, there_held}
-use Rattle.mw_book.proofs.StagedPlaces.{placed_without}
+use Rattle.mw_book.proofs.StagedPlaces.{placed_without, staged_by}
 use Rattle.mw_book.proofs.WrittenPlaces.{written_ahead, written_found, written_there}
 
 -- the table without the change that was prepared ahead in a place
@@ -98,7 +98,8 @@ module _ {D : Type 0} (facts : D → Facts) (old : Book D) (held now : TenantFil
     shows = λ file shows. shows_parts facts new (Some now) old.words old.places old.place_of (without old.table place) old.has_failed file parts (record {
       same_words = shows.same_words;
       same_places =
-          placed_without (states_of held) (states_of now) old.table old.places place file.places FreeStage w (placed_in facts old held is_old file shows) old.permuted staged low
+          placed_without (states_of held) (stage_of (states_of now)) (writes_of_place (states_of now)) old.table old.places place file.places FreeStage w (placed_in facts old held is_old file shows) old.permuted
+          (staged_by (states_of held) (states_of now) (place_in_file old.table place) FreeStage w staged) low
           (slice_set old.table.ahead_for place None) refl ahead gone kept;
       same_place_of = shows.same_place_of;
       same_failed = shows.same_failed;

@@ -1,12 +1,14 @@
 pub mod AlikeFiles
 pub mod AloneChanges
 pub mod ApartChanges
+pub mod ChosenPlaces
 pub mod FilePlaces
 pub mod FiledCalls
 pub mod FoundPlaces
 pub mod GivenUp
 pub mod NewBooks
 pub mod PermittedCalls
+pub mod PlacedAhead
 pub mod PlacesAhead
 pub mod RepresentedFiles
 pub mod StagedPlaces

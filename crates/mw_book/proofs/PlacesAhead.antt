@@ -9,11 +9,12 @@ use Rattle.std.proofs.lemmas.Option.{slice_get_past}
 use Rattle.std.proofs.Math.ListN.{get_or-eq_default}
 use Rattle.mw_words.specs.declared.limits.TheConstants.{MAX_PLACES}
 use Rattle.mw_record.specs.Layout.{pairs_of}
+use Rattle.mw_record.specs.Records.{Pairs}
 use Rattle.mw_file.specs.declared.place_states.PlaceState.{PlaceState}
 use Rattle.mw_file.specs.declared.place_states.Stage.{Stage}
 use Rattle.mw_file.specs.declared.place_states.Stage.TheVariants.{Free as FreeStage, Prepared as PreparedStage, Sealed as SealedStage}
 use Rattle.mw_file.specs.declared.tenant_file.TenantFile.{TenantFile}
-use Rattle.mw_file.specs.PlaceStates.{is_free_stage, stage_at, stage_of, freed, AreFreed}
+use Rattle.mw_file.specs.PlaceStates.{is_free_stage, stage_at, stage_of, writes_of_place, freed}
 use Rattle.mw_world_file.specs.Devices.{stage_told}
 use Rattle.mw_world_file.specs.Files.{Place, Empty, Prepared, Sealed, is_empty, is_sealed, entries_in}
 use Rattle.mw_world_file.specs.Maps.{upd}
@@ -23,7 +24,7 @@ use Rattle.mw_book.specs.FilePlaces.{flag_of, IsPermutation}
 use Rattle.mw_book.specs.SettledAhead.{is_sealed_stage, ahead_by_settle}
 use Rattle.mw_book.specs.OpenFile.{states_in}
 use Rattle.mw_book.specs.Permits.{MaySettle}
-use Rattle.mw_book.specs.Representation.{ArePlaced, is_prepared_ahead, is_settled, place_in_file, stage_held, stage_in_file}
+use Rattle.mw_book.specs.Representation.{ArePlaced, ArePlacedBy, is_prepared_ahead, is_settled, place_in_file, stage_held, stage_in_file}
 use Rattle.mw_book.proofs.FilePlaces.{low_place}
 
 -- a place for which nothing was done ahead has the stage in the file that the world's place says
@@ -96,7 +97,7 @@ by_settle_here : (states : List PlaceState) (table : PlaceTable) (own k : ℕ) �
 by_settle_here states table own k here =
     cond-true _ false (is_settled table k || (not (is_settled table own) && is_sealed_stage (stage_in_file states table k))) (eq-eqb k own here)
 
-by_settle_there : (states : List PlaceState) (table : PlaceTable) (own k : ℕ) (flag : Bool) → is_settled table own ≡ flag → k ≢ own
+pub by_settle_there : (states : List PlaceState) (table : PlaceTable) (own k : ℕ) (flag : Bool) → is_settled table own ≡ flag → k ≢ own
     → ahead_by_settle states table own k ≡ (is_settled table k || (not flag && is_sealed_stage (stage_in_file states table k)))
 by_settle_there states table own k flag is apart =
     cond-false _ false (is_settled table k || (not (is_settled table own) && is_sealed_stage (stage_in_file states table k))) (ne_eqb k own apart)
@@ -138,8 +139,8 @@ ahead_held false false Empty settled is = absurd (let e : false ≡ true = is in
 ahead_held false false (Prepared entries) settled is = absurd (let e : false ≡ true = is in cc)
 ahead_held false false (Sealed entries) settled is = refl
 
-module _ (old new : List PlaceState) (table : PlaceTable) (flags : List Bool) (places own : ℕ) (at : ℕ → Place) (placed : ArePlaced old table places at) (sealed : stage_in_file old table own ≡ SealedStage)
-    (plain : is_settled table own ≡ false) (now : (k : ℕ) → flag_of flags k ≡ ahead_by_settle old table own k) (free : AreFreed old new) (permuted : IsPermutation table.file_place places) where
+module _ (old : List PlaceState) (stage : ℕ → Stage) (written : ℕ → Pairs) (table : PlaceTable) (flags : List Bool) (places own : ℕ) (at : ℕ → Place) (placed : ArePlaced old table places at) (sealed : stage_in_file old table own ≡ SealedStage)
+    (plain : is_settled table own ≡ false) (now : (k : ℕ) → flag_of flags k ≡ ahead_by_settle old table own k) (free : (k : ℕ) → stage k ≡ freed (stage_of old k)) (same : (k : ℕ) → written k ≡ writes_of_place old k) (permuted : IsPermutation table.file_place places) where
   past_free : (k : ℕ) → places ≤ k → stage_in_file old table k ≡ FreeStage
   past_free k le = ap (stage_of old) (permuted.past k le) ∙ placed.further k le
 
@@ -156,14 +157,14 @@ module _ (old new : List PlaceState) (table : PlaceTable) (flags : List Bool) (p
   own_here k lt here = sealed_own (is_settled table k) (is_prepared_ahead table k) (at k) (sym (placed.stages k lt) ∙ ap (stage_in_file old table) here ∙ sealed)
 
   -- all sealed changes were settled in the file
-  pub placed_rolled : ArePlaced new (record table { settled = flags }) places (upd at own Empty)
+  pub placed_rolled : ArePlacedBy stage written (record table { settled = flags }) places (upd at own Empty)
   placed_rolled = record {
     stages = λ k lt. elim (cases_eq k own) [
       | inl here ↦
-          ap (stage_in_file new table) here ∙ free.stages (place_in_file table own) ∙ ap freed sealed ∙ sym (ap stage_told (upd_here at own k Empty here))
+          ap (λ j. stage (place_in_file table j)) here ∙ free (place_in_file table own) ∙ ap freed sealed ∙ sym (ap stage_told (upd_here at own k Empty here))
           ∙ sym (held_plain (flag_of flags k) (is_prepared_ahead table k) (upd at own Empty k) (flag_here k here) (own_here k lt here))
       | inr apart ↦
-          free.stages (place_in_file table k) ∙ ap freed (placed.stages k lt) ∙ freed_held (is_settled table k) (is_prepared_ahead table k) (at k)
+          free (place_in_file table k) ∙ ap freed (placed.stages k lt) ∙ freed_held (is_settled table k) (is_prepared_ahead table k) (at k)
           ∙ ap (λ b. stage_held b (is_prepared_ahead table k) (at k)) (sym (held_there k lt apart))
           ∙ sym (ap (stage_held (flag_of flags k) (is_prepared_ahead table k)) (upd_there at own k Empty apart))
     ];
@@ -175,7 +176,7 @@ module _ (old new : List PlaceState) (table : PlaceTable) (flags : List Bool) (p
       | inl here ↦ absurd (let e : false ≡ true = sym (own_here k lt here) ∙ is in cc)
       | inr apart ↦ ap is_empty (upd_there at own k Empty apart) ∙ placed.empty_ahead k lt is
     ];
-    further = λ k le. free.stages k ∙ ap freed (placed.further k le);
+    further = λ k le. free k ∙ ap freed (placed.further k le);
     further_not_ahead = λ k le. elim (cases_eq k own) [
       | inl here ↦ flag_here k here
       | inr apart ↦ flag_there k apart ∙ ap (λ b. b || is_sealed_stage (stage_in_file old table k)) (placed.further_not_ahead k le) ∙ ap is_sealed_stage (past_free k le)
@@ -184,8 +185,8 @@ module _ (old new : List PlaceState) (table : PlaceTable) (flags : List Bool) (p
     writes = λ k lt busy. elim (cases_eq k own) [
       | inl here ↦ absurd (let e : true ≡ false = sym (ap is_empty (upd_here at own k Empty here)) ∙ busy in cc)
       | inr apart ↦
-          let same = upd_there at own k Empty apart in
-          free.writes (place_in_file table k) ∙ placed.writes k lt (sym (ap is_empty same) ∙ busy) ∙ sym (ap (λ q. pairs_of (entries_in q)) same)
+          let kept = upd_there at own k Empty apart in
+          same (place_in_file table k) ∙ placed.writes k lt (sym (ap is_empty kept) ∙ busy) ∙ sym (ap (λ q. pairs_of (entries_in q)) kept)
     ];
   }
 

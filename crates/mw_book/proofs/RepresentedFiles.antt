@@ -11,7 +11,7 @@ use Rattle.mw_disk.specs.Runs.{LeavesOnly}
 use Rattle.mw_disk.proofs.RunLaws.{leaves_same, leaves_wider}
 use Rattle.mw_record.specs.Layout.{pairs_of}
 use Rattle.mw_file.specs.declared.tenant_file.TenantFile.{TenantFile}
-use Rattle.mw_file.specs.File.{disk_of, states_of, has_failed}
+use Rattle.mw_file.specs.File.{disk_of, words_of, states_of, has_failed}
 use Rattle.mw_file.specs.RecoveryInvariant.{RecoversTo, IsBeforeOrAfter}
 use Rattle.mw_file.specs.PlaceStates.{is_free_stage, stage_of}
 use Rattle.mw_world_file.specs.Crashes.{IsFileOfEither}
@@ -21,7 +21,7 @@ use Rattle.mw_world_file.proofs.CrashedFiles.{of_either}
 use Rattle.mw_book.specs.declared.book.Book.{Book}
 use Rattle.mw_book.specs.declared.place_table.PlaceTable.{PlaceTable}
 use Rattle.mw_book.specs.Crashes.{LeavesEither}
-use Rattle.mw_book.specs.OpenFile.{states_in, places_in, has_failed_in, disk_in, FileRecoversTo, OnDisk}
+use Rattle.mw_book.specs.OpenFile.{states_in, words_in, places_in, has_failed_in, disk_in, FileRecoversTo, OnDisk}
 use Rattle.mw_book.specs.Representation.{ArePlaced, PartsRepresent, Represents, HasParts, is_prepared_ahead, is_settled, place_at, stage_in_file, writes_in_file}
 use Rattle.mw_book.proofs.PlacesAhead.{held_plain, plain_busy}
 
@@ -67,6 +67,9 @@ busy_told (Sealed entries) busy = refl
 module _ {D : Type 0} (facts : D → Facts) (old : Book D) (held : TenantFile D) (is_old : old.held ≡ Some held) where
   pub there_held : old.places ≤ length (states_of held)
   there_held = let same = ap (places_in old.places) is_old in let le = old.room in omega (arith, same, le)
+
+  pub words_held : words_of held ≡ old.words
+  words_held = sym (ap (words_in old.words) is_old) ∙ old.same_words
 
   pub failed_as : has_failed held ≡ old.has_failed
   failed_as = sym (ap has_failed_in is_old) ∙ old.same_failed

@@ -1,6 +1,6 @@
 -- If a place takes the record that was prepared ahead in another one, each place still has its own place of the file, and all places match.
 -- Used by: the proof of Book::take_written. It may change freely as long as this crate checks.
-use Rattle.std.proofs.Common.{◌≡◌, ◌≢◌, ℕ, ◌<◌, ◌≤◌, Bool, true, false, List, length, Option, Some, None, is_some, get_or, slice_set, nat_lt, refl, sym, ap, subst, ◌∙◌, inl, inr, arith}
+use Rattle.std.proofs.Common.{◌≡◌, ◌≢◌, ℕ, ◌+◌, ◌<◌, ◌≤◌, Bool, true, false, List, length, Option, Some, None, is_some, get_or, slice_set, nat_lt, refl, sym, ap, subst, ◌∙◌, inl, inr, arith}
 use Rattle.std.proofs.lemmas.Bool.{cases_eq, lt-ltb}
 use Rattle.std.proofs.lemmas.List.{get_or_default, get_or-set_same, get_or-set_other, length-set}
 use Rattle.mw_words.specs.declared.limits.TheConstants.{MAX_PLACES, MAX_POOL}
@@ -210,18 +210,20 @@ module _ (table : PlaceTable) (place written : ℕ) (low : place < length table.
       }
 
 -- A prepare of a change whose record was prepared ahead: its slot's place takes the record.
-pub prepare_taken : {D : Type 0} (facts : D → Facts) (old new : Book D) (slot place written : ℕ) (entries : List Entry) → place ≡ vacant_place (states_in old.held) old.table old.places
+pub prepare_taken : {D : Type 0} (facts : D → Facts) (old new : Book D) (slot place written : ℕ) (entries : List Entry) (most : ℕ) → place ≡ vacant_place (states_in old.held) old.table old.places
     → HasPlace (states_in old.held) old.table old.places → written ≡ written_place (states_in old.held) old.table slot entries old.places → written < old.places → old.has_failed ≡ false → slot < MAX_POOL
     → MAX_POOL ≤ length old.place_of → place < length old.table.file_place → written < length old.table.file_place → length old.table.ahead_for ≡ length old.table.file_place
-    → HasParts new old.held old.words old.places (slice_set old.place_of slot place) (taken old.table place written) old.has_failed → IsFiled facts PrepareCall slot entries old new Made
-prepare_taken facts old new slot place written entries is room found also sound within long low lower wide parts = record {
+    → HasParts new old.held old.words old.places (slice_set old.place_of slot place) (taken old.table place written) old.has_failed → IsFiled facts PrepareCall slot entries most old new Made
+prepare_taken facts old new slot place written entries most is room found also sound within long low lower wide parts = record {
   ends = λ file shows.
       let same = is ∙ found_at (states_in old.held) old.table old.places file shows.same_places in
       let used : place < old.places = (let lt = room in omega (arith, is, lt)) in
       record {
         began = shows.same_failed ∙ sound;
-        made = subst (λ h. OnDisk facts (Good (prepare_calls (has_written old slot entries) (entries_at file (vacant_of file)))) (disk_in old.held) (disk_in h)) (sym parts.is_held)
-            (subst (λ n. OnDisk facts (Good n) (disk_in old.held) (disk_in old.held)) (sym (ap (λ b. prepare_calls b (entries_at file (vacant_of file))) there)) (on_same facts (Good 0) old.held good_none));
+        written = 0;
+        few = omega arith;
+        made = subst (λ h. OnDisk facts (Good (0 + prepare_calls (has_written old slot entries) (entries_at file (vacant_of file)))) (disk_in old.held) (disk_in h)) (sym parts.is_held)
+            (subst (λ n. OnDisk facts (Good n) (disk_in old.held) (disk_in old.held)) (sym (ap (λ b. 0 + prepare_calls b (entries_at file (vacant_of file))) there)) (on_same facts (Good 0) old.held good_none));
         shows = subst (λ p. Represents facts new (prepared file slot p entries)) same
             (shows_parts facts new old.held old.words old.places (slice_set old.place_of slot place) (taken old.table place written) old.has_failed (prepared file slot place entries) parts (record {
               same_words = shows.same_words;

@@ -1,7 +1,7 @@
 -- Defines that a change is alone: no other change is sealed, and none is settled or prepared ahead, as with one client. Then each call makes just the device calls that the
 -- world lists, and leaves no change settled ahead.
 -- Used by: the contracts of laws.rt. A change here changes the law a_change_alone_makes_the_listed_calls.
-use Rattle.std.specs.Prelude.{◌≡◌, ◌≢◌, ◌<◌, ℕ, true, false, List}
+use Rattle.std.specs.Prelude.{◌≡◌, ◌≢◌, ◌<◌, ◌≤◌, ◌+◌, ℕ, true, false, List}
 use Rattle.mw_words.specs.declared.limits.TheConstants.{MAX_POOL}
 use Rattle.mw_words.specs.declared.jobs.Entry.{Entry}
 use Rattle.mw_look.specs.declared.steps.Call.{Call}
@@ -30,12 +30,12 @@ module _ {D : Type 0} (facts : D → Facts) where
     pub none_ahead : HasNoneAhead book
     pub none_prepared : HasNonePrepared book
 
-  -- such a call makes as many device calls as the world lists
+  -- such a call makes as many device calls as the world lists, if no change waits, so that it writes no record of one
   abbrev pub AloneMakesListedCalls : Type 0
   AloneMakesListedCalls = (book : Book D) (file : File) (call : Call) (slot : ℕ) (entries : List Entry) → FindsAlone book file call slot
-      → calls_on book call slot entries (entries_at file (place_for call file book.places slot)) ≡ device_calls call (entries_at file (place_for call file book.places slot))
+      → (written : ℕ) → written ≤ 0 → written + calls_on book call slot entries (entries_at file (place_for call file book.places slot)) ≡ device_calls call (entries_at file (place_for call file book.places slot))
 
   -- and it settles none ahead
   abbrev pub AloneLeavesNoneAhead : Type 0
-  AloneLeavesNoneAhead = (old new : Book D) (file : File) (call : Call) (slot : ℕ) (entries : List Entry) (answer : Filed) → FindsAlone old file call slot
-      → IsFiled facts call slot entries old new answer → HasNoneAhead new
+  AloneLeavesNoneAhead = (old new : Book D) (file : File) (call : Call) (slot : ℕ) (entries : List Entry) (most : ℕ) (answer : Filed) → FindsAlone old file call slot
+      → IsFiled facts call slot entries most old new answer → HasNoneAhead new

@@ -17,9 +17,9 @@ use Rattle.mw_book.specs.SettledAhead.{SettlesAhead}
 use Rattle.mw_book.specs.OpenFile.{disk_in, OnDisk}
 use Rattle.mw_book.specs.Representation.{Represents}
 
--- A call for the change of a slot took the old book to the new one, with this answer.
-pub record IsFiled {D : Type 0} (facts : D → Facts) (call : Call) (slot : ℕ) (entries : List Entry) (old new : Book D) (result : Filed) : Type 0 where
-  pub ends : (file : File) → Represents facts old file → Ends facts call slot entries file old new result
+-- A call for the change of a slot took the old book to the new one, with this answer. It wrote at most `most` records of waiting changes.
+pub record IsFiled {D : Type 0} (facts : D → Facts) (call : Call) (slot : ℕ) (entries : List Entry) (most : ℕ) (old new : Book D) (result : Filed) : Type 0 where
+  pub ends : (file : File) → Represents facts old file → Ends facts call slot entries most file old new result
   pub answers : Answers facts call old new result
   pub moments : IsCrashSafe facts call slot old new result
   pub later : OnDisk facts Later (disk_in old.held) (disk_in new.held)

@@ -1,7 +1,7 @@
 -- Defines how a call on a book ends, for each simulated file (`File` of mw_world_file) that the book represented before it.
 -- Used by: CallOutcome, mw_core, the contracts of calls.rt. A change here changes what a call promises of the file as the world
 -- knows it.
-use Rattle.std.specs.Prelude.{◌≡◌, ◌+◌, ℕ, Bool, true, false, List}
+use Rattle.std.specs.Prelude.{◌≡◌, ◌≤◌, ◌+◌, ℕ, Bool, true, false, List}
 use Rattle.mw_words.specs.declared.jobs.Entry.{Entry}
 use Rattle.mw_look.specs.declared.steps.Call.{Call}
 use Rattle.mw_look.specs.declared.steps.Call.TheVariants.{Prepare as PrepareCall, Settle as SettleCall}
@@ -41,8 +41,8 @@ calls_on book PrepareCall slot taken entries = prepare_calls (has_written book s
 calls_on book SettleCall slot taken entries = settle_calls (is_settled book.table (place_at book slot)) (states_in book.held)
 calls_on book call slot taken entries = device_calls call entries
 
-module _ {D : Type 0} (facts : D → Facts) (call : Call) (slot : ℕ) (entries : List Entry) (file : File) (old new : Book D) where
-  -- the place that the call is for, how many device calls the world lists for it, and how many it makes on the book
+module _ {D : Type 0} (facts : D → Facts) (call : Call) (slot : ℕ) (entries : List Entry) (most : ℕ) (file : File) (old new : Book D) where
+  -- the place that the call is for, how many device calls the world lists for it, and how many it makes on the book for its own change
   abbrev pub place_called : ℕ
   place_called = place_for call file old.places slot
 
@@ -52,10 +52,13 @@ module _ {D : Type 0} (facts : D → Facts) (call : Call) (slot : ℕ) (entries 
   abbrev pub calls_made : ℕ
   calls_made = calls_on old call slot entries (entries_at file place_called)
 
-  -- The call was made. All its device calls went well, as an honest disk counts them, and the book represents the file after the call.
+  -- The call was made. All its device calls went well, as an honest disk counts them: those for its own change, and one for each record
+  -- of a waiting change that it wrote, which are at most `most`. The book represents the file after the call.
   pub record WasMade : Type 0 where
     pub began : fails_on call file ≡ false
-    pub made : OnDisk facts (Good calls_made) (disk_in old.held) (disk_in new.held)
+    pub written : ℕ
+    pub few : written ≤ most
+    pub made : OnDisk facts (Good (written + calls_made)) (disk_in old.held) (disk_in new.held)
     pub shows : Represents facts new (filed call file slot place_called entries)
 
   -- One of the device calls failed, and the book represents the file after this failure. The number is of a device call that the world
@@ -64,8 +67,10 @@ module _ {D : Type 0} (facts : D → Facts) (call : Call) (slot : ℕ) (entries 
     pub began : fails_on call file ≡ false
     pub number : ℕ
     pub within : is_made calls_listed number ≡ true
-    pub failed : OnDisk facts (Bad calls_made) (disk_in old.held) (disk_in new.held)
-    pub made : calls_made ≡ calls_listed → OnDisk facts (FailedAt calls_listed number) (disk_in old.held) (disk_in new.held)
+    pub written : ℕ
+    pub few : written ≤ most
+    pub failed : OnDisk facts (Bad (written + calls_made)) (disk_in old.held) (disk_in new.held)
+    pub made : written + calls_made ≡ calls_listed → OnDisk facts (FailedAt calls_listed number) (disk_in old.held) (disk_in new.held)
     pub shows : Represents facts new (broken file (doubt_of call (entries_at file place_called)))
 
   -- The file had failed before, and the call did nothing.

@@ -1,6 +1,7 @@
 pub mod Alike
 pub mod Alone
 pub mod Answers
+pub mod ChosenPlaces
 pub mod Crashes
 pub mod Ends
 pub mod FilePlaces

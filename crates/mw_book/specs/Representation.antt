@@ -45,15 +45,20 @@ stage_held false false place = stage_told place
 
 -- The first places have the stages in the file that the world's places say, with the writes of their entries. But those are free whose
 -- changes are settled ahead: only sealed changes are. And those are prepared in which a change is prepared ahead: only empty places
--- are. All further places of the file are free, and have none. The expected values of a change are not in a file.
-pub record ArePlaced (states : List PlaceState) (table : PlaceTable) (places : ℕ) (at : ℕ → Place) : Type 0 where
-  pub stages : (place : ℕ) → place < places → stage_in_file states table place ≡ stage_held (is_settled table place) (is_prepared_ahead table place) (at place)
+-- are. All further places of the file are free, and have none. The expected values of a change are not in a file. Here `stage` and
+-- `written` tell of each place of the file how far its change is, and what it writes.
+pub record ArePlacedBy (stage : ℕ → Stage) (written : ℕ → List (ℕ × ℕ)) (table : PlaceTable) (places : ℕ) (at : ℕ → Place) : Type 0 where
+  pub stages : (place : ℕ) → place < places → stage (place_in_file table place) ≡ stage_held (is_settled table place) (is_prepared_ahead table place) (at place)
   pub ahead : (place : ℕ) → place < places → is_settled table place ≡ true → is_sealed (at place) ≡ true
   pub empty_ahead : (place : ℕ) → place < places → is_prepared_ahead table place ≡ true → is_empty (at place) ≡ true
-  pub further : (place : ℕ) → places ≤ place → stage_of states place ≡ Free
+  pub further : (place : ℕ) → places ≤ place → stage place ≡ Free
   pub further_not_ahead : (place : ℕ) → places ≤ place → is_settled table place ≡ false
   pub further_none_ahead : (place : ℕ) → places ≤ place → is_prepared_ahead table place ≡ false
-  pub writes : (place : ℕ) → place < places → is_empty (at place) ≡ false → writes_in_file states table place ≡ pairs_of (entries_in (at place))
+  pub writes : (place : ℕ) → place < places → is_empty (at place) ≡ false → written (place_in_file table place) ≡ pairs_of (entries_in (at place))
+
+-- the same of the places of a file
+abbrev pub ArePlaced : List PlaceState → PlaceTable → ℕ → (ℕ → Place) → Type 0
+ArePlaced states table places at = ArePlacedBy (stage_of states) (writes_of_place states) table places at
 
 -- These parts of a book represent this file. Each part says what the file says. On an honest disk the open file recovers to the file's
 -- words, with its change in doubt.

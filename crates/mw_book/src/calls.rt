@@ -2,17 +2,18 @@
 //!
 //! mw_core makes these calls, in its `file_calls.rt`. `specs/Permits` says when one may be made, and
 //! `specs/CallOutcome` what it leaves: change them together. README and docs/PROMISES cite `call`.
-ghost use Rattle.std.specs.Prelude.{◌≡◌, ◌≢◌, ℕ, List, [], true, false};
+ghost use Rattle.std.specs.Prelude.{◌≡◌, ◌≢◌, ℕ, List, [], length, true, false};
 ghost use Rattle.mw_disk.specs.Runs.{Later};
 ghost use Rattle.mw_words.specs.declared.jobs.Entry.{Entry as EntryAt};
 ghost use Rattle.mw_world_file.specs.Files.{File};
 
 use crate::answers::Filed;
 use crate::book::Book;
+use crate::waiting::{Waiting, choose};
 use mw_disk::Disk;
-use mw_file::Place;
+use mw_file::{NewChange, Place};
 use mw_look::Call;
-use mw_words::Entries;
+use mw_words::{Entries, copy_of};
 
 impl<D: Disk> Book<D> {
     ghost use Rattle.mw_book.specs.Answers.{Answers};
@@ -42,9 +43,21 @@ impl<D: Disk> Book<D> {
     /// On such a disk a crash at any moment since the call began leaves the words of each file that the book
     /// represented then, or these with the change at stake put over them. This is the change that the call
     /// seals, else the one that an earlier failed seal left in doubt. Nothing is said of a file that didn't open.
-    pub fn call(&mut self, call: Call, slot: u8, entries: &Entries) -> Filed
+    ///
+    /// A prepare, a seal and a settle that make device calls also write records of `waiting` changes, before their
+    /// first sync. These changes are then prepared ahead: their own prepares make no device call, if their entries are
+    /// the same by then. A change is written if it is of another slot, is well formed for the file's words, is not
+    /// prepared ahead yet, and if a free place is left for it. Whether it is makes no difference to what the book
+    /// represents.
+    pub fn call(
+        &mut self,
+        call: Call,
+        slot: u8,
+        entries: &Entries,
+        waiting: &[Waiting],
+    ) -> Filed
         requires may { MayCall self.old call slot entries.now.items }
-        ensures ends { (file : File) → Represents D.facts self.old file → Ends D.facts call slot entries.now.items file self.old self.new result }
+        ensures ends { (file : File) → Represents D.facts self.old file → Ends D.facts call slot entries.now.items (length waiting.now) file self.old self.new result }
         ensures answers { Answers D.facts call self.old self.new result }
         ensures moments { IsCrashSafe D.facts call slot self.old self.new result }
         ensures later { OnDisk D.facts Later (disk_in self.old.held) (disk_in self.new.held) }
@@ -54,17 +67,17 @@ impl<D: Disk> Book<D> {
         ensures ahead { SettlesAhead call slot self.old self.new result }
     {
         match call {
-            Call::Prepare => self.prepare(slot, entries),
-            Call::Seal => self.seal(slot),
-            Call::Settle => self.settle(slot),
+            Call::Prepare => self.prepare(slot, entries, waiting),
+            Call::Seal => self.seal(slot, waiting),
+            Call::Settle => self.settle(slot, waiting),
             Call::Cancel => self.cancel(slot),
         }
     }
 
     /// Writes the record of a change into the lowest vacant place, for a slot.
-    fn prepare(&mut self, slot: u8, entries: &Entries) -> Filed
+    fn prepare(&mut self, slot: u8, entries: &Entries, waiting: &[Waiting]) -> Filed
         requires may { MayCall self.old Call.Prepare slot entries.now.items }
-        ensures { IsFiled D.facts Call.Prepare slot entries.now.items self.old self.new result }
+        ensures { IsFiled D.facts Call.Prepare slot entries.now.items (length waiting.now) self.old self.new result }
     {
         if self.has_failed {
             return Filed::Untouched;
@@ -73,7 +86,7 @@ impl<D: Disk> Book<D> {
             return Filed::Made;
         }
         let place = self.make_room();
-        self.write_down(place, slot, entries)
+        self.write_down(place, slot, entries, waiting)
     }
 
     /// Takes the record of a change for a slot, if it is prepared ahead, and tells whether it is. Then the slot's place
@@ -81,7 +94,7 @@ impl<D: Disk> Book<D> {
     fn take_written(&mut self, slot: u8, entries: &Entries) -> bool
         requires sound { self.old.has_failed ≡ false }
         requires room { HasPlace (states_in self.old.held) self.old.table self.old.places }
-        ensures taken { result ≡ true → IsFiled D.facts Call.Prepare slot entries.now.items self.old self.new Filed.Made }
+        ensures taken { result ≡ true → (most : ℕ) → IsFiled D.facts Call.Prepare slot entries.now.items most self.old self.new Filed.Made }
         ensures left { result ≡ false → self.new ≡ self.old }
         ensures none { result ≡ false → has_written self.old slot entries.now.items ≡ false }
     {
@@ -122,51 +135,67 @@ impl<D: Disk> Book<D> {
 
     /// Writes the record of a change into a place, for a slot. It is the lowest vacant one, and has no change that is
     /// prepared ahead.
-    fn write_down(&mut self, place: u16, slot: u8, entries: &Entries) -> Filed
+    fn write_down(
+        &mut self,
+        place: u16,
+        slot: u8,
+        entries: &Entries,
+        waiting: &[Waiting],
+    ) -> Filed
         requires sound { self.old.has_failed ≡ false }
         requires room { HasRoom (states_in self.old.held) self.old.table self.old.places self.old.words entries.now.items }
         requires lowest { place ≡ vacant_place (states_in self.old.held) self.old.table self.old.places }
         requires none_ahead { is_prepared_ahead self.old.table place ≡ false }
         requires none_written { has_written self.old slot entries.now.items ≡ false }
-        ensures filed { IsFiled D.facts Call.Prepare slot entries.now.items self.old self.new result }
+        ensures filed { IsFiled D.facts Call.Prepare slot entries.now.items (length waiting.now) self.old self.new result }
         ensures tried { result ≢ Filed.Untouched }
     {
         let number = self.table.file_place(place);
+        let words = self.words;
         let Some(file) = &mut self.held else {
             unreachable!()
         };
-        if file.prepare_at(Place(number), entries).is_err() {
+        let mut chosen = choose(&self.table, file.states(), words, self.places, place + 1, slot, waiting);
+        chosen.changes.push(NewChange {
+            place: Place(number),
+            entries: copy_of(entries),
+        });
+        if file.prepare_all(chosen.changes.as_slice()).is_err() {
             self.has_failed = true;
             return Filed::Broken;
         }
         self.place_of[slot as usize] = place;
+        self.table = chosen.table;
         Filed::Made
     }
 
     /// Seals the prepared change of a slot.
-    fn seal(&mut self, slot: u8) -> Filed
+    fn seal(&mut self, slot: u8, waiting: &[Waiting]) -> Filed
         requires may { MayCall self.old Call.Seal slot [] }
-        ensures { (entries : List EntryAt) → IsFiled D.facts Call.Seal slot entries self.old self.new result }
+        ensures { (entries : List EntryAt) → IsFiled D.facts Call.Seal slot entries (length waiting.now) self.old self.new result }
     {
         if self.has_failed {
             return Filed::Untouched;
         }
         let number = self.table.file_place(self.place_of[slot as usize]);
+        let words = self.words;
         let Some(file) = &mut self.held else {
             unreachable!()
         };
-        if file.seal(Place(number)).is_err() {
+        let chosen = choose(&self.table, file.states(), words, self.places, 0, slot, waiting);
+        if file.seal_with(Place(number), chosen.changes.as_slice()).is_err() {
             self.has_failed = true;
             return Filed::Broken;
         }
+        self.table = chosen.table;
         Filed::Made
     }
 
     /// Settles the sealed change of a slot. Then its place is vacant. If the change was settled ahead, that is all.
     /// Else all sealed changes are settled in the file, the other ones ahead.
-    fn settle(&mut self, slot: u8) -> Filed
+    fn settle(&mut self, slot: u8, waiting: &[Waiting]) -> Filed
         requires may { MayCall self.old Call.Settle slot [] }
-        ensures { (entries : List EntryAt) → IsFiled D.facts Call.Settle slot entries self.old self.new result }
+        ensures { (entries : List EntryAt) → IsFiled D.facts Call.Settle slot entries (length waiting.now) self.old self.new result }
     {
         if self.has_failed {
             return Filed::Untouched;
@@ -176,15 +205,18 @@ impl<D: Disk> Book<D> {
             self.table.settled[place] = false;
             return Filed::Made;
         }
+        let words = self.words;
         let Some(file) = &mut self.held else {
             unreachable!()
         };
         let mut settled = self.table.settled_with_sealed(file.states());
         settled[place] = false;
-        if file.settle_all().is_err() {
+        let chosen = choose(&self.table, file.states(), words, self.places, 0, slot, waiting);
+        if file.settle_all(chosen.changes.as_slice()).is_err() {
             self.has_failed = true;
             return Filed::Broken;
         }
+        self.table = chosen.table;
         self.table.settled = settled;
         Filed::Made
     }
@@ -192,7 +224,7 @@ impl<D: Disk> Book<D> {
     /// Cancels the prepared change of a slot. Then its place is free. It makes no device call.
     fn cancel(&mut self, slot: u8) -> Filed
         requires may { MayCall self.old Call.Cancel slot [] }
-        ensures { (entries : List EntryAt) → IsFiled D.facts Call.Cancel slot entries self.old self.new result }
+        ensures { (entries : List EntryAt) (most : ℕ) → IsFiled D.facts Call.Cancel slot entries most self.old self.new result }
     {
         let number = self.table.file_place(self.place_of[slot as usize]);
         let Some(file) = &mut self.held else {

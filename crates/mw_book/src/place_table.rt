@@ -3,7 +3,7 @@
 //!
 //! `calls.rt` and `queries.rt` call these. `specs/Representation`, `specs/Permits` and `specs/SettledAhead` have what
 //! they compute.
-ghost use Rattle.std.specs.Prelude.{◌≡◌, ◌≤◌, ◌<◌, ◌||◌, ℕ, length};
+ghost use Rattle.std.specs.Prelude.{◌≡◌, ◌≤◌, ◌<◌, ◌||◌, ℕ, true, false, length, IfSome};
 ghost use Rattle.mw_words.specs.declared.limits.TheConstants.{MAX_PLACES};
 ghost use Rattle.mw_file.specs.PlaceStates as spec;
 ghost use Rattle.mw_book.specs.Permits as permit;
@@ -68,6 +68,31 @@ impl PlaceTable {
             }
         }
         places
+    }
+
+    /// Returns the highest place from `low` on and below `top` that is free in the file and vacant, if there is one.
+    pub(crate) fn highest_free(&self, states: &[PlaceState], low: u16, top: u16) -> Option<u16>
+        requires few { top ≤ MAX_PLACES }
+        ensures low { IfSome result (λ place. low ≤ place) }
+        ensures top { IfSome result (λ place. place < top) }
+        ensures vacant { IfSome result (λ place. permit.is_vacant states.now self.now place ≡ true) }
+        ensures free { IfSome result (λ place. held.is_prepared_ahead self.now place ≡ false) }
+    {
+        for place in (low..top).rev() {
+            if self.is_free(states, place) {
+                return Some(place);
+            }
+        }
+        None
+    }
+
+    /// Tells whether a place is vacant, and no change is prepared ahead in it.
+    fn is_free(&self, states: &[PlaceState], place: u16) -> bool
+        requires { place < MAX_PLACES }
+        ensures vacant { result ≡ true → permit.is_vacant states.now self.now place ≡ true }
+        ensures free { result ≡ true → held.is_prepared_ahead self.now place ≡ false }
+    {
+        !self.is_prepared_ahead(place) && self.is_vacant(states, place)
     }
 
     /// Returns the lowest place among the first `places` places in which a change of this slot with these entries is

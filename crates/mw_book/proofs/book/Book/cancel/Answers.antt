@@ -10,7 +10,7 @@ use Rattle.mw_book.proofs.FiledCalls.{busy_in, cancel_made}
 use Rattle.mw_book.proofs.book.Book.cancel.Goals as goal
 
 pub returns : goal.returns
-returns g c entries =
+returns g c entries most =
     let old = c.args.self.now in
     let facts = g.D.Disk.facts in
     let held = c.in-Some.file in
@@ -18,4 +18,4 @@ returns g c entries =
     (subst (λ d. Later (facts (disk_of held)) (facts d)) (sym (ap disk_of c.cancel.ensures.rest)) (later_refl (facts (disk_of held)))) c.cancel.ensures.safe
     c.args.slot (omega (arith, c.ranges.slot.fits)) (busy_in old held c.args.slot Prepared c.in-Some.is c.requires.may.prepared refl) c.requires.may.own (writes_of_place (states_of held) c.file_place-number.result)
     (subst (λ n. IsStaged (states_of held) (states_of c.cancel.new.self) n Free (writes_of_place (states_of held) c.file_place-number.result)) c.file_place-number.ensures c.cancel.ensures.staged)
-    (record { is_held = refl; is_words = refl; is_places = refl; is_place_of = refl; is_table = refl; is_failed = refl }) entries (ap disk_of c.cancel.ensures.rest)
+    (record { is_held = refl; is_words = refl; is_places = refl; is_place_of = refl; is_table = refl; is_failed = refl }) entries most (ap disk_of c.cancel.ensures.rest)

@@ -1,6 +1,6 @@
 -- Proves goals of `Book::prepare` (src/calls.rt) that the check does not prove by itself. Used by: the proof of that function
 -- alone. It may change freely as long as this crate checks.
-use Rattle.std.proofs.Common.{◌≡◌, refl, sym, ap, subst, ◌∙◌, arith}
+use Rattle.std.proofs.Common.{◌≡◌, length, refl, sym, ap, subst, ◌∙◌, arith}
 use Rattle.mw_look.specs.declared.steps.Call.TheVariants.{Prepare as PrepareCall, Cancel as CancelCall}
 use Rattle.mw_file.specs.File.{states_of}
 use Rattle.mw_file.specs.PlaceStates.{stage_of}
@@ -14,5 +14,7 @@ use Rattle.mw_book.proofs.book.Book.prepare.Goals as goal
 
 pub returns-then-self : goal.returns-then-self
 returns-then-self g c =
-    refused g.D.Disk.facts PrepareCall c.args.slot c.args.entries.now.items c.args.self.now c.if-self.true (λ file. refl) (λ is. let e : PrepareCall ≡ CancelCall = is in cc)
+    refused g.D.Disk.facts PrepareCall c.args.slot c.args.entries.now.items (length c.args.waiting.now) c.args.self.now c.if-self.true (λ file. refl) (λ is. let e : PrepareCall ≡ CancelCall = is in cc)
 
+pub returns-then-take_written : goal.returns-then-take_written
+returns-then-take_written g c = c.take_written.ensures.taken c.if-take_written.true (length c.args.waiting.now)

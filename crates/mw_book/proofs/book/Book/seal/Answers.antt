@@ -1,34 +1,58 @@
 -- Proves goals of `Book::seal` (src/calls.rt) that the check does not prove by itself. Used by: the proof of that function
 -- alone. It may change freely as long as this crate checks.
-use Rattle.std.proofs.Common.{◌≡◌, refl, sym, subst, ◌∙◌, arith}
+use Rattle.std.proofs.Common.{◌≡◌, length, refl, sym, ap, subst, ◌∙◌, ◌+◌, ◌≤◌, arith}
 use Rattle.mw_look.specs.declared.steps.Call.TheVariants.{Seal as SealCall, Cancel as CancelCall}
 use Rattle.mw_file.specs.declared.place_states.Stage.TheVariants.{Prepared, Sealed}
-use Rattle.mw_file.specs.File.{states_of}
-use Rattle.mw_file.specs.PlaceStates.{writes_of_place, IsStaged}
+use Rattle.mw_file.specs.declared.place_states.PlaceState.{PlaceState}
+use Rattle.mw_file.specs.File.{states_of, Ends}
+use Rattle.mw_file.specs.NewChanges.{IsSealedWith, MayPrepare}
+use Rattle.mw_file.specs.PlaceStates.{stage_of, writes_of_place, MaySeal}
 use Rattle.mw_file.specs.RecoveryInvariant.{ChangeIsSealed}
 use Rattle.mw_file.proofs.Ended.{ended_well, went_well}
+use Rattle.mw_book.specs.ChosenPlaces.{AreChosen}
+use Rattle.mw_book.specs.OpenFile.{states_in}
+use Rattle.mw_book.specs.Representation.{place_at, place_in_file, stage_in_file}
 use Rattle.mw_book.proofs.FiledCalls.{refused, busy_in, seal_broken, seal_made}
+use Rattle.mw_book.proofs.RepresentedFiles.{words_held}
 use Rattle.mw_book.proofs.book.Book.seal.Goals as goal
 
 pub returns-then-self : goal.returns-then-self
 returns-then-self g c entries =
-    refused g.D.Disk.facts SealCall c.args.slot entries c.args.self.now c.if-self.true (λ file. refl) (λ is. let e : SealCall ≡ CancelCall = is in cc)
+    refused g.D.Disk.facts SealCall c.args.slot entries (length c.args.waiting.now) c.args.self.now c.if-self.true (λ file. refl) (λ is. let e : SealCall ≡ CancelCall = is in cc)
+
+pub seal_with-requires-clause-ahead : goal.seal_with-requires-clause-ahead
+seal_with-requires-clause-ahead g c =
+    let old = c.args.self.now in
+    let file = c.in-Some.file in
+    subst (λ words. MayPrepare words (states_of file) c.as_slice.result.now) (sym (words_held g.D.Disk.facts old file c.in-Some.is))
+    (subst (λ cs. MayPrepare old.words (states_of file) cs) (sym c.as_slice.ensures.value)
+    (subst (λ states. MayPrepare old.words states c.choose-chosen.result.changes.items) c.states.ensures c.choose-chosen.ensures.chosen.may))
 
 pub returns-then-is_err : goal.returns-then-is_err
 returns-then-is_err g c entries =
     let old = c.args.self.now in
-    seal_broken g.D.Disk.facts old _ c.in-Some.file c.seal.new.self c.in-Some.is c.seal.ensures.later c.args.slot (omega (arith, c.ranges.slot.fits))
-    (busy_in old c.in-Some.file c.args.slot Prepared c.in-Some.is (c.requires.may c.if-self.false).sealable.prepared refl) (c.requires.may c.if-self.false).own c.if-self.false c.seal.result
-    (subst (λ n. ChangeIsSealed g.D.Disk.facts c.in-Some.file c.seal.new.self (writes_of_place (states_of c.in-Some.file) n) c.seal.result) c.file_place-number.ensures c.seal.ensures.safe) entries
-    (sym c.is_err.ensures.value ∙ c.if-is_err.true) c.seal.ensures.ends (record { is_held = refl; is_words = refl; is_places = refl; is_place_of = refl; is_table = refl; is_failed = refl })
+    let file = c.in-Some.file in
+    seal_broken g.D.Disk.facts old _ file c.seal_with.new.self c.in-Some.is c.seal_with.ensures.later c.args.slot (omega (arith, c.ranges.slot.fits))
+    (busy_in old file c.args.slot Prepared c.in-Some.is (c.requires.may c.if-self.false).sealable.prepared refl) (c.requires.may c.if-self.false).own c.if-self.false c.seal_with.result
+    (subst (λ n. ChangeIsSealed g.D.Disk.facts file c.seal_with.new.self (writes_of_place (states_of file) n) c.seal_with.result) c.file_place-number.ensures c.seal_with.ensures.safe) entries
+    (length c.choose-chosen.result.changes.items) (length c.args.waiting.now) c.choose-chosen.ensures.waiting (sym c.is_err.ensures.value ∙ c.if-is_err.true)
+    (subst (λ cs. Ends g.D.Disk.facts (length cs + 2) file c.seal_with.new.self c.seal_with.result) c.as_slice.ensures.value c.seal_with.ensures.ends)
+    (record { is_held = refl; is_words = refl; is_places = refl; is_place_of = refl; is_table = refl; is_failed = refl })
 
 pub returns : goal.returns
 returns g c entries =
     let old = c.args.self.now in
+    let file = c.in-Some.file in
     let well = sym c.is_err.ensures.value ∙ c.if-is_err.false in
-    seal_made g.D.Disk.facts old _ c.in-Some.file c.seal.new.self c.in-Some.is c.seal.ensures.later c.args.slot (omega (arith, c.ranges.slot.fits))
-    (busy_in old c.in-Some.file c.args.slot Prepared c.in-Some.is (c.requires.may c.if-self.false).sealable.prepared refl) (c.requires.may c.if-self.false).own c.if-self.false c.seal.result
-    (subst (λ n. ChangeIsSealed g.D.Disk.facts c.in-Some.file c.seal.new.self (writes_of_place (states_of c.in-Some.file) n) c.seal.result) c.file_place-number.ensures c.seal.ensures.safe) entries
-    well (ended_well g.D.Disk.facts 2 c.in-Some.file c.seal.new.self c.seal.result well c.seal.ensures.ends) 
-    (subst (λ n. IsStaged (states_of c.in-Some.file) (states_of c.seal.new.self) n Sealed (writes_of_place (states_of c.in-Some.file) n)) c.file_place-number.ensures (went_well c.seal.result _ well c.seal.ensures.staged))
+    seal_made g.D.Disk.facts old _ file c.seal_with.new.self c.in-Some.is c.seal_with.ensures.later c.args.slot (omega (arith, c.ranges.slot.fits))
+    (busy_in old file c.args.slot Prepared c.in-Some.is (c.requires.may c.if-self.false).sealable.prepared refl) (c.requires.may c.if-self.false).own c.if-self.false c.seal_with.result
+    (subst (λ n. ChangeIsSealed g.D.Disk.facts file c.seal_with.new.self (writes_of_place (states_of file) n) c.seal_with.result) c.file_place-number.ensures c.seal_with.ensures.safe) entries
+    (length c.args.waiting.now) c.choose-chosen.result.table c.choose-chosen.result.changes.items 0 c.choose-chosen.result.top
+    (subst (λ states. AreChosen old.words states old.table old.places 0 c.choose-chosen.result.table c.choose-chosen.result.changes.items c.choose-chosen.result.top) c.states.ensures c.choose-chosen.ensures.chosen)
+    c.choose-chosen.ensures.waiting well
+    (ended_well g.D.Disk.facts (length c.choose-chosen.result.changes.items + 2) file c.seal_with.new.self c.seal_with.result well
+    (subst (λ cs. Ends g.D.Disk.facts (length cs + 2) file c.seal_with.new.self c.seal_with.result) c.as_slice.ensures.value c.seal_with.ensures.ends))
+    (subst (λ held. stage_in_file (states_in held) old.table (place_at old c.args.slot) ≡ Prepared) c.in-Some.is (c.requires.may c.if-self.false).sealable.prepared)
+    (subst (λ cs. IsSealedWith (states_of file) (states_of c.seal_with.new.self) (place_in_file old.table (place_at old c.args.slot)) cs) c.as_slice.ensures.value
+    (subst (λ n. IsSealedWith (states_of file) (states_of c.seal_with.new.self) n c.as_slice.result.now) c.file_place-number.ensures (went_well c.seal_with.result _ well c.seal_with.ensures.staged)))
     (record { is_held = refl; is_words = refl; is_places = refl; is_place_of = refl; is_table = refl; is_failed = refl })

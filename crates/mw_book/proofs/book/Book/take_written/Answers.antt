@@ -39,7 +39,7 @@ invariant_of-self-2-clause-permuted g c =
     (taken_permutes old.table c.vacant_place-place.result c.written_place-written.result (omega (arith, used, most, few)) (omega (arith, also, most, few)) (omega arith) old.places old.permuted used also)
 
 pub returns-clause-taken : goal.returns-clause-taken
-returns-clause-taken g c well =
+returns-clause-taken g c well most_ahead =
     let old = c.args.self.now in
     let is = c.written_place-written.ensures in
     let last = written_last c.states.result.now old.table c.args.slot c.args.entries.now.items 0 old.places in
@@ -49,7 +49,7 @@ returns-clause-taken g c well =
     let also : c.written_place-written.result < old.places = omega (arith, is, last, other) in
     let at = c.vacant_place-place.ensures ∙ ap (λ states. vacant_place states old.table old.places) c.states-2.ensures ∙ sym (ap (λ held. vacant_place (states_in held) old.table old.places) c.in-Some.is) in
     let used : c.vacant_place-place.result < old.places = (let lt = c.requires.room in omega (arith, at, lt)) in
-    prepare_taken g.D.Disk.facts old _ c.args.slot c.vacant_place-place.result c.written_place-written.result c.args.entries.now.items at c.requires.room
+    prepare_taken g.D.Disk.facts old _ c.args.slot c.vacant_place-place.result c.written_place-written.result c.args.entries.now.items most_ahead at c.requires.room
     (is ∙ ap (λ states. written_place states old.table c.args.slot c.args.entries.now.items old.places) c.states.ensures
     ∙ sym (ap (λ held. written_place (states_in held) old.table c.args.slot c.args.entries.now.items old.places) c.in-Some.is))
     also c.requires.sound (omega (arith, c.ranges.slot.fits)) (omega arith) (omega (arith, used, most, few)) (omega (arith, also, most, few)) (omega arith)

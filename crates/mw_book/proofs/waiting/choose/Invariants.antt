@@ -1,0 +1,16 @@
+-- States what stays true from turn to turn in the loop of `choose` (src/waiting.rt). Used by: the proof of that function alone. It may
+-- change freely as long as this crate checks.
+use Rattle.std.proofs.Common.{◌≤◌, length}
+use Rattle.mw_words.specs.declared.limits.TheConstants.{MAX_PLACES}
+use Rattle.mw_book.specs.declared.waiting.TheConstants.{MOST_AHEAD}
+use Rattle.mw_book.specs.ChosenPlaces.{AreChosen}
+use Rattle.mw_book.proofs.waiting.choose.Given as goal
+
+-- those that were chosen so far may be prepared, and are no more than the changes that were looked at
+abbrev pub invariant-loop-change : goal.invariant-loop-change
+invariant-loop-change l = record {
+  are : AreChosen l.words l.states l.table l.places l.low l.chosen.table l.chosen.changes.items l.chosen.top;
+  fewer : length l.chosen.changes.items ≤ l.change-index;
+  most : length l.chosen.changes.items ≤ MOST_AHEAD;
+  top : l.chosen.top ≤ MAX_PLACES;
+}
