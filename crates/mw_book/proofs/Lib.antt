@@ -3,6 +3,7 @@ pub mod AloneChanges
 pub mod ApartChanges
 pub mod ChosenPlaces
 pub mod FilePlaces
+pub mod CopiedFiles
 pub mod FiledCalls
 pub mod FoundPlaces
 pub mod GivenUp

@@ -2,6 +2,7 @@ pub mod Alike
 pub mod Alone
 pub mod Answers
 pub mod ChosenPlaces
+pub mod Copies
 pub mod Crashes
 pub mod Ends
 pub mod FilePlaces

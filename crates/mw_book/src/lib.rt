@@ -19,6 +19,7 @@
 mod answers;
 mod book;
 mod calls;
+mod copies;
 mod laws;
 mod new_books;
 mod place_table;
