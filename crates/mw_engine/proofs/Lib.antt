@@ -3,6 +3,7 @@ pub mod Configured
 pub mod Disks
 pub mod RequestAfterStep
 pub mod Histories
+pub mod FileCopies
 pub mod GuardedFileLaws
 pub mod TenantSearch
 pub mod AgreementForms

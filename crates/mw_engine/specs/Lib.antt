@@ -1,5 +1,6 @@
 pub mod LinesOfWorld
 pub mod Brand
+pub mod Copies
 pub mod DisksAtEnd
 pub mod Figures
 pub mod FileCalls

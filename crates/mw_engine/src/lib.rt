@@ -14,12 +14,14 @@
 //! - `specs/LinesOfWorld`: how these lines agree with the world of the shared words.
 //! - `specs/History`: what is known of a request that was answered. `specs/StoreAlone`: that it is answered as its
 //!   tenant's store alone answers it. `specs/Replies`: which replies a job can have.
-//! - `specs/DisksAtEnd`: which words are on the disks that are given at the end.
+//! - `specs/DisksAtEnd`: which words are on the disks that are given at the end. `specs/Copies`: which words a copy of
+//!   a tenant's file has.
 //!
 //! Used by: mw_service, mw_programs, mw_engine_tests.
 #![tactic(auto)]
 
 mod brand;
+mod copies;
 mod end;
 mod engine;
 mod figures;
