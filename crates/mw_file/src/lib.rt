@@ -10,6 +10,7 @@
 //! - `seal_with` and `settle_all` also prepare changes ahead: they write the records of these before their sync.
 //! - `cancel` gives up a prepared change.
 //! - `open` reads a file and finishes the changes that were sealed and not settled.
+//! - `copy_bytes` gives the bytes of an open file, as a backup of it. It changes nothing.
 //!
 //! In the field's terms: the places are a redo log, and a home word is the data in place. `seal` commits,
 //! `settle` is a checkpoint of one change, `settle_all` of all, and `open` recovers by redoing what was
