@@ -11,6 +11,8 @@ mod book_tests;
 #[cfg(test)]
 mod byte_tests;
 #[cfg(test)]
+mod copy_tests;
+#[cfg(test)]
 mod disk_tests;
 #[cfg(test)]
 mod file_tests;
