@@ -69,7 +69,7 @@ filed_past SettleCall file_token slot place slots entries low other high = refl
 filed_past CancelCall file_token slot place slots entries low other high = refl
 
 pub books_follow_file_tokens : {D : Type 0} (facts : D → Facts) → BooksFollowFileTokens facts
-books_follow_file_tokens facts old new file_token places slots call slot entries Made agrees low within ends same =
+books_follow_file_tokens facts old new file_token places slots call slot entries waiting Made agrees low within ends same =
     let place : ℕ = place_for call (file_told file_token) places slot in
     let shows : Represents facts new (filed call (file_told file_token) slot place entries) =
     subst (λ (n : ℕ). Represents facts new (filed call (file_told file_token) slot (place_for call (file_told file_token) n slot) entries)) agrees.as_many ends.shows in
@@ -77,13 +77,13 @@ books_follow_file_tokens facts old new file_token places slots call slot entries
     agrees_so facts new (filed call (file_told file_token) slot place entries) (file_token_filed call file_token slot place entries) places slots shows (same ∙ agrees.as_many)
     (file_tokens_follow_calls places slots slot place call entries file_token (file_told file_token) (own_told file_token places slots agrees.long agrees.of_slots) sound)
     (filed_past call file_token slot place slots entries low)
-books_follow_file_tokens facts old new file_token places slots call slot entries Broken agrees low within ends same = record {
+books_follow_file_tokens facts old new file_token places slots call slot entries waiting Broken agrees low within ends same = record {
   shows = subst (λ (n : ℕ). Represents facts new (broken (file_told file_token) (doubt_of call (entries_at (file_told file_token) (place_for call (file_told file_token) n slot))))) agrees.as_many ends.shows;
   as_many = same ∙ agrees.as_many;
   long = agrees.long;
   of_slots = agrees.of_slots;
 }
-books_follow_file_tokens facts old new file_token places slots call slot entries Untouched agrees low within ends same =
+books_follow_file_tokens facts old new file_token places slots call slot entries waiting Untouched agrees low within ends same =
     subst (λ book. Agrees facts book file_token places slots) (sym ends.same) agrees
 
 pub books_take_calls : {D : Type 0} (facts : D → Facts) → BooksTakeCalls facts

@@ -78,7 +78,7 @@ module _ {D : Type 0} (facts : D → Facts) (shared : Shared) (old taken : Pass)
       taken.seat.me.0.config (sym (ap file_among files_are)) (sym own.openings) whose (sym own.config) agrees
 
   -- The call is made.
-  module _ (last : Pass) (before after : Book D) (well : Bool) (same_last : IsSamePass taken last) (made : MakesCall facts taken.worker taken.seat.me.0 last.seat.me.0 actor before after well) where
+  module _ (waiting : ℕ) (last : Pass) (before after : Book D) (well : Bool) (same_last : IsSamePass taken last) (made : MakesCall facts waiting taken.worker taken.seat.me.0 last.seat.me.0 actor before after well) where
     known : file_among taken.seat.me.0.files ≡ file_kept file_pass
     known = ap file_among files_are
 
@@ -170,14 +170,14 @@ module _ {D : Type 0} (facts : D → Facts) (shared : Shared) (old taken : Pass)
             (subst (λ (worker : ℕ). IsOneEvent worker made.end made.status (file_among taken.seat.me.0.files) old.seat.me.0 last.seat.me.0) same.same_worker event_with_file);
       }
 
-      pub files_once : AgreesThere facts shared before file_pass → AgreesHeld facts after last.seat.me.0 actor.tenant → FilesOnce facts old back actor next before after (file_kept file_pass) (file_kept kept)
+      pub files_once : AgreesThere facts shared before file_pass → AgreesHeld facts after last.seat.me.0 actor.tenant → FilesOnce facts waiting old back actor next before after (file_kept file_pass) (file_kept kept)
       files_once agreed agrees = record {
         called = made.called;
         comes_to = made.comes_to;
         status = made.status;
         end = made.end;
         may = subst (λ (file_token : FileToken). MayEnd made.end made.called made.status file_token) known made.may;
-        there = subst (λ (file_token : FileToken). EndsThere facts made.called (own_entries actor) file_token before after made.end) known made.there;
+        there = subst (λ (file_token : FileToken). EndsThere facts made.called (own_entries actor) waiting file_token before after made.end) known made.there;
         safe = subst (λ (file_token : FileToken). StaysSafe facts made.called file_token before after made.end) known made.safe;
         filed = subst (λ (test : Bool). HasFiled test old.seat.me.0 back.seat.me.0) made.well_is filed_then;
         told = told_so ∙ (λ i. tells actor (Filed (made.well_is i)) (sym same_back.same_attempt i));

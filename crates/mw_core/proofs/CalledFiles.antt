@@ -87,10 +87,10 @@ module _ {D : Type 0} (facts : D → Facts) (old between : Pass) (actor : ActorS
           loaded_starts old.worker actor called has.held bits status old.seat.me.0 between.seat.me.0 loaded read starts (ap (λ (one : Call). starts_from one status) call_is ∙ test)
 
       -- The call doesn't start.
-      pub skipped : starts_from call status ≡ false → AddsLoadEvent bits old.seat.me.0 between.seat.me.0 → MakesCall facts old.worker old.seat.me.0 between.seat.me.0 actor book book true
-      skipped test event =
+      pub skipped : (waiting : ℕ) → starts_from call status ≡ false → AddsLoadEvent bits old.seat.me.0 between.seat.me.0 → MakesCall facts waiting old.worker old.seat.me.0 between.seat.me.0 actor book book true
+      skipped waiting test event =
           let starts_not = ap (λ (one : Call). starts_from one status) call_is ∙ test in
-          made_skips facts old.worker old.seat.me.0 between.seat.me.0 actor called has.held book status comes has.only has.idle agrees starts_not (as_loaded false test)
+          made_skips facts waiting old.worker old.seat.me.0 between.seat.me.0 actor called has.held book status comes has.only has.idle agrees starts_not (as_loaded false test)
           (subst (λ (starts : Bool). WentOn (events_loaded starts old.worker) old.seat.me.0 between.seat.me.0) (ap (starts_by called.call) read ∙ starts_not) (event old.worker actor called has.held calls))
 
       pub skipped_agrees : starts_from call status ≡ false → AgreesHeld facts book between.seat.me.0 actor.tenant
@@ -124,18 +124,18 @@ module _ {D : Type 0} (facts : D → Facts) (old between : Pass) (actor : ActorS
             book_takes facts old.seat.me.0 between.seat.me.0 actor called has.held book status old.worker comes has.only has.its words.slot agrees starts_here starts call slot entries few call_is slot_is given
 
         -- The book has answered.
-        module _ (after : Book D) (entries : List Entry) (given : AreTaken call entries (own_entries actor)) (answer : Filed) (as_before : after.places ≡ book.places)
-            (told : (file : File) → Represents facts book file → Ends facts call slot entries file book after answer) (moments : IsCrashSafe facts call slot book after answer) where
+        module _ (waiting : ℕ) (after : Book D) (entries : List Entry) (given : AreTaken call entries (own_entries actor)) (answer : Filed) (as_before : after.places ≡ book.places)
+            (told : (file : File) → Represents facts book file → Ends facts call slot entries waiting file book after answer) (moments : IsCrashSafe facts call slot book after answer) where
           safe : IsCrashSafe facts called.call called.change.slot book after answer
           safe =
               safe_here facts old.seat.me.0 between.seat.me.0 actor called has.held book status old.worker comes has.only has.its words.slot agrees starts_here starts after call slot answer call_is slot_is moments
 
-          ends : Ends facts called.call called.change.slot (own_entries actor) (file_told has.held.file) book after answer
+          ends : Ends facts called.call called.change.slot (own_entries actor) waiting (file_told has.held.file) book after answer
           ends =
-              ends_here facts old.seat.me.0 between.seat.me.0 actor called has.held book status old.worker comes has.only has.its words.slot agrees starts_here starts after call slot entries answer call_is slot_is given
+              ends_here facts old.seat.me.0 between.seat.me.0 actor called has.held book status old.worker comes has.only has.its words.slot agrees starts_here starts waiting after call slot entries answer call_is slot_is given
               (told (file_told has.held.file) (agrees_first facts old.seat.me.0 actor.tenant has.held book has.only agrees).shows)
 
-          sound_so : (one : Filed) → one ≡ Made → Ends facts called.call called.change.slot (own_entries actor) (file_told has.held.file) book after one
+          sound_so : (one : Filed) → one ≡ Made → Ends facts called.call called.change.slot (own_entries actor) waiting (file_told has.held.file) book after one
               → fails between.seat.me.0 called (found_by has.held old.worker status) ≡ false
           sound_so Made it_is how = how.began
           sound_so Broken it_is how = how.began
@@ -157,20 +157,20 @@ module _ {D : Type 0} (facts : D → Facts) (old between : Pass) (actor : ActorS
             is_tenant = sym its;
             status = status;
             found = found_then;
-            failed = call_failed facts old.seat.me.0 between.seat.me.0 actor called has.held book status old.worker comes has.only has.its words.slot agrees starts_here starts after answer other ends;
+            failed = call_failed facts old.seat.me.0 between.seat.me.0 actor called has.held book status old.worker comes has.only has.its words.slot agrees starts_here starts waiting after answer other ends;
           }
 
           pub ended_well : (last : Pass) → answer ≡ Made → EndsWell between.seat.me.0 last.seat.me.0 → AddsCallEvent between.seat.me.0 last.seat.me.0
-              → MakesCall facts old.worker old.seat.me.0 last.seat.me.0 actor book after true × AgreesHeld facts after last.seat.me.0 actor.tenant
+              → MakesCall facts waiting old.worker old.seat.me.0 last.seat.me.0 actor book after true × AgreesHeld facts after last.seat.me.0 actor.tenant
           ended_well last it_is went event =
-              made_well facts old.seat.me.0 between.seat.me.0 actor called has.held book status old.worker comes has.only has.its words.slot agrees starts_here starts after last.seat.me.0 as_before answer it_is ends safe
+              made_well facts old.seat.me.0 between.seat.me.0 actor called has.held book status old.worker comes has.only has.its words.slot agrees starts_here starts waiting after last.seat.me.0 as_before answer it_is ends safe
               (went between.worker actor called (found_by has.held old.worker status) calls_then)
               (subst (λ (worker : ℕ). WentOn (FileEvent worker Good ∷ []) between.seat.me.0 last.seat.me.0) same.same_worker (event between.worker actor called (found_by has.held old.worker status) calls_then))
 
           pub ended_badly : (last : Pass) → answer ≢ Made → EndsInFault between.seat.me.0 last.seat.me.0 → AddsFaultEvent between.seat.me.0 last.seat.me.0
-              → MakesCall facts old.worker old.seat.me.0 last.seat.me.0 actor book after false × AgreesHeld facts after last.seat.me.0 actor.tenant
+              → MakesCall facts waiting old.worker old.seat.me.0 last.seat.me.0 actor book after false × AgreesHeld facts after last.seat.me.0 actor.tenant
           ended_badly last other went event =
-              made_badly facts old.seat.me.0 between.seat.me.0 actor called has.held book status old.worker comes has.only has.its words.slot agrees starts_here starts after last.seat.me.0 as_before answer other ends safe
+              made_badly facts old.seat.me.0 between.seat.me.0 actor called has.held book status old.worker comes has.only has.its words.slot agrees starts_here starts waiting after last.seat.me.0 as_before answer other ends safe
               (went between.worker actor called (found_by has.held old.worker status) calls_then)
               (subst (λ (worker : ℕ). HasFailed worker called (found_by has.held old.worker status) between.seat.me.0 last.seat.me.0) same.same_worker
               (event between.worker actor called (found_by has.held old.worker status) calls_then))

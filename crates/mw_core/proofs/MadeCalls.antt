@@ -26,7 +26,8 @@ use Rattle.mw_book.specs.declared.answers.Filed.{Filed}
 use Rattle.mw_book.specs.declared.answers.Filed.TheVariants.{Made, Broken, Untouched}
 use Rattle.mw_book.specs.declared.book.Book.{Book}
 use Rattle.mw_book.specs.Crashes.{IsCrashSafe, LeavesEither}
-use Rattle.mw_book.specs.Ends.{Ends, WasBroken}
+use Rattle.mw_book.specs.Ends.{Ends, WasBroken, calls_on}
+use Rattle.mw_disk.specs.Runs.{Good, Bad}
 use Rattle.mw_book.specs.OpenFile.{OnDisk, disk_in}
 use Rattle.mw_book.specs.Permits.{MayCall}
 use Rattle.mw_book.specs.Representation.{Represents}
@@ -81,10 +82,10 @@ pub agrees_first : {D : Type 0} (facts : D → Facts) (view : View) (tenant : �
 agrees_first facts view tenant held book only agrees = subst (λ (file_token : FileToken). Agrees facts book file_token (opening_at view.openings tenant).quota view.config.pool) (ap file_among only) agrees
 
 -- A call that doesn't start.
-pub made_skips : {D : Type 0} (facts : D → Facts) (worker : ℕ) (old new : View) (actor : ActorState) (called : CallOn) (held : HeldFile) (book : Book D) (status : Status) → called_at actor.point ≡ Some called
+pub made_skips : {D : Type 0} (facts : D → Facts) (waiting worker : ℕ) (old new : View) (actor : ActorState) (called : CallOn) (held : HeldFile) (book : Book D) (status : Status) → called_at actor.point ≡ Some called
     → old.files ≡ held ∷ [] → held.found ≡ None → AgreesHeld facts book old actor.tenant → starts_from called.call status ≡ false → LearnsFileCall true held held.file old new
-    → WentOn (FileEvent worker Good ∷ []) old new → MakesCall facts worker old new actor book book true
-made_skips facts worker old new actor called held book status comes only idle agrees test went event = record {
+    → WentOn (FileEvent worker Good ∷ []) old new → MakesCall facts waiting worker old new actor book book true
+made_skips facts waiting worker old new actor called held book status comes only idle agrees test went event = record {
   called = called;
   comes_to = comes;
   status = status;
@@ -124,20 +125,38 @@ may_with book SealCall slot own entries given may = may
 may_with book SettleCall slot own entries given may = may
 may_with book CancelCall slot own entries given may = may
 
-ends_as : {D : Type 0} (facts : D → Facts) (call : Call) (slot : ℕ) (entries own : List Entry) (file : File) (before after : Book D) (answer : Filed)
+ends_as : {D : Type 0} (facts : D → Facts) (call : Call) (slot : ℕ) (entries own : List Entry) (waiting : ℕ) (file : File) (before after : Book D) (answer : Filed)
     → filed call file slot (place_for call file before.places slot) entries ≡ filed call file slot (place_for call file before.places slot) own
-    → Ends facts call slot entries file before after answer → Ends facts call slot own file before after answer
-ends_as facts call slot entries own file before after Made same ends = record { began = ends.began; made = ends.made; shows = subst (λ (one : File). Represents facts after one) same ends.shows }
-ends_as facts call slot entries own file before after Broken same ends = record { began = ends.began; number = ends.number; within = ends.within; failed = ends.failed; made = ends.made; shows = ends.shows }
-ends_as facts call slot entries own file before after Untouched same ends = record { refused = ends.refused; same = ends.same }
+    → ((taken : List Entry) → calls_on before call slot entries taken ≡ calls_on before call slot own taken)
+    → Ends facts call slot entries waiting file before after answer → Ends facts call slot own waiting file before after answer
+ends_as facts call slot entries own waiting file before after Made same calls ends = record {
+  began = ends.began;
+  written = ends.written;
+  few = ends.few;
+  made = subst (λ (n : ℕ). OnDisk facts (Good (ends.written + n)) (disk_in before.held) (disk_in after.held)) (calls (entries_at file (place_for call file before.places slot))) ends.made;
+  shows = subst (λ (one : File). Represents facts after one) same ends.shows;
+}
+ends_as facts call slot entries own waiting file before after Broken same calls ends =
+    let many = calls (entries_at file (place_for call file before.places slot)) in
+    record {
+      began = ends.began;
+      number = ends.number;
+      within = ends.within;
+      written = ends.written;
+      few = ends.few;
+      failed = subst (λ (n : ℕ). OnDisk facts (Bad (ends.written + n)) (disk_in before.held) (disk_in after.held)) many ends.failed;
+      made = λ listed. ends.made (ap (λ (n : ℕ). ends.written + n) many ∙ listed);
+      shows = ends.shows;
+    }
+ends_as facts call slot entries own waiting file before after Untouched same calls ends = record { refused = ends.refused; same = ends.same }
 
-ends_with : {D : Type 0} (facts : D → Facts) (call : Call) (slot : ℕ) (entries own : List Entry) (file : File) (before after : Book D) (answer : Filed) → AreTaken call entries own
-    → Ends facts call slot entries file before after answer → Ends facts call slot own file before after answer
-ends_with facts PrepareCall slot entries own file before after answer given ends =
-    subst (λ (one : List Entry). Ends facts PrepareCall slot one file before after answer) given ends
-ends_with facts SealCall slot entries own file before after answer given ends = ends_as facts SealCall slot entries own file before after answer refl ends
-ends_with facts SettleCall slot entries own file before after answer given ends = ends_as facts SettleCall slot entries own file before after answer refl ends
-ends_with facts CancelCall slot entries own file before after answer given ends = ends_as facts CancelCall slot entries own file before after answer refl ends
+ends_with : {D : Type 0} (facts : D → Facts) (call : Call) (slot : ℕ) (entries own : List Entry) (waiting : ℕ) (file : File) (before after : Book D) (answer : Filed) → AreTaken call entries own
+    → Ends facts call slot entries waiting file before after answer → Ends facts call slot own waiting file before after answer
+ends_with facts PrepareCall slot entries own waiting file before after answer given ends =
+    subst (λ (one : List Entry). Ends facts PrepareCall slot one waiting file before after answer) given ends
+ends_with facts SealCall slot entries own waiting file before after answer given ends = ends_as facts SealCall slot entries own waiting file before after answer refl (λ taken. refl) ends
+ends_with facts SettleCall slot entries own waiting file before after answer given ends = ends_as facts SettleCall slot entries own waiting file before after answer refl (λ taken. refl) ends
+ends_with facts CancelCall slot entries own waiting file before after answer given ends = ends_as facts CancelCall slot entries own waiting file before after answer refl (λ taken. refl) ends
 
 -- A call that starts, by a thread that has this file and no other.
 module _ {D : Type 0} (facts : D → Facts) (old between : View) (actor : ActorState) (called : CallOn) (held : HeldFile) (before : Book D) (status : Status) (worker : ℕ) (comes : called_at actor.point ≡ Some called)
@@ -164,12 +183,12 @@ module _ {D : Type 0} (facts : D → Facts) (old between : View) (actor : ActorS
       (books_take_calls facts before old between worker old.config.pool actor called held status agrees_here (let within = within_pool in omega (arith, within, few)) starts)))
 
   -- how it ended on the book, said of the token's own file
-  pub ends_here : (after : Book D) (call : Call) (slot : ℕ) (entries : List Entry) (answer : Filed) → called.call ≡ call → called.change.slot ≡ slot → AreTaken call entries (own_entries actor)
-      → Ends facts call slot entries (file_told held.file) before after answer → Ends facts called.call called.change.slot (own_entries actor) (file_told held.file) before after answer
-  ends_here after call slot entries answer same there given ends =
-      subst (λ (one : Call). Ends facts one called.change.slot (own_entries actor) (file_told held.file) before after answer) (sym same)
-      (subst (λ (one : ℕ). Ends facts call one (own_entries actor) (file_told held.file) before after answer) (sym there)
-      (ends_with facts call slot entries (own_entries actor) (file_told held.file) before after answer given ends))
+  pub ends_here : (waiting : ℕ) (after : Book D) (call : Call) (slot : ℕ) (entries : List Entry) (answer : Filed) → called.call ≡ call → called.change.slot ≡ slot → AreTaken call entries (own_entries actor)
+      → Ends facts call slot entries waiting (file_told held.file) before after answer → Ends facts called.call called.change.slot (own_entries actor) waiting (file_told held.file) before after answer
+  ends_here waiting after call slot entries answer same there given ends =
+      subst (λ (one : Call). Ends facts one called.change.slot (own_entries actor) waiting (file_told held.file) before after answer) (sym same)
+      (subst (λ (one : ℕ). Ends facts call one (own_entries actor) waiting (file_told held.file) before after answer) (sym there)
+      (ends_with facts call slot entries (own_entries actor) waiting (file_told held.file) before after answer given ends))
 
   -- and what a crash leaves meanwhile
   pub safe_here : (after : Book D) (call : Call) (slot : ℕ) (answer : Filed) → called.call ≡ call → called.change.slot ≡ slot → IsCrashSafe facts call slot before after answer
@@ -200,23 +219,23 @@ module _ {D : Type 0} (facts : D → Facts) (old between : View) (actor : ActorS
   calls_at n = device_calls called.call (entries_at (file_told held.file) (place_for called.call (file_told held.file) n called.change.slot))
 
   -- The device call that failed is one that the call makes.
-  one_made : (after : Book D) (broken : WasBroken facts called.call called.change.slot (own_entries actor) (file_told held.file) before after)
+  one_made : (waiting : ℕ) (after : Book D) (broken : WasBroken facts called.call called.change.slot (own_entries actor) waiting (file_told held.file) before after)
       → is_made (device_calls called.call (entries_at (file_told held.file) (place_held between called found))) broken.number ≡ true
-  one_made after broken = ap (λ (n : ℕ). is_made (calls_at n) broken.number) (same_quota ∙ sym agrees_here.as_many) ∙ broken.within
+  one_made waiting after broken = ap (λ (n : ℕ). is_made (calls_at n) broken.number) (same_quota ∙ sym agrees_here.as_many) ∙ broken.within
 
   -- If it failed and the file hadn't failed before, one of its device calls failed.
-  pub call_failed : (after : Book D) (answer : Filed) → answer ≢ Made → Ends facts called.call called.change.slot (own_entries actor) (file_told held.file) before after answer
+  pub call_failed : (waiting : ℕ) (after : Book D) (answer : Filed) → answer ≢ Made → Ends facts called.call called.change.slot (own_entries actor) waiting (file_told held.file) before after answer
       → fails between called found ≡ false → (number : ℕ) × (is_made (device_calls called.call (entries_at (file_told held.file) (place_held between called found))) number ≡ true)
-  call_failed after Made other ends sound = absurd (other refl)
-  call_failed after Broken other ends sound = (ends.number, one_made after ends)
-  call_failed after Untouched other ends sound = absurd (let e : true ≡ false = sym ends.refused ∙ sound in cc)
+  call_failed waiting after Made other ends sound = absurd (other refl)
+  call_failed waiting after Broken other ends sound = (ends.number, one_made waiting after ends)
+  call_failed waiting after Untouched other ends sound = absurd (let e : true ≡ false = sym ends.refused ∙ sound in cc)
 
   -- After the device calls, and the step on a shared word that ends the call.
-  module _ (after : Book D) (last : View) (as_before : after.places ≡ before.places) where
-    agrees_after : (answer : Filed) → Ends facts called.call called.change.slot (own_entries actor) (file_told held.file) before after answer
+  module _ (waiting : ℕ) (after : Book D) (last : View) (as_before : after.places ≡ before.places) where
+    agrees_after : (answer : Filed) → Ends facts called.call called.change.slot (own_entries actor) waiting (file_told held.file) before after answer
         → Agrees facts after (file_token_answered called.call held.file quota called.change.slot (own_entries actor) answer) quota old.config.pool
     agrees_after answer ends =
-        books_follow_file_tokens facts before after held.file quota old.config.pool called.call called.change.slot (own_entries actor) answer agrees_here within_pool starts.within ends as_before
+        books_follow_file_tokens facts before after held.file quota old.config.pool called.call called.change.slot (own_entries actor) waiting answer agrees_here within_pool starts.within ends as_before
 
     agrees_told : (well : Bool) (file_token : FileToken) → LearnsFileCall well found file_token old last → Agrees facts after file_token (opening_at old.openings held.file.tenant).quota old.config.pool
         → AgreesHeld facts after last actor.tenant
@@ -237,9 +256,9 @@ module _ {D : Type 0} (facts : D → Facts) (old between : View) (actor : ActorS
       went_on = event;
     }
 
-    made_as : (well : Bool) (end : End) → ExtendsKnownRun between.known_run last.known_run → MayEnd end called status held.file → EndsThere facts called (own_entries actor) held.file before after end
+    made_as : (well : Bool) (end : End) → ExtendsKnownRun between.known_run last.known_run → MayEnd end called status held.file → EndsThere facts called (own_entries actor) waiting held.file before after end
         → StaysSafe facts called held.file before after end → well ≡ went_well end → LearnsFileCall well found (file_token_by end held.file actor called) old last
-        → IsOneEvent worker end status held.file old last → MakesCall facts worker old last actor before after well
+        → IsOneEvent worker end status held.file old last → MakesCall facts waiting worker old last actor before after well
     made_as well end on may there safe well_is went event =
         let back : held.file ≡ file_among old.files = sym (ap file_among only) in
         record {
@@ -248,7 +267,7 @@ module _ {D : Type 0} (facts : D → Facts) (old between : View) (actor : ActorS
           status = status;
           end = end;
           may = subst (λ (file_token : FileToken). MayEnd end called status file_token) back may;
-          there = subst (λ (file_token : FileToken). EndsThere facts called (own_entries actor) file_token before after end) back there;
+          there = subst (λ (file_token : FileToken). EndsThere facts called (own_entries actor) waiting file_token before after end) back there;
           safe = subst (λ (file_token : FileToken). StaysSafe facts called file_token before after end) back safe;
           well_is = well_is;
           held = found;
@@ -263,9 +282,9 @@ module _ {D : Type 0} (facts : D → Facts) (old between : View) (actor : ActorS
     stakes_at = subst (λ (n : ℕ). OnDisk facts (LeavesEither held.file.contents (stake_at n)) (disk_in before.held) (disk_in after.held)) (agrees_here.as_many ∙ sym agrees_here.long)
 
     -- The exchange of the status ended it.
-    pub made_well : (answer : Filed) → answer ≡ Made → Ends facts called.call called.change.slot (own_entries actor) (file_told held.file) before after answer
+    pub made_well : (answer : Filed) → answer ≡ Made → Ends facts called.call called.change.slot (own_entries actor) waiting (file_told held.file) before after answer
         → IsCrashSafe facts called.call called.change.slot before after answer → LearnsFileCall true found (filed_so between actor called found) between last
-        → WentOn (FileEvent worker Good ∷ []) between last → MakesCall facts worker old last actor before after true × AgreesHeld facts after last actor.tenant
+        → WentOn (FileEvent worker Good ∷ []) between last → MakesCall facts waiting worker old last actor before after true × AgreesHeld facts after last actor.tenant
     made_well Made is ends moments went event =
         let since = went_since old between last worker actor called held found status true (filed_so between actor called found) starts went in (
           made_as true GoesWell went.files.goes_on.known_run (test, ends.began) ends (stakes_at (moments (file_told held.file) agrees_here.shows)) refl (subst (λ (file_token : FileToken). LearnsFileCall true found file_token old last) (ap file_token_at as_long) since)
@@ -277,9 +296,9 @@ module _ {D : Type 0} (facts : D → Facts) (old between : View) (actor : ActorS
     made_well Untouched is ends moments went event = absurd (let e : Untouched ≡ Made = is in cc)
 
     -- The fault at the door ended it.
-    pub made_badly : (answer : Filed) → answer ≢ Made → Ends facts called.call called.change.slot (own_entries actor) (file_told held.file) before after answer
+    pub made_badly : (answer : Filed) → answer ≢ Made → Ends facts called.call called.change.slot (own_entries actor) waiting (file_told held.file) before after answer
         → IsCrashSafe facts called.call called.change.slot before after answer → LearnsFileCall false found (faulted_so between called found) between last
-        → HasFailed worker called found between last → MakesCall facts worker old last actor before after false × AgreesHeld facts after last actor.tenant
+        → HasFailed worker called found between last → MakesCall facts waiting worker old last actor before after false × AgreesHeld facts after last actor.tenant
     made_badly Made other ends moments went event = absurd (other refl)
     made_badly Broken other ends moments went event =
         let faulted = cond-false (fails between called found) held.file (broken_so between called found) ends.began in
@@ -287,7 +306,7 @@ module _ {D : Type 0} (facts : D → Facts) (old between : View) (actor : ActorS
         let many : before.places ≡ length held.file.places = agrees_here.as_many ∙ sym agrees_here.long in (
           made_as false (MeetsFault ends.number) went.files.goes_on.known_run (test, ends.began, ap (λ (n : ℕ). is_made (calls_at n) ends.number) (sym many) ∙ ends.within) (ends, refl) (stakes_at (moments (file_told held.file) agrees_here.shows)) refl
               (subst (λ (n : ℕ). LearnsFileCall false found (file_token_broken held.file (doubt_at n)) old last) as_long since)
-              (one_event (MeetsFault ends.number) refl (event.now ends.began ends.number (one_made after ends))),
+              (one_event (MeetsFault ends.number) refl (event.now ends.began ends.number (one_made waiting after ends))),
           agrees_told false (broken_so between called found) since
               (subst (λ (n : ℕ). Agrees facts after (file_token_broken held.file (doubt_at n)) quota old.config.pool) (sym same_quota) (agrees_after Broken ends)),
         )

@@ -65,9 +65,9 @@ module _ {D : Type 0} (facts : D → Facts) where
 
   -- A book that agreed with the file token before a call agrees after it with the token after the call, by the answer.
   abbrev pub BooksFollowFileTokens : Type 0
-  BooksFollowFileTokens = (old new : Book D) (file_token : FileToken) (places slots : ℕ) (call : Call) (slot : ℕ) (entries : List Entry) (result : Filed)
+  BooksFollowFileTokens = (old new : Book D) (file_token : FileToken) (places slots : ℕ) (call : Call) (slot : ℕ) (entries : List Entry) (waiting : ℕ) (result : Filed)
       → Agrees facts old file_token places slots → slot < slots → (fails_on call (file_told file_token) ≡ false → place_called call file_token places slot entries < places)
-      → Ends facts call slot entries (file_told file_token) old new result → new.places ≡ old.places
+      → Ends facts call slot entries waiting (file_told file_token) old new result → new.places ≡ old.places
       → Agrees facts new (file_token_answered call file_token places slot entries result) places slots
 
   -- The book of a file of these words that just opened agrees with the file token for it.

@@ -5,6 +5,8 @@ use Rattle.mw_words.specs.declared.jobs.Entry.{Entry}
 use Rattle.mw_words.specs.declared.statuses.Status.{Status}
 use Rattle.mw_look.specs.declared.steps.Call.{Call}
 use Rattle.mw_look.specs.declared.steps.Call.TheVariants.{Prepare as PrepareCall}
+use Rattle.mw_look.specs.declared.steps.Op.{Op}
+use Rattle.mw_look.specs.declared.steps.Op.TheVariants.{File as FileOp}
 use Rattle.mw_look.specs.declared.observations.Observation.TheVariants.{Filed}
 use Rattle.mw_actor.specs.ActorState.{ActorState, own_entries}
 use Rattle.mw_actor.specs.Program.{tells}
@@ -15,6 +17,7 @@ use Rattle.mw_world_file.specs.Crashes.{at_stake}
 use Rattle.mw_world.specs.Definition.Calls.{Called as CallOn, called_at}
 use Rattle.mw_world.specs.Definition.Events.{WorldEvent, File as FileEvent}
 use Rattle.mw_book.specs.declared.book.Book.{Book}
+use Rattle.mw_book.specs.declared.waiting.Waiting.{Waiting}
 use Rattle.mw_book.specs.Crashes.{LeavesEither}
 use Rattle.mw_book.specs.OpenFile.{OnDisk, disk_in}
 use Rattle.mw_book.specs.Ends.{WasBroken, WasMade, WasRefused}
@@ -28,14 +31,24 @@ abbrev pub AreTaken : Call → List Entry → List Entry → Type 0
 AreTaken PrepareCall entries own = entries ≡ own
 AreTaken call entries own = entries ≡ []
 
--- What a call did to the book, by how it ended: nothing if it didn't start; it was made; a device call failed in it, to
--- which the world gives this number, counted from 1; or nothing, because the file had failed before.
-module _ {D : Type 0} (facts : D → Facts) (called : CallOn) (entries : List Entry) (file_token : FileToken) (old new : Book D) where
+-- the slot of a change that waits, and its entries
+abbrev pub slot_and_entries : Waiting → ℕ × List Entry
+slot_and_entries waiting = (waiting.slot, waiting.entries.items)
+
+-- A request with these entries whose next operation is this one: the slot and the entries of the change that it will prepare, if the
+-- operation is a prepare.
+abbrev pub prepares : Op → List Entry → Option (ℕ × List Entry)
+prepares (FileOp PrepareCall slot) entries = Some (slot, entries)
+prepares op entries = None
+
+-- What a call did to the book while so many changes waited, by how it ended: nothing if it didn't start; it was made; a device
+-- call failed in it, to which the world gives this number, counted from 1; or nothing, because the file had failed before.
+module _ {D : Type 0} (facts : D → Facts) (called : CallOn) (entries : List Entry) (waiting : ℕ) (file_token : FileToken) (old new : Book D) where
   abbrev pub EndsThere : End → Type 0
   EndsThere Skips = new ≡ old
-  EndsThere GoesWell = WasMade facts called.call called.change.slot entries (file_told file_token) old new
-  EndsThere (MeetsFault number) = (broken : WasBroken facts called.call called.change.slot entries (file_told file_token) old new) × (broken.number ≡ number)
-  EndsThere FindsFault = WasRefused facts called.call called.change.slot entries (file_told file_token) old new
+  EndsThere GoesWell = WasMade facts called.call called.change.slot entries waiting (file_told file_token) old new
+  EndsThere (MeetsFault number) = (broken : WasBroken facts called.call called.change.slot entries waiting (file_told file_token) old new) × (broken.number ≡ number)
+  EndsThere FindsFault = WasRefused facts called.call called.change.slot entries waiting (file_told file_token) old new
 
 -- The change at stake during the call. If it was made or a device call failed in it: the change that a seal seals, as
 -- far as it got, or else the one in doubt before. If not: the one in doubt before.
@@ -89,15 +102,15 @@ pub record HasFiled (well : Bool) (old new : View) : Type 0 where
   pub ready : Each (IsReady new.config) new.tokens
   pub same_files : new.files ≡ old.files
 
--- The worker's request is at a call. That call was made, with the file that its thread has, and ended so; it went well
+-- The worker's request is at a call. That call was made, while so many changes waited, with the file that its thread has, and ended so; it went well
 -- or not. The thread knows what is true of the file after it. The run that it knows extends the one that it was told.
-pub record MakesCall {D : Type 0} (facts : D → Facts) (worker : ℕ) (old new : View) (actor : ActorState) (before after : Book D) (well : Bool) : Type 0 where
+pub record MakesCall {D : Type 0} (facts : D → Facts) (waiting worker : ℕ) (old new : View) (actor : ActorState) (before after : Book D) (well : Bool) : Type 0 where
   pub called : CallOn
   pub comes_to : called_at actor.point ≡ Some called
   pub status : Status
   pub end : End
   pub may : MayEnd end called status (file_among old.files)
-  pub there : EndsThere facts called (own_entries actor) (file_among old.files) before after end
+  pub there : EndsThere facts called (own_entries actor) waiting (file_among old.files) before after end
   pub safe : StaysSafe facts called (file_among old.files) before after end
   pub well_is : well ≡ went_well end
   pub held : HeldFile
@@ -105,15 +118,15 @@ pub record MakesCall {D : Type 0} (facts : D → Facts) (worker : ℕ) (old new 
   pub event : IsOneEvent worker end status (file_among old.files) old new
   pub follows : ExtendsKnownRun old.learned_run new.known_run
 
--- The request's call on its tenant's file was made once. It ended so, and extends a run by that event. The request was
+-- The request's call on its tenant's file was made once, while so many changes waited. It ended so, and extends a run by that event. The request was
 -- told of that end, and the file token is the one after it. Book and token agreed before it, and agree after it.
-pub record FilesOnce {D : Type 0} (facts : D → Facts) (old new : Pass) (actor next : ActorState) (before after : Book D) (file_token kept : FileToken) : Type 0 where
+pub record FilesOnce {D : Type 0} (facts : D → Facts) (waiting : ℕ) (old new : Pass) (actor next : ActorState) (before after : Book D) (file_token kept : FileToken) : Type 0 where
   pub called : CallOn
   pub comes_to : called_at actor.point ≡ Some called
   pub status : Status
   pub end : End
   pub may : MayEnd end called status file_token
-  pub there : EndsThere facts called (own_entries actor) file_token before after end
+  pub there : EndsThere facts called (own_entries actor) waiting file_token before after end
   pub safe : StaysSafe facts called file_token before after end
   pub filed : HasFiled (went_well end) old.seat.me.0 new.seat.me.0
   pub told : next ≡ tells actor (Filed (went_well end)) new.attempt

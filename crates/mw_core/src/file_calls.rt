@@ -2,8 +2,10 @@
 //!
 //! mw_engine calls `Core::file` under the lock of the tenant's file. Its contracts use `specs/FileCalls` and
 //! `specs/Books`: change them together.
-ghost use Rattle.std.specs.Prelude.{◌≡◌, ◌≢◌, None};
+ghost use Rattle.std.specs.Prelude.{◌≡◌, ◌≢◌, None, length};
+ghost use Rattle.std.specs.Option.{option_map};
 ghost use Rattle.mw_actor.specs.ActorState as acting;
+ghost use Rattle.mw_actor.specs.Asks.{asks};
 ghost use Rattle.mw_world.specs.Definition.Calls.{called_at};
 ghost use Rattle.mw_table.specs.CarriedRequest.{IsCarried};
 ghost use Rattle.mw_table.specs.FromRule.{ExtendsKnownRun};
@@ -12,11 +14,11 @@ ghost use Rattle.mw_table.specs.HeldFiles.{HasFile};
 ghost use Rattle.mw_table.specs.Meet.{IsSamePass};
 ghost use Rattle.mw_table.specs.Passes.{IsOf};
 ghost use Rattle.mw_core.specs.Books.{AgreesHeld, AgreesThere};
-ghost use Rattle.mw_core.specs.FileCalls.{AreTaken, FilesOnce, MakesCall};
+ghost use Rattle.mw_core.specs.FileCalls.{AreTaken, FilesOnce, MakesCall, prepares, slot_and_entries};
 
 use crate::calls::Core;
 use mw_actor::Actor;
-use mw_book::{Book, Filed};
+use mw_book::{Book, Filed, Waiting};
 use mw_disk::Disk;
 use mw_look::{Call, Got, Op, Told};
 use mw_table::{FilePass, Pass};
@@ -32,6 +34,9 @@ impl Core {
     /// - A call that starts is made on the book. If all its device calls go well, the status goes on. If one of them
     ///   fails, or the file had failed before, the tenant's door has the fault from then on.
     ///
+    /// Records of the changes that are `waiting` for the file may be written along with what the call writes. Then their
+    /// own prepares make no device call. No event of the world says so.
+    ///
     /// The call extends a run of a world by one event, which says how the call ended; that run extends the one that
     /// the pass knew. Then the pass and the file pass know a run that extends what either knew before. So all calls
     /// on one file are of one run, whichever threads make them.
@@ -41,6 +46,7 @@ impl Core {
         actor: &mut Actor,
         book: &mut Book<D>,
         file_pass: FilePass,
+        waiting: &[Waiting],
     ) -> FilePass
         requires own { IsOf self.now.shared pass.old }
         requires carried { IsCarried pass.old actor.old }
@@ -53,7 +59,7 @@ impl Core {
         ensures same { IsSamePass pass.old pass.new }
         ensures free { IsFree pass.new }
         ensures carried { IsCarried pass.new actor.new }
-        ensures files { FilesOnce D.facts pass.old pass.new actor.old actor.new book.old book.new (file_kept file_pass) (file_kept result) }
+        ensures files { FilesOnce D.facts (length waiting.now) pass.old pass.new actor.old actor.new book.old book.new (file_kept file_pass) (file_kept result) }
         ensures file_pass { IsFilePassOf self.now.shared result }
         ensures whose { result.tenant ≡ file_pass.tenant }
         ensures follows { ExtendsKnownRun file_pass.seat.me.0.known_run result.seat.me.0.known_run }
@@ -62,7 +68,7 @@ impl Core {
     {
         let tenant = file_pass.tenant();
         self.shared().take(pass, file_pass);
-        let went_well = self.make_call(pass, actor, book);
+        let went_well = self.make_call(pass, actor, book, waiting);
         actor.tell(Told {
             got: Got::File(went_well),
             next: pass.attempt(),
@@ -71,7 +77,13 @@ impl Core {
     }
 
     /// Makes the call itself, with a pass that has the file. Returns whether it went well.
-    fn make_call<D: Disk>(&self, pass: &mut Pass, actor: &Actor, book: &mut Book<D>) -> bool
+    fn make_call<D: Disk>(
+        &self,
+        pass: &mut Pass,
+        actor: &Actor,
+        book: &mut Book<D>,
+        waiting: &[Waiting],
+    ) -> bool
         requires own { IsOf self.now.shared pass.old }
         requires carried { IsCarried pass.old actor.now }
         requires call { called_at actor.now.point ≢ None }
@@ -79,7 +91,7 @@ impl Core {
         requires agrees { AgreesHeld D.facts book.old pass.old.seat.me.0 actor.now.tenant }
         ensures own { IsOf self.now.shared pass.new }
         ensures same { IsSamePass pass.old pass.new }
-        ensures made { MakesCall D.facts pass.old.worker pass.old.seat.me.0 pass.new.seat.me.0 actor.now book.old book.new result }
+        ensures made { MakesCall D.facts (length waiting.now) pass.old.worker pass.old.seat.me.0 pass.new.seat.me.0 actor.now book.old book.new result }
         ensures agrees { AgreesHeld D.facts book.new pass.new.seat.me.0 actor.now.tenant }
     {
         let Op::File { call, slot } = actor.ask() else {
@@ -92,7 +104,7 @@ impl Core {
         if !starts_from(call, status) {
             return true;
         }
-        match book.call(call, slot, &entries_for(call, actor)) {
+        match book.call(call, slot, &entries_for(call, actor), waiting) {
             Filed::Made => {
                 self.shared().end_call(pass, call, slot, status);
                 true
@@ -102,6 +114,22 @@ impl Core {
                 false
             }
         }
+    }
+}
+
+/// Returns the change of a request whose next step is to prepare it. None if the next step is any other.
+pub fn waiting_change(actor: &Actor) -> Option<Waiting>
+    ensures { option_map slot_and_entries result ≡ prepares (op_of (asks actor.now)) (acting.own_entries actor.now) }
+{
+    match actor.ask() {
+        Op::File {
+            call: Call::Prepare,
+            slot,
+        } => Some(Waiting {
+            slot,
+            entries: own_entries(actor),
+        }),
+        _ => None,
     }
 }
 

@@ -24,6 +24,8 @@ mod laws;
 mod read_rounds;
 
 pub use calls::{Advance, Core};
+pub use file_calls::waiting_change;
 pub use laws::{books_follow_file_tokens, new_books_agree};
+pub use mw_book::Waiting;
 pub use mw_table::{FileOpening, FilePass, Note, Pass, Shared};
 pub use read_rounds::WhyAgain;

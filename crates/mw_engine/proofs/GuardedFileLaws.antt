@@ -81,17 +81,17 @@ still_on facts becomes None (Some new) on = absurd on
 still_on facts becomes (Some old) None on = absurd on
 
 -- a call leaves a book its file, if it has one
-pub still_held : {D : Type 0} (facts : D → Facts) (old new : Pass) (actor next : ActorState) (before after : Book D) (file_passes kept : FileToken) → FilesOnce facts old new actor next before after file_passes kept
+pub still_held : {D : Type 0} (facts : D → Facts) (waiting : ℕ) (old new : Pass) (actor next : ActorState) (before after : Book D) (file_passes kept : FileToken) → FilesOnce facts waiting old new actor next before after file_passes kept
     → is_some after.held ≡ is_some before.held
-still_held facts old new actor next before after file_passes kept once = still_on facts (LeavesEither file_passes.contents (stake_by once.end once.called file_passes)) before.held after.held once.safe
+still_held facts waiting old new actor next before after file_passes kept once = still_on facts (LeavesEither file_passes.contents (stake_by once.end once.called file_passes)) before.held after.held once.safe
 
 -- The book and the file pass that come back from a call are kept as those of before the call were.
-pub kept_over : {D : Type 0} (facts : D → Facts) (shared : Shared) (identity : Identity) (same : identity_on shared identity.lines ≡ identity) (old new : Pass) (actor next : ActorState) (before after : Book D) (file_pass returned : FilePass)
-    → IsKept facts identity before file_pass → FilesOnce facts old new actor next before after (file_kept file_pass) (file_kept returned) → IsFilePassOf shared returned → returned.tenant ≡ file_pass.tenant
+pub kept_over : {D : Type 0} (facts : D → Facts) (shared : Shared) (identity : Identity) (same : identity_on shared identity.lines ≡ identity) (waiting : ℕ) (old new : Pass) (actor next : ActorState) (before after : Book D) (file_pass returned : FilePass)
+    → IsKept facts identity before file_pass → FilesOnce facts waiting old new actor next before after (file_kept file_pass) (file_kept returned) → IsFilePassOf shared returned → returned.tenant ≡ file_pass.tenant
     → AgreesThere facts shared after returned → IsKept facts identity after returned
-kept_over facts shared identity same old new actor next before after file_pass returned kept once own whose agrees =
+kept_over facts shared identity same waiting old new actor next before after file_pass returned kept once own whose agrees =
     kept_of facts shared identity same after returned own
-    (still_held facts old new actor next before after (file_kept file_pass) (file_kept returned) once ∙ (kept.opened ∙ ap (λ (tenant : ℕ). (opening_at identity.openings tenant).is_up) (sym whose))) agrees
+    (still_held facts waiting old new actor next before after (file_kept file_pass) (file_kept returned) once ∙ (kept.opened ∙ ap (λ (tenant : ℕ). (opening_at identity.openings tenant).is_up) (sym whose))) agrees
 
 none_there : (file_pass : Option FilePass) → is_some file_pass ≡ true → file_pass ≡ None → ⊥
 none_there None there is = cc

@@ -1,6 +1,6 @@
 -- Defines what a call on a tenant's file does, as an engine makes it.
 -- Used by: the contracts of src/file_calls.rt and src/serving.rt. A change here changes what these contracts say.
-use Rattle.std.specs.Prelude.{◌≡◌}
+use Rattle.std.specs.Prelude.{◌≡◌, ℕ}
 use Rattle.mw_actor.specs.ActorState.{ActorState}
 use Rattle.mw_disk.specs.Facts.{Facts}
 use Rattle.mw_book.specs.declared.book.Book.{Book}
@@ -24,4 +24,6 @@ pub record FilesOne {D : Type 0} (facts : D → Facts) (identity : Identity) (ol
   pub its_still : returned.tenant ≡ actor.tenant
   pub follows : ExtendsKnownRun file_pass.seat.me.0.known_run returned.seat.me.0.known_run
   pub known : returned.seat.me.0.known_run ≡ new.seat.me.0.known_run
-  pub once : FilesOnce facts old new actor next before after (file_kept file_pass) (file_kept returned)
+  -- how many changes waited, whose records the call may have written too
+  pub waiting : ℕ
+  pub once : FilesOnce facts waiting old new actor next before after (file_kept file_pass) (file_kept returned)

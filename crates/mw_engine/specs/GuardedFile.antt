@@ -44,7 +44,7 @@ module _ {D : Type 0} (facts : D → Facts) where
   -- change of each of so many slots.
   pub record AgreesOnce (book : Book D) (file_passes : FileToken) (places slots : ℕ) : Type 0 where
     pub same_words : length (file_told file_passes).contents ≡ book.words
-    pub same_places : ArePlaced (states_in book.held) book.settled book.places (file_told file_passes).places
+    pub same_places : ArePlaced (states_in book.held) book.table book.places (file_told file_passes).places
     pub same_place_of : (slot : ℕ) → slot < MAX_POOL → (file_told file_passes).place_of slot ≡ slice_index book.place_of slot
     pub same_failed : (file_told file_passes).has_failed ≡ book.has_failed
     pub stands : (file : TenantFile D) → book.held ≡ Some file → IsTrue (facts (disk_of file)).honest → RecoversToOnce file (file_told file_passes).contents (pairs_of (file_told file_passes).doubt)

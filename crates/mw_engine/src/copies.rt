@@ -35,7 +35,7 @@ impl<J: EngineBrand, D: Disk + Drop, H: Drop> Engine<J, D, H> {
             if index >= self.books.len() {
                 index = 0;
             }
-            let mut guard = self.books[index].lock(rt);
+            let mut guard = self.books[index].lock_between_calls(rt);
             if let Some(copied) = guard.value.copy_of(tenant, alloc) {
                 return copied;
             }

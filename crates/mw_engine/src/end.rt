@@ -105,6 +105,7 @@ impl<J: EngineBrand, D: Disk> GuardedFile<J, D> {
             book,
             file_pass,
             tenant: _,
+            called: _,
             brand: _,
         } = self;
         let Some(file_pass) = file_pass else {
@@ -127,6 +128,7 @@ impl<J: EngineBrand, D: Disk> GuardedFile<J, D> {
             book,
             file_pass,
             tenant: _,
+            called: _,
             brand: _,
         } = self;
         let Some(file_pass) = file_pass else {

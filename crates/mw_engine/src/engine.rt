@@ -7,10 +7,9 @@ ghost use Rattle.mw_engine.specs.Brand.{identity_on};
 ghost use Rattle.mw_engine.specs.TenantWords.{lines_told};
 
 use crate::brand::EngineBrand;
-use crate::guarded_file::GuardedFile;
+use crate::file_lock::FileLock;
 use crate::tenant_words::TenantWords;
 use mw_disk::Disk;
-use mw_turns::FairLock;
 
 /// The tenants' words, which many workers change at once. The workers share atomic words, and the tenants' files,
 /// each under a lock of its own.
@@ -18,7 +17,7 @@ use mw_turns::FairLock;
 pub struct Engine<J: EngineBrand, D: Disk, H> {
     pub(crate) words: TenantWords,
     pub(crate) hold: H,
-    pub(crate) books: Vec<FairLock<GuardedFile<J, D>>>,
+    pub(crate) books: Vec<FileLock<J, D>>,
     ghost same: { identity_on words.core.shared (lines_told words) ≡ J.identity },
     ghost a_book_each: { length books.items ≡ length (lines_told words) },
 }

@@ -37,7 +37,7 @@ impl<J: EngineBrand, D: Disk> GuardedFile<J, D> {
     {
         match self.file_pass.take() {
             Some(file_pass) => {
-                let file_pass = core.file(pass, actor, &mut self.book, file_pass);
+                let file_pass = core.file(pass, actor, &mut self.book, file_pass, &self.called);
                 self.file_pass = Some(file_pass);
             }
             None => unreachable!(),

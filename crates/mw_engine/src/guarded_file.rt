@@ -5,6 +5,7 @@
 ghost use Rattle.mw_engine.specs.GuardedFile.{KeepsFor};
 
 use crate::brand::EngineBrand;
+use crate::waiting_room::Waiters;
 use mw_book::Book;
 use mw_core::FilePass;
 use mw_disk::Disk;
@@ -17,6 +18,8 @@ pub(crate) struct GuardedFile<J: EngineBrand, D: Disk> {
     pub(crate) book: Book<D>,
     pub(crate) file_pass: Option<FilePass>,
     pub(crate) tenant: u8,
+    /// The changes that waited when the lock was taken, for the call that is made then.
+    pub(crate) called: Waiters,
     pub(crate) brand: PhantomData<J>,
     ghost kept: { KeepsFor D.facts J.identity book file_pass tenant },
 }

@@ -26,6 +26,7 @@ mod end;
 mod engine;
 mod figures;
 mod file_calls;
+mod file_lock;
 mod guarded_file;
 mod hold;
 mod laws;
@@ -40,6 +41,7 @@ mod start;
 mod steps;
 mod tenant_words;
 mod tenants;
+mod waiting_room;
 
 pub use brand::EngineBrand;
 pub use end::NoDisks;

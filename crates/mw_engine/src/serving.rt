@@ -101,7 +101,7 @@ impl<J: EngineBrand, D: Disk + Drop, H: Hold + Drop> Engine<J, D, H> {
             if index >= self.books.len() {
                 index = 0;
             }
-            let mut guard = self.books[index].lock(rt);
+            let mut guard = self.books[index].lock(rt, actor);
             if guard.value.is_of(actor) {
                 guard.value.file(&self.words.core, pass, actor);
                 return;

@@ -9,12 +9,13 @@ ghost use Rattle.mw_engine.specs.Parts.{identity_of};
 
 use crate::brand::EngineBrand;
 use crate::engine::Engine;
+use crate::file_lock::FileLock;
 use crate::guarded_file::GuardedFile;
 use crate::parts::EngineParts;
+use crate::waiting_room::Waiters;
 use mw_book::Book;
 use mw_core::FilePass;
 use mw_disk::Disk;
-use mw_turns::FairLock;
 use std::alloc::{AllocError, Global};
 use std::marker::PhantomData;
 
@@ -45,7 +46,7 @@ fn locked<J: EngineBrand, D: Disk + Drop>(
     alloc: Global,
     books: Vec<Book<D>>,
     file_passes: Vec<FilePass>,
-) -> Result<Vec<FairLock<GuardedFile<J, D>>>, AllocError>
+) -> Result<Vec<FileLock<J, D>>, AllocError>
     requires kept { AreKept D.facts J.identity books.items file_passes.items }
     requires even { length file_passes.items ≡ length books.items }
     ensures { IfOk result (λ made. length made.items ≡ length books.items) }
@@ -61,9 +62,10 @@ fn locked<J: EngineBrand, D: Disk + Drop>(
             book,
             file_pass: Some(file_pass),
             tenant,
+            called: Waiters::new(),
             brand: PhantomData,
         };
-        made.push(FairLock::new(kept))?;
+        made.push(FileLock::new(kept))?;
     }
     Ok(made)
 }

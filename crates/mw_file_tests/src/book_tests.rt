@@ -40,7 +40,7 @@ fn prepare(book: &mut Book<MemDisk>) -> Option<Filed> {
     if !book.has_failed() && !(book.has_place() && is_change(&entries, book.words() as usize)) {
         return None;
     }
-    Some(book.call(Call::Prepare, 3, &entries))
+    Some(book.call(Call::Prepare, 3, &entries, &[]))
 }
 
 /// Tells how two prepares end. Gives None if the file doesn't open.

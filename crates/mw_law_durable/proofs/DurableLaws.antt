@@ -268,9 +268,9 @@ module _ {D : Type 0} (facts : D → Facts) where
         (doubt_is_asked config tied.past.openings (tied.past.before ++ tied.events) tied.state token.tenant tied.past.played one.there (tied.state.tenant_states token.tenant).quota config.pool token one.tells)
         (untouched facts book.held token.contents token.doubt (agrees_of facts book token (opening_at identity.openings file_pass.tenant).quota identity.config.pool kept.agrees).shows.stands)
 
-    in_a_call : (book after : Book D) (old new : Pass) (actor next : ActorState) (kept : FileToken) (once : FilesOnce facts old new actor next book after token kept)
+    in_a_call : (book after : Book D) (old new : Pass) (actor next : ActorState) (kept : FileToken) (waiting : ℕ) (once : FilesOnce facts waiting old new actor next book after token kept)
         → LeavesChangesOfRun facts config begun tied view file_pass.tenant (stake_by once.end once.called token) (disk_in book.held) (disk_in after.held)
-    in_a_call book after old new actor next kept once =
+    in_a_call book after old new actor next kept waiting once =
         whole_at (stake_by once.end once.called token) (disk_in book.held) (disk_in after.held)
         (stake_is_asked config tied.past.openings (tied.past.before ++ tied.events) tied.state token.tenant tied.past.played one.there (tied.state.tenant_states token.tenant).quota config.pool token one.tells once.end once.called)
         once.safe
@@ -280,8 +280,8 @@ module _ {D : Type 0} (facts : D → Facts) where
       (at_rest config begun s id other view file_pass tied at live held identity book kept, pending config begun s id other view file_pass tied at live held)
 
   pub moments_leave_whole_changes_in_a_call : (config : Config) (begun : (ℕ → TenantStart) → List WorldEvent → Type 0) → MomentsLeaveWholeChangesInACall facts config begun
-  moments_leave_whole_changes_in_a_call config begun s id other view identity book file_pass tied at live held kept old new actor next after left once =
-      in_a_call config begun s id other view file_pass tied at live held book after old new actor next left once
+  moments_leave_whole_changes_in_a_call config begun s id other view identity book file_pass tied at live held kept old new actor next after left waiting once =
+      in_a_call config begun s id other view file_pass tied at live held book after old new actor next left waiting once
 
   pub calls_keep_changes : CallsKeepChanges facts
   calls_keep_changes identity first now job old new actor next answered goes files =
@@ -302,8 +302,8 @@ module _ {D : Type 0} (facts : D → Facts) where
       let seen = goes.seen file_pass.tenant (tenant_of first now file_pass.tenant job SaysYes answered) in
       let rest = at_rest config begun s id other view file_pass tied at live held identity book kept in (
         (with_change first now view file_pass.tenant job (file_kept file_pass).doubt (disk_in book.held) (disk_in book.held) answered seen rest.0, rest.1),
-        λ old new actor next after left once.
-            let during = in_a_call config begun s id other view file_pass tied at live held book after old new actor next left once in
+        λ old new actor next after left waiting once.
+            let during = in_a_call config begun s id other view file_pass tied at live held book after old new actor next left waiting once in
             (with_change first now view file_pass.tenant job (stake_by once.end once.called (file_kept file_pass)) (disk_in book.held) (disk_in after.held) answered seen during.0, during.1),
       )
 
@@ -349,7 +349,7 @@ module _ {D : Type 0} (facts : D → Facts) where
   moments_leave_wholly_or_not config begun s id other first now view job reply identity book file_pass tied at live held kept answered goes =
       let rest = at_rest config begun s id other view file_pass tied at live held identity book kept in (
         (wholly first now view file_pass.tenant job reply (file_kept file_pass).doubt (disk_in book.held) (disk_in book.held) answered goes rest.0, rest.1),
-        λ old new actor next after left once.
-            let during = in_a_call config begun s id other view file_pass tied at live held book after old new actor next left once in
+        λ old new actor next after left waiting once.
+            let during = in_a_call config begun s id other view file_pass tied at live held book after old new actor next left waiting once in
             (wholly first now view file_pass.tenant job reply (stake_by once.end once.called (file_kept file_pass)) (disk_in book.held) (disk_in after.held) answered goes during.0, during.1),
       )

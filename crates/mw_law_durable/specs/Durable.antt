@@ -134,7 +134,7 @@ module _ {D : Type 0} (facts : D → Facts) where
     abbrev pub MomentsLeaveWholeChangesInACall : Type 0
     MomentsLeaveWholeChangesInACall = (s : Table ActorState View) (id other : ℕ) (view : View) (identity : Identity) (book : Book D) (file_pass : FilePass) (tied : TableInvariant config begun s)
         → get_elem? s.views id ≡ some view → IsLive view → get_elem? s.views other ≡ some file_pass.seat.me.0 → IsKept facts identity book file_pass
-        → (old new : Pass) (actor next : ActorState) (after : Book D) (kept : FileToken) (once : FilesOnce facts old new actor next book after (file_kept file_pass) kept)
+        → (old new : Pass) (actor next : ActorState) (after : Book D) (kept : FileToken) (waiting : ℕ) (once : FilesOnce facts waiting old new actor next book after (file_kept file_pass) kept)
         → LeavesChangesOfRun tied view file_pass.tenant (stake_by once.end once.called (file_kept file_pass)) (disk_in book.held) (disk_in after.held)
 
     -- If the thread was answered YES for that tenant, and its knowledge has only grown since, the change is among the words: while no
@@ -144,7 +144,7 @@ module _ {D : Type 0} (facts : D → Facts) where
         → get_elem? s.views id ≡ some view → IsLive view → get_elem? s.views other ≡ some file_pass.seat.me.0 → IsKept facts identity book file_pass
         → (answered : IsAnswered first now file_pass.tenant job SaysYes) → ExtendsView now view
         → LeavesChangeOfRun tied view file_pass.tenant answered.token.request (entries_of job) answered.answered.place (file_kept file_pass).doubt (disk_in book.held) (disk_in book.held)
-        × ((old new : Pass) (actor next : ActorState) (after : Book D) (kept : FileToken) (once : FilesOnce facts old new actor next book after (file_kept file_pass) kept)
+        × ((old new : Pass) (actor next : ActorState) (after : Book D) (kept : FileToken) (waiting : ℕ) (once : FilesOnce facts waiting old new actor next book after (file_kept file_pass) kept)
         → LeavesChangeOfRun tied view file_pass.tenant answered.token.request (entries_of job) answered.answered.place (stake_by once.end once.called (file_kept file_pass)) (disk_in book.held) (disk_in after.held))
 
     -- If the thread was answered for that tenant, with any reply, also FAULT, and its knowledge has only grown since, the change of
@@ -154,5 +154,5 @@ module _ {D : Type 0} (facts : D → Facts) where
         → get_elem? s.views id ≡ some view → IsLive view → get_elem? s.views other ≡ some file_pass.seat.me.0 → IsKept facts identity book file_pass
         → (answered : IsAnswered first now file_pass.tenant job reply) → ExtendsView now view
         → LeavesWhollyOrNotInRun tied view file_pass.tenant answered.token.request (entries_of job) (file_kept file_pass).doubt (disk_in book.held) (disk_in book.held)
-        × ((old new : Pass) (actor next : ActorState) (after : Book D) (kept : FileToken) (once : FilesOnce facts old new actor next book after (file_kept file_pass) kept)
+        × ((old new : Pass) (actor next : ActorState) (after : Book D) (kept : FileToken) (waiting : ℕ) (once : FilesOnce facts waiting old new actor next book after (file_kept file_pass) kept)
         → LeavesWhollyOrNotInRun tied view file_pass.tenant answered.token.request (entries_of job) (stake_by once.end once.called (file_kept file_pass)) (disk_in book.held) (disk_in after.held))

@@ -46,36 +46,39 @@ impl<T> FairLock<T> {
     /// Takes the lock, and waits while another thread holds it. It tries for some microseconds, and not at all while
     /// the lock is starving. Then it queues.
     pub fn lock(&self, rt: &impl Wait) -> FairGuard<'_, T> {
-        let value = match self.try_for_a_while() {
-            Some(value) => value,
+        match self.try_lock() {
+            Some(guard) => guard,
             None => self.lock_in_turn(rt),
-        };
-        FairGuard {
-            value,
-            queue: &self.queue,
         }
     }
 
     /// Takes the lock if it gets free within some microseconds. Gives up at once if it is starving.
-    fn try_for_a_while(&self) -> Option<MutexGuard<'_, T>> {
+    pub fn try_lock(&self) -> Option<FairGuard<'_, T>> {
         for _ in 0..TRIES {
             if self.queue.is_starving() {
                 return None;
             }
             if let Some(value) = self.value.try_lock() {
-                return Some(value);
+                return Some(self.guard(value));
             }
             pause();
         }
         None
     }
 
-    /// Takes the lock when all that queued before have had it.
-    fn lock_in_turn(&self, rt: &impl Wait) -> MutexGuard<'_, T> {
+    /// Queues, and takes the lock when all that queued before have had it.
+    pub fn lock_in_turn(&self, rt: &impl Wait) -> FairGuard<'_, T> {
         let ticket = self.queue.wait_to_be_first(rt);
         let (value, waits_are_long) = self.lock_as_first(rt, ticket);
         self.queue.leave(ticket, waits_are_long);
-        value
+        self.guard(value)
+    }
+
+    fn guard<'a>(&'a self, value: MutexGuard<'a, T>) -> FairGuard<'a, T> {
+        FairGuard {
+            value,
+            queue: &self.queue,
+        }
     }
 
     /// Takes the lock as the first of the queue. Also tells whether this took longer than the first has patience.

@@ -1,0 +1,60 @@
+//! The lock of a tenant's file, with a room for the changes that wait for it.
+//!
+//! Used by: `engine`; `start`, which makes it; `serving`, which takes it; `end`. What is known of the file rests on
+//! the lock alone.
+use crate::brand::EngineBrand;
+use crate::guarded_file::GuardedFile;
+use crate::waiting_room::WaitingRoom;
+use mw_actor::Actor;
+use mw_core::waiting_change;
+use mw_disk::Disk;
+use mw_turns::{FairGuard, FairLock};
+use std::sync::Wait;
+
+/// A tenant's file under its lock, and the changes whose prepares wait for it.
+#[derive(Drop)]
+pub(crate) struct FileLock<J: EngineBrand, D: Disk> {
+    file: FairLock<GuardedFile<J, D>>,
+    room: WaitingRoom,
+}
+
+impl<J: EngineBrand, D: Disk> FileLock<J, D> {
+    /// Makes a lock of a file. It is free.
+    pub(crate) fn new(file: GuardedFile<J, D>) -> FileLock<J, D> {
+        FileLock {
+            file: FairLock::new(file),
+            room: WaitingRoom::new(),
+        }
+    }
+
+    /// Ends the lock and gives the file.
+    pub(crate) fn into_inner(self) -> GuardedFile<J, D> {
+        let FileLock { file, room: _ } = self;
+        file.into_inner()
+    }
+
+    /// Takes the lock for the next call of a request, and calls the changes that wait. If the lock isn't free soon,
+    /// the request waits in its turn, and its change in the room if a prepare is next.
+    pub(crate) fn lock(&self, rt: &impl Wait, actor: &Actor) -> FairGuard<'_, GuardedFile<J, D>> {
+        let mut guard = match self.file.try_lock() {
+            Some(guard) => guard,
+            None => {
+                self.enter_room(rt, actor);
+                self.file.lock_in_turn(rt)
+            }
+        };
+        self.room.call_all(rt, &mut guard.value.called);
+        guard
+    }
+
+    /// Takes the lock for no call, in turn with those that wait for one.
+    pub(crate) fn lock_between_calls(&self, rt: &impl Wait) -> FairGuard<'_, GuardedFile<J, D>> {
+        self.file.lock(rt)
+    }
+
+    fn enter_room(&self, rt: &impl Wait, actor: &Actor) {
+        if let Some(waiting) = waiting_change(actor) {
+            self.room.enter(rt, waiting);
+        }
+    }
+}
