@@ -28,7 +28,7 @@ impl<D: Disk> Book<D> {
         self.places
     }
 
-    /// Tells whether the file has failed: a device call has failed since it was opened, or it didn't open. Then
+    /// Tells whether the file has failed: a call for a change has failed since it was opened, or it didn't open. Then
     /// only a cancel does anything until the next start.
     pub fn has_failed(&self) -> bool
         ensures { result ≡ self.now.has_failed }

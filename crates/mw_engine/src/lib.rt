@@ -50,4 +50,5 @@ pub use hold::{Hold, NoHold, Point};
 pub use laws::answers_are_of_the_store_alone;
 pub use mw_actor::Actor;
 pub use mw_core::{Advance, Note, Pass, WhyAgain};
+pub use mw_file::CopyFault;
 pub use parts::EngineParts;

@@ -26,7 +26,7 @@ module _ {D : Type 0} where
   abbrev pub states_of : TenantFile D → List PlaceState
   states_of file = file.states.items
 
-  -- a device call on it has failed since it was opened
+  -- a device call for a change has failed since it was opened; one for a copy doesn't count
   abbrev pub has_failed : TenantFile D → Bool
   has_failed file = file.failed
 

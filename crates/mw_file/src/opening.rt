@@ -58,7 +58,7 @@ impl<D: Disk> TenantFile<D> {
     /// - In a file that has its second layout it rolls the open records forward, if there are any. It writes
     ///   their home words, syncs, clears their commit bytes, and syncs.
     ///
-    /// It takes memory once, before it reads. No other call on the file takes any.
+    /// It takes memory once, before it reads. No other call on the file takes any, but `copy_bytes`.
     ///
     /// # Errors
     ///

@@ -22,8 +22,8 @@ pub enum FileFault {
 pub struct Place(pub u16);
 
 /// A tenant's open file on a disk. Its words and its places are in its second layout, and no call writes a
-/// byte of the first. After a device call has failed, the file has failed: no call touches it until it is
-/// opened again.
+/// byte of the first. After a device call for a change has failed, the file has failed: no call touches it until
+/// it is opened again. A copy that fails leaves it in use.
 #[derive(Drop)]
 pub struct TenantFile<D> {
     pub(crate) disk: D,
