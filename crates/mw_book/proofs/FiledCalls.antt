@@ -234,12 +234,13 @@ module _ {D : Type 0} (facts : D → Facts) (old new : Book D) (held now : Tenan
                   same_places = placed_beside old.words (states_of held) (states_of now) old.table next old.places (place + 1) changes top are old.permuted file.places placed place used PreparedStage (pairs_of entries)
                       (Prepared entries) (ap (is_settled old.table) is ∙ vacant_plain (states_of held) old.table old.places room) off refl (λ busy. refl)
                       (λ k lt fresh here. let high = (are.chosen k lt fresh.was fresh.now).high in omega (arith, high, here))
-                      (λ k lt fresh. (are.chosen k lt fresh.was fresh.now).here (states_of now) (front_of (λ d. stage_of (states_of now) d.place.0 ≡ PreparedStage) changes own staged.stage_here))
-                      (ap (stage_of (states_of now)) (sym number_is) ∙ last_of (λ d. stage_of (states_of now) d.place.0 ≡ PreparedStage) changes own staged.stage_here,
-                      ap (writes_of_place (states_of now)) (sym number_is) ∙ last_of (λ d. writes_of_place (states_of now) d.place.0 ≡ pairs_of d.entries.items) changes own staged.writes_here ∙ ap pairs_of entries_are)
+                      (λ k lt fresh. (are.chosen k lt fresh.was fresh.now).here (states_of now) (front_of (λ d. stage_of (states_of now) d.place.0 ≡ PreparedStage) changes own staged.stage_here)) (
+                        ap (stage_of (states_of now)) (sym number_is) ∙ last_of (λ d. stage_of (states_of now) d.place.0 ≡ PreparedStage) changes own staged.stage_here,
+                        ap (writes_of_place (states_of now)) (sym number_is) ∙ last_of (λ d. writes_of_place (states_of now) d.place.0 ≡ pairs_of d.entries.items) changes own staged.writes_here ∙ ap pairs_of entries_are,
+                      )
                       (λ n other kept.
-                          let nowhere : IsNoPlaceOf (changes ++ own ∷ []) n = All-push (λ d. d.place.0 ≢ n) changes own (are.others n kept) (λ is_it. other (sym is_it ∙ number_is)) in
-                          (staged.stage_there n nowhere, staged.writes_there n nowhere));
+                      let nowhere : IsNoPlaceOf (changes ++ own ∷ []) n = All-push (λ d. d.place.0 ≢ n) changes own (are.others n kept) (λ is_it. other (sym is_it ∙ number_is)) in
+                      (staged.stage_there n nowhere, staged.writes_there n nowhere));
                   same_place_of = set_number file.place_of old.place_of slot place MAX_POOL long within shows.same_place_of;
                   same_failed = shows.same_failed;
                   stands = still file.contents (pairs_of file.doubt) (λ honest. (stays file shows honest).after);

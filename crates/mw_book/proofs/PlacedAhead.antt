@@ -61,7 +61,7 @@ module _ (stage : ℕ → Stage) (written : ℕ → Pairs) (new : List PlaceStat
     (past : (k : ℕ) → places ≤ k → is_prepared_ahead (with_ahead table aheads) k ≡ is_prepared_ahead table k)
     (left : (k : ℕ) → k < places → IsFresh table (with_ahead table aheads) k → IsLeft stage new table k)
     (others : (n : ℕ) → ((k : ℕ) → k < places → place_in_file table k ≡ n → is_prepared_ahead (with_ahead table aheads) k ≡ is_prepared_ahead table k)
-        → (stage_of new n ≡ stage n) × (writes_of_place new n ≡ written n)) where
+    → (stage_of new n ≡ stage n) × (writes_of_place new n ≡ written n)) where
   abbrev next : PlaceTable
   next = with_ahead table aheads
 
@@ -116,7 +116,7 @@ module _ (words : ℕ) (old new : List PlaceState) (table next : PlaceTable) (pl
       (here : (k : ℕ) → k < places → IsFresh table next k → stage_of new (place_in_file table k) ≡ Prepared)
       (mine : (stage_of new (place_in_file table own) ≡ s) × (writes_of_place new (place_in_file table own) ≡ w))
       (others : (n : ℕ) → n ≢ place_in_file table own → ((k : ℕ) → k < places → place_in_file table k ≡ n → is_prepared_ahead next k ≡ is_prepared_ahead table k)
-          → (stage_of new n ≡ stage_of old n) × (writes_of_place new n ≡ writes_of_place old n)) where
+      → (stage_of new n ≡ stage_of old n) × (writes_of_place new n ≡ writes_of_place old n)) where
     abbrev number : ℕ
     number = place_in_file table own
 
@@ -150,13 +150,13 @@ module _ (words : ℕ) (old new : List PlaceState) (table next : PlaceTable) (pl
         (record { stage_here = stage_own number refl; writes_here = written_own number refl; stage_there = stage_other; writes_there = written_other }) used p plain off is writes)
         are.kept are.past
         (λ k lt was.
-            let fresh : IsFresh table next k = record { was = was.was; now = was.now } in
-            let one = chosen_at k lt fresh in
-            record {
-              free = stage_other (place_in_file table k) (λ same. apart k lt fresh (permuted.apart k own lt used same)) ∙ free_of old table k one.vacant fresh.was;
-              plain = plain_of old table k one.vacant;
-              prepared = here k lt fresh;
-            })
+        let fresh : IsFresh table next k = record { was = was.was; now = was.now } in
+        let one = chosen_at k lt fresh in
+        record {
+          free = stage_other (place_in_file table k) (λ same. apart k lt fresh (permuted.apart k own lt used same)) ∙ free_of old table k one.vacant fresh.was;
+          plain = plain_of old table k one.vacant;
+          prepared = here k lt fresh;
+        })
         (λ n same. elim (cases_eq n number) [
           | inl mine_too ↦ (ap (stage_of new) mine_too ∙ mine.0 ∙ sym (stage_own n mine_too), ap (writes_of_place new) mine_too ∙ mine.1 ∙ sym (written_own n mine_too))
           | inr other ↦ let both = others n other same in (both.0 ∙ sym (stage_other n other), both.1 ∙ sym (written_other n other))
@@ -171,14 +171,14 @@ module _ (words : ℕ) (old new : List PlaceState) (table next : PlaceTable) (pl
       (placed_rolled old (λ n. freed (stage_of old n)) (writes_of_place old) table flags places own at placed sealed plain now (λ n. refl) (λ n. refl) permuted)
       are.kept are.past
       (λ k lt fresh.
-          let one = are.chosen k lt fresh.was fresh.now in
-          let free : stage_in_file old table k ≡ Free = free_of old table k one.vacant fresh.was in
-          let off : k ≢ own = λ same. let e : Free ≡ Sealed = sym free ∙ ap (stage_in_file old table) same ∙ sealed in cc in
-          record {
-            free = ap freed free;
-            plain = now k ∙ by_settle_there old table own k false plain off ∙ ap (λ b. b || is_sealed_stage (stage_in_file old table k)) (plain_of old table k one.vacant) ∙ ap is_sealed_stage free;
-            prepared = one.here new settled.stage_here;
-          })
+      let one = are.chosen k lt fresh.was fresh.now in
+      let free : stage_in_file old table k ≡ Free = free_of old table k one.vacant fresh.was in
+      let off : k ≢ own = λ same. let e : Free ≡ Sealed = sym free ∙ ap (stage_in_file old table) same ∙ sealed in cc in
+      record {
+        free = ap freed free;
+        plain = now k ∙ by_settle_there old table own k false plain off ∙ ap (λ b. b || is_sealed_stage (stage_in_file old table k)) (plain_of old table k one.vacant) ∙ ap is_sealed_stage free;
+        prepared = one.here new settled.stage_here;
+      })
       (λ n same. (settled.stage_there n (are.others n same), settled.writes_there n (are.others n same))))
 
 -- a call's own change in a place below the chosen ones may be prepared along with them

@@ -100,10 +100,13 @@ module _ (table : PlaceTable) (place written : ℕ) (low : place < length table.
 
     -- which place has this place of the file now
     only : (k was other : ℕ) → was < places → other < places → place_in_file now other ≡ place_in_file table was → (other ≡ place → was ≡ written) × ((other ≡ written → was ≡ place) × (other ≢ place → other ≢ written → was ≡ other))
-    only k was other within lt same =
-        (λ is. sym (permuted.apart written was also within (sym place_now ∙ ap (place_in_file now) (sym is) ∙ same)),
-        ((λ is. sym (permuted.apart place was used within (sym written_now ∙ ap (place_in_file now) (sym is) ∙ same))),
-        (λ off never. sym (permuted.apart other was lt within (sym (others_now other off never) ∙ same)))))
+    only k was other within lt same = (
+      λ is. sym (permuted.apart written was also within (sym place_now ∙ ap (place_in_file now) (sym is) ∙ same)),
+      (
+        (λ is. sym (permuted.apart place was used within (sym written_now ∙ ap (place_in_file now) (sym is) ∙ same))),
+        (λ off never. sym (permuted.apart other was lt within (sym (others_now other off never) ∙ same))),
+      ),
+    )
 
     had : (k : ℕ) → k < places → Had k
     had k lt = elim (cases_eq k place) [

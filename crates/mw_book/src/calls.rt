@@ -45,17 +45,11 @@ impl<D: Disk> Book<D> {
     /// seals, else the one that an earlier failed seal left in doubt. Nothing is said of a file that didn't open.
     ///
     /// A prepare, a seal and a settle that make device calls also write records of `waiting` changes, before their
-    /// first sync. These changes are then prepared ahead: their own prepares make no device call, if their entries are
+XX
     /// the same by then. A change is written if it is of another slot, is well formed for the file's words, is not
     /// prepared ahead yet, and if a free place is left for it. Whether it is makes no difference to what the book
     /// represents.
-    pub fn call(
-        &mut self,
-        call: Call,
-        slot: u8,
-        entries: &Entries,
-        waiting: &[Waiting],
-    ) -> Filed
+    pub fn call(&mut self, call: Call, slot: u8, entries: &Entries, waiting: &[Waiting]) -> Filed
         requires may { MayCall self.old call slot entries.now.items }
         ensures ends { (file : File) → Represents D.facts self.old file → Ends D.facts call slot entries.now.items (length waiting.now) file self.old self.new result }
         ensures answers { Answers D.facts call self.old self.new result }
@@ -101,7 +95,9 @@ impl<D: Disk> Book<D> {
         let Some(file) = &self.held else {
             unreachable!()
         };
-        let written = self.table.written_place(file.states(), slot, entries, self.places);
+        let written = self
+            .table
+            .written_place(file.states(), slot, entries, self.places);
         if written == self.places {
             return false;
         }
@@ -135,13 +131,7 @@ impl<D: Disk> Book<D> {
 
     /// Writes the record of a change into a place, for a slot. It is the lowest vacant one, and has no change that is
     /// prepared ahead.
-    fn write_down(
-        &mut self,
-        place: u16,
-        slot: u8,
-        entries: &Entries,
-        waiting: &[Waiting],
-    ) -> Filed
+    fn write_down(&mut self, place: u16, slot: u8, entries: &Entries, waiting: &[Waiting]) -> Filed
         requires sound { self.old.has_failed ≡ false }
         requires room { HasRoom (states_in self.old.held) self.old.table self.old.places self.old.words entries.now.items }
         requires lowest { place ≡ vacant_place (states_in self.old.held) self.old.table self.old.places }
@@ -155,7 +145,15 @@ impl<D: Disk> Book<D> {
         let Some(file) = &mut self.held else {
             unreachable!()
         };
-        let mut chosen = choose(&self.table, file.states(), words, self.places, place + 1, slot, waiting);
+        let mut chosen = choose(
+            &self.table,
+            file.states(),
+            words,
+            self.places,
+            place + 1,
+            slot,
+            waiting,
+        );
         chosen.changes.push(NewChange {
             place: Place(number),
             entries: copy_of(entries),
@@ -182,8 +180,19 @@ impl<D: Disk> Book<D> {
         let Some(file) = &mut self.held else {
             unreachable!()
         };
-        let chosen = choose(&self.table, file.states(), words, self.places, 0, slot, waiting);
-        if file.seal_with(Place(number), chosen.changes.as_slice()).is_err() {
+        let chosen = choose(
+            &self.table,
+            file.states(),
+            words,
+            self.places,
+            0,
+            slot,
+            waiting,
+        );
+        if file
+            .seal_with(Place(number), chosen.changes.as_slice())
+            .is_err()
+        {
             self.has_failed = true;
             return Filed::Broken;
         }
@@ -211,7 +220,15 @@ impl<D: Disk> Book<D> {
         };
         let mut settled = self.table.settled_with_sealed(file.states());
         settled[place] = false;
-        let chosen = choose(&self.table, file.states(), words, self.places, 0, slot, waiting);
+        let chosen = choose(
+            &self.table,
+            file.states(),
+            words,
+            self.places,
+            0,
+            slot,
+            waiting,
+        );
         if file.settle_all(chosen.changes.as_slice()).is_err() {
             self.has_failed = true;
             return Filed::Broken;

@@ -25,9 +25,9 @@ pub fn files_that_are_alike<D: Disk>()
     ensures { RepresentsAlike D.facts }
 {}
 
-/// If no other change is sealed and none is settled ahead, as with one client, a call makes as many device calls as
-/// the world lists. Then the number that is told of a device call that failed is that call's own. Such a call
-/// settles no change ahead.
+/// If no other change is sealed, and none is settled ahead, prepared ahead or waits, as with one client, a call makes
+/// as many device calls as the world lists. Then the number that is told of a device call that failed is that call's
+/// own. Such a call settles no change ahead.
 pub fn a_change_alone_makes_the_listed_calls<D: Disk>()
     ensures listed { AloneMakesListedCalls D.facts }
     ensures none_ahead { AloneLeavesNoneAhead D.facts }

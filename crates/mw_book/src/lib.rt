@@ -28,9 +28,9 @@ mod waiting;
 
 pub use answers::Filed;
 pub use book::Book;
-pub use place_table::PlaceTable;
-pub use waiting::Waiting;
 pub use laws::{
     a_change_alone_makes_the_listed_calls, calls_that_can_be_made, crash_between_calls,
     files_that_are_alike,
 };
+pub use place_table::PlaceTable;
+pub use waiting::Waiting;

@@ -104,7 +104,13 @@ pub(crate) fn choose(
 }
 
 /// Tells whether a change is of another slot than this one, and is not prepared ahead.
-fn is_new(table: &PlaceTable, states: &[PlaceState], places: u16, slot: u8, change: &Waiting) -> bool
+fn is_new(
+    table: &PlaceTable,
+    states: &[PlaceState],
+    places: u16,
+    slot: u8,
+    change: &Waiting,
+) -> bool
     requires few { places ≤ MAX_PLACES }
     ensures { result ≡ is_new_for states.now table.now places slot change.now.slot change.now.entries.items }
 {

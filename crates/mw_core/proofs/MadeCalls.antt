@@ -27,7 +27,7 @@ use Rattle.mw_book.specs.declared.answers.Filed.TheVariants.{Made, Broken, Untou
 use Rattle.mw_book.specs.declared.book.Book.{Book}
 use Rattle.mw_book.specs.Crashes.{IsCrashSafe, LeavesEither}
 use Rattle.mw_book.specs.Ends.{Ends, WasBroken, calls_on}
-use Rattle.mw_disk.specs.Runs.{Good, Bad}
+use Rattle.mw_disk.specs.Runs.{Good as GoodRun, Bad as BadRun}
 use Rattle.mw_book.specs.OpenFile.{OnDisk, disk_in}
 use Rattle.mw_book.specs.Permits.{MayCall}
 use Rattle.mw_book.specs.Representation.{Represents}
@@ -133,7 +133,7 @@ ends_as facts call slot entries own waiting file before after Made same calls en
   began = ends.began;
   written = ends.written;
   few = ends.few;
-  made = subst (λ (n : ℕ). OnDisk facts (Good (ends.written + n)) (disk_in before.held) (disk_in after.held)) (calls (entries_at file (place_for call file before.places slot))) ends.made;
+  made = subst (λ (n : ℕ). OnDisk facts (GoodRun (ends.written + n)) (disk_in before.held) (disk_in after.held)) (calls (entries_at file (place_for call file before.places slot))) ends.made;
   shows = subst (λ (one : File). Represents facts after one) same ends.shows;
 }
 ends_as facts call slot entries own waiting file before after Broken same calls ends =
@@ -144,7 +144,7 @@ ends_as facts call slot entries own waiting file before after Broken same calls 
       within = ends.within;
       written = ends.written;
       few = ends.few;
-      failed = subst (λ (n : ℕ). OnDisk facts (Bad (ends.written + n)) (disk_in before.held) (disk_in after.held)) many ends.failed;
+      failed = subst (λ (n : ℕ). OnDisk facts (BadRun (ends.written + n)) (disk_in before.held) (disk_in after.held)) many ends.failed;
       made = λ listed. ends.made (ap (λ (n : ℕ). ends.written + n) many ∙ listed);
       shows = ends.shows;
     }
