@@ -1,6 +1,6 @@
 -- A book whose file was only read represents the files that it represented, and the bytes that were read are a backup of them.
 -- Used by: the proof of Book::copy_bytes, and mw_engine. Its statements may change with mw_engine; its proofs may change freely.
-use Rattle.std.proofs.Common.{◌≡◌, ℕ, true, false, List, length, Option, Some, None, Vec, Result, Ok, Err, IsTrue, refl, sym, ap, subst, ◌∙◌}
+use Rattle.std.proofs.Common.{◌≡◌, ℕ, true, false, List, Option, Some, None, Vec, Result, Ok, Err, refl, sym, subst, ◌∙◌}
 use Rattle.std.specs.declared.alloc.Global.{Global}
 use Rattle.std.specs.Option.{is_some}
 use Rattle.mw_disk.specs.Facts.{Facts}
@@ -12,7 +12,7 @@ use Rattle.mw_file.specs.declared.copies.CopyFault.TheVariants.{Failed, Disk, Me
 use Rattle.mw_file.specs.declared.place_states.PlaceState.{PlaceState}
 use Rattle.mw_file.specs.declared.tenant_file.TenantFile.{TenantFile}
 use Rattle.mw_file.specs.Copies.{CopyEnds as FileCopyEnds, IsOnlyRead as FileIsOnlyRead}
-use Rattle.mw_file.specs.File.{disk_of, states_of}
+use Rattle.mw_file.specs.File.{disk_of}
 use Rattle.mw_file.specs.OpeningEnds.{read_calls}
 use Rattle.mw_file.proofs.OnlyRead.{not_read, only_read_safe}
 use Rattle.mw_world_file.specs.Files.{File}
