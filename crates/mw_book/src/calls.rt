@@ -45,7 +45,7 @@ impl<D: Disk> Book<D> {
     /// seals, else the one that an earlier failed seal left in doubt. Nothing is said of a file that didn't open.
     ///
     /// A prepare, a seal and a settle that make device calls also write records of `waiting` changes, before their
-XX
+    /// first sync. These changes are then prepared ahead: their own prepares make no device call, if their entries are
     /// the same by then. A change is written if it is of another slot, is well formed for the file's words, is not
     /// prepared ahead yet, and if a free place is left for it. Whether it is makes no difference to what the book
     /// represents.

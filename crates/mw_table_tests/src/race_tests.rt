@@ -290,12 +290,7 @@ fn plants_raced(core: &Core, mut one: Driven, two: Driven) -> bool
 }
 
 /// Takes the last of the passes, if it is worker 2's and idle.
-fn take_idle(
-    core: &Core,
-    world: &World,
-    run: &RunBefore,
-    passes: &mut Vec<Pass>,
-) -> Option<Pass>
+fn take_idle(core: &Core, world: &World, run: &RunBefore, passes: &mut Vec<Pass>) -> Option<Pass>
     requires dealt { All (IsDealt core.now.shared (basis_of_world world.now run.now.events)) passes.old.items }
     ensures left { All (IsDealt core.now.shared (basis_of_world world.now run.now.events)) passes.new.items }
     ensures own { IfSome result (λ pass. IsOf core.now.shared pass) }
