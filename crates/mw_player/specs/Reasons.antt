@@ -1,43 +1,25 @@
--- Defines where a worker of a world is, and the reason that is told of a line which was not played to its end.
--- Used by: the contracts of src/reasons.rt. A change here changes what these contracts say. A new Reason needs its row in
--- docs/SCHEDULES.
-use Rattle.std.specs.Prelude.{ℕ, ◌≡◌, nat_lt, Bool, if◌then◌else◌, Option, Some, None}
-use Rattle.mw_words.specs.declared.replies.Reply.{Reply}
-use Rattle.mw_look.specs.Steps.{op_of}
-use Rattle.mw_actor.specs.ActorState.{ActorState}
-use Rattle.mw_actor.specs.Asks.{asks}
-use Rattle.mw_actor.specs.Program.{replied}
+-- Defines the reason that is told of a line which was not played to its end.
+-- Used by: the contracts of src/reasons.rt, src/player.rt and src/program.rt. A change here changes what these contracts say. A new
+-- Reason needs its row in docs/SCHEDULES.
+use Rattle.std.specs.Prelude.{ℕ, ◌≡◌, ◌++◌, List, ◌∷◌}
 use Rattle.mw_world.specs.declared.config.Config.{Config}
 use Rattle.mw_world.specs.Definition.State.{State}
 use Rattle.mw_schedule.specs.declared.schedule.Command.{Command}
 use Rattle.mw_schedule.specs.declared.schedule.Command.TheVariants as command
+use Rattle.mw_schedule.specs.declared.schedule.ScheduleLine.{ScheduleLine}
 use Rattle.mw_schedule.specs.declared.steps.StepKind.{StepKind}
 use Rattle.mw_schedule.specs.declared.steps.StepKind.TheVariants as kind
-use Rattle.mw_schedule.specs.Steps.{kind_of}
+use Rattle.mw_simulator.specs.declared.world.World.{World}
+use Rattle.mw_simulator.specs.Representation.{Represents}
+use Rattle.mw_player.specs.declared.player.Player.{Player}
 use Rattle.mw_player.specs.declared.reasons.Asked.{Asked}
 use Rattle.mw_player.specs.declared.reasons.Asked.TheVariants as asked
 use Rattle.mw_player.specs.declared.reasons.Position.{Position}
 use Rattle.mw_player.specs.declared.reasons.Position.TheVariants as position
 use Rattle.mw_player.specs.declared.reasons.Reason.{Reason}
 use Rattle.mw_player.specs.declared.reasons.Reason.TheVariants as reason
-
--- where a request with or without a reply is, if its next step is of this kind
-abbrev pub position_by : StepKind → Option Reply → Position
-position_by next None = position.At next
-position_by next (Some reply) = position.Replied
-
--- where a request is: it has its reply, or is at its next step
-abbrev pub position_of_request : ActorState → Position
-position_of_request actor = position_by (kind_of (op_of (asks actor))) (replied actor)
-
--- where a worker is that may have a request
-abbrev pub position_of_worker : Option ActorState → Position
-position_of_worker None = position.Idle
-position_of_worker (Some actor) = position_of_request actor
-
--- where the worker of this number is, if there is one
-abbrev pub position_in : Config → State → ℕ → Position
-position_in config state worker = if nat_lt worker config.workers then position_of_worker (state.worker_states worker).actor else position.Absent
+use Rattle.mw_player.specs.Positions.{position_in}
+use Rattle.mw_player.specs.RestartReasons.{restart_reason}
 
 -- the reason for a call on the file, by the kind of the worker's next step
 abbrev pub reason_of_file : ℕ → StepKind → Reason
@@ -68,12 +50,25 @@ reason_in config state (asked.File worker) = reason_at worker (asked.File worker
 reason_in config state (asked.Going worker) = reason_at worker (asked.Going worker) (position_in config state worker)
 reason_in config state (asked.Restart why) = why
 
--- What a line asks for is of the line's kind and worker.
-abbrev pub IsAsked : Command → Asked → Type 0
-IsAsked (command.Come worker tenant job) line = line ≡ asked.Come worker
-IsAsked (command.Step worker) line = line ≡ asked.Step worker
-IsAsked (command.File worker outcome) line = line ≡ asked.File worker
-IsAsked (command.Before worker next) line = line ≡ asked.Going worker
-IsAsked (command.To worker next) line = line ≡ asked.Going worker
-IsAsked (command.End worker) line = line ≡ asked.Going worker
-IsAsked (command.Restart stops) line = (why : Reason) × (line ≡ asked.Restart why)
+-- What a line asks for is of the line's kind and worker. That of a restart has the reason that this world gives.
+abbrev pub IsAsked : World → Command → Asked → Type 0
+IsAsked world (command.Come worker tenant job) line = line ≡ asked.Come worker
+IsAsked world (command.Step worker) line = line ≡ asked.Step worker
+IsAsked world (command.File worker outcome) line = line ≡ asked.File worker
+IsAsked world (command.Before worker next) line = line ≡ asked.Going worker
+IsAsked world (command.To worker next) line = line ≡ asked.Going worker
+IsAsked world (command.End worker) line = line ≡ asked.Going worker
+IsAsked world (command.Restart stops) line = (state : State) → Represents world state → line ≡ asked.Restart (restart_reason world state stops.items)
+
+-- The line with this number was not played to its end, and this is the reason: the one for what it asked for, in the world that
+-- it left. The first world is the one before it.
+pub record IsToldOf (now : Player) (lines : List ScheduleLine) (number : ℕ) (why : Reason) : Type 0 where
+  pub before : List ScheduleLine
+  pub line : ScheduleLine
+  pub after : List ScheduleLine
+  pub there : lines ≡ before ++ line ∷ after
+  pub numbered : line.number ≡ number
+  pub was : World
+  pub what : Asked
+  pub asks : IsAsked was line.command what
+  pub told : (state : State) → Represents now.world state → why ≡ reason_in now.world.config state what

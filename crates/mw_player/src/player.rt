@@ -101,7 +101,7 @@ impl Player {
 
     /// Tells what a line asks for, for [`Player::reason`].
     pub fn asked(&self, command: &Command) -> Asked
-        ensures { reasons.IsAsked command.now result }
+        ensures { reasons.IsAsked self.now.world command.now result }
     {
         asked_by(&self.world, command)
     }

@@ -1,10 +1,11 @@
 //! The program `mwreplay`: plays a schedule on a simulated world and prints the replies.
 //!
 //! `mwreplay` calls `replay_args`. The exit statuses are in `specs/Replayed` too: change both together.
-ghost use Rattle.std.specs.Prelude.{◌≡◌, IfOk};
+ghost use Rattle.std.specs.Prelude.{◌≡◌, IfErr, IfOk};
 ghost use Rattle.std.specs.Io.KnownBytes.{Keeps};
 ghost use Rattle.mw_schedule.specs.Playable.{IsSchedule};
 ghost use Rattle.mw_player.specs.PlayerSteps.{IsSame, ObeysAll, Plays};
+ghost use Rattle.mw_player.specs.Reasons.{IsToldOf};
 ghost use Rattle.mw_player.specs.Replayed.{MayPrint, PrintsAll, Replays, fault_at, halt_of, status_after, status_of};
 
 use crate::player::{PlayFault, Player};
@@ -262,6 +263,7 @@ fn play_lines<O: Write>(
 ) -> Result<(), (u64, PlayFault, Reason)>
     ensures same { IsSame player.old player.new }
     ensures plays { Plays player.old player.new (O.contents out.old) (O.contents out.new) (ObeysAll lines.items) (halt_of result) }
+    ensures told { IfErr result (λ stop. IsToldOf player.new lines.items stop.0 stop.2) }
 {
     for line in lines {
         let asked = player.asked(&line.command);

@@ -5,6 +5,7 @@
 ghost use Rattle.std.specs.Prelude.{◌≡◌, MatchOption, IfSome, Some, None};
 ghost use Rattle.mw_world.specs.Definition.State.{State};
 ghost use Rattle.mw_simulator.specs.Representation.{Represents};
+ghost use Rattle.mw_player.specs.Positions as positions;
 ghost use Rattle.mw_player.specs.Reasons as spec;
 
 use crate::restarts::restart_reason;
@@ -88,7 +89,7 @@ pub enum Asked {
 
 /// Tells what a line asks for in this world.
 pub fn asked_by(world: &World, command: &Command) -> Asked
-    ensures { spec.IsAsked command.now result }
+    ensures { spec.IsAsked world.now command.now result }
 {
     match command {
         Command::Come(worker, _, _) => Asked::Come(*worker),
@@ -144,7 +145,7 @@ fn reason_of_step(worker: u8, kind: StepKind, asked: Asked) -> Reason
 
 /// Tells where a worker is.
 pub fn position_of(world: &World, worker: u8) -> Position
-    ensures { (state : State) → Represents world.now state → result ≡ spec.position_in world.now.config state worker }
+    ensures { (state : State) → Represents world.now state → result ≡ positions.position_in world.now.config state worker }
 {
     if worker >= world.config().workers {
         return Position::Absent;
@@ -157,7 +158,7 @@ pub fn position_of(world: &World, worker: u8) -> Position
 
 // Tells where the worker of a request is.
 fn position_in(actor: &Actor) -> Position
-    ensures { result ≡ spec.position_of_request actor.now }
+    ensures { result ≡ positions.position_of_request actor.now }
 {
     match actor.reply() {
         Some(_) => Position::Replied,

@@ -32,3 +32,16 @@ returns-in-Err-clause-plays g c =
     plays_halts c.args.player.now c.obey.new.self (W c.args.out.now) (W c.obey.new.out) (ObeysAll (lines ++ line ∷ [])) (ObeysAll c.args.lines.items) c.in-Err.halt
     (plays_line c.args.player.now c.loop-line.player c.obey.new.self (W c.args.out.now) (W c.loop-line.out) (W c.obey.new.out) lines line tt (Err c.in-Err.halt)
     c.loop-line.invariant.same c.loop-line.invariant.plays c.in-Err.ensures.plays)
+
+pub returns-in-Err-clause-told : goal.returns-in-Err-clause-told
+returns-in-Err-clause-told g c = record {
+  before = c.loop-line.yielded;
+  line = c.in-Some.line;
+  after = into_iter_items c.next.new.self;
+  there = sym (ap (λ l. c.loop-line.yielded ++ l) (sym c.in-Some.ensures.steps.0) ∙ c.loop-line.invariant.left);
+  numbered = refl;
+  was = c.loop-line.player.world;
+  what = c.asked.result;
+  asks = c.asked.ensures;
+  told = c.reason.ensures;
+}

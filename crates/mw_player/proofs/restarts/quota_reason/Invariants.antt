@@ -1,0 +1,9 @@
+-- States what stays true from turn to turn in the loops of `quota_reason` (src/restarts.rt). Used by: the proof of that
+-- function alone. It may change freely as long as this crate checks.
+use Rattle.std.proofs.Common.{◌≡◌, ◌+◌, drop}
+use Rattle.mw_player.specs.RestartReasons as spec
+use Rattle.mw_player.proofs.restarts.quota_reason.Given as goal
+
+-- the items that are left have the reason of all
+abbrev pub invariant-loop-index : goal.invariant-loop-index
+invariant-loop-index l = spec.quota_reason l.world (l.index + 1) (drop l.index l.stops) ≡ spec.quota_reason l.world 1 l.stops

@@ -1,0 +1,9 @@
+-- States what stays true from turn to turn in the loops of `quota_told` (src/restarts.rt). Used by: the proof of that
+-- function alone. It may change freely as long as this crate checks.
+use Rattle.std.proofs.Common.{◌≡◌, drop}
+use Rattle.mw_simulator.specs.Events.{stop_of}
+use Rattle.mw_player.proofs.restarts.quota_told.Given as goal
+
+-- the stops that are left have the tenant's stop, if all have
+abbrev pub invariant-loop-stop : goal.invariant-loop-stop
+invariant-loop-stop l = stop_of (drop l.stop-index l.stops) l.tenant ≡ stop_of l.stops l.tenant
