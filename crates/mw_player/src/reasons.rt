@@ -2,7 +2,7 @@
 //!
 //! `program` tells the reason after the line's number. It decides that text alone, and not which line is played.
 //! `specs/Reasons` says when each reason comes: change both together, and docs/SCHEDULES.
-ghost use Rattle.std.specs.Prelude.{◌≡◌, MatchOption, IfSome, Some, None};
+ghost use Rattle.std.specs.Prelude.{◌≡◌};
 ghost use Rattle.mw_world.specs.Definition.State.{State};
 ghost use Rattle.mw_simulator.specs.Representation.{Represents};
 ghost use Rattle.mw_player.specs.Positions as positions;

@@ -1,7 +1,7 @@
 -- Lines of a text that are passed one after the other.
 -- Used by: the proof of from_line. It may change freely as long as this crate checks.
-use Rattle.std.specs.Prelude.{ℕ, zero, suc, ◌≡◌, ◌+◌, ◌-◌, ◌<◌, List, [], Option, Some, None}
-use Rattle.std.proofs.Common.{refl, sym, ap, subst, ◌∙◌, arith}
+use Rattle.std.specs.Prelude.{ℕ, zero, suc, ◌≡◌, ◌+◌, ◌-◌, ◌<◌, List, [], None}
+use Rattle.std.proofs.Common.{refl, sym, ap, ◌∙◌, arith}
 use Rattle.mw_line.specs.LineReader.{field_at}
 use Rattle.mw_schedule.specs.Forms.{after_line, after_lines, behind_end}
 

@@ -41,7 +41,7 @@ returns-in-Err-clause-told g c = record {
   there = sym (ap (λ l. c.loop-line.yielded ++ l) (sym c.in-Some.ensures.steps.0) ∙ c.loop-line.invariant.left);
   numbered = refl;
   was = c.loop-line.player.world;
-  what = c.asked.result;
-  asks = c.asked.ensures;
+  what = c.asked-asked.result;
+  asks = c.asked-asked.ensures;
   told = c.reason.ensures;
 }
