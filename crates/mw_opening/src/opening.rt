@@ -270,8 +270,7 @@ pub fn are_all_open<R>(files: &[Option<Opened<'_, R>>]) -> bool
 }
 
 /// The disk of a tenant's file: it keeps the last error, which file it is, and how long its calls took. `R` is the clock.
-pub type TenantDisk<'a, R> =
-    FileDisk<WatchedFile<'a, TrackedFile<'a, MeteredFile<'a, File, R>>>>;
+pub type TenantDisk<'a, R> = FileDisk<WatchedFile<'a, TrackedFile<'a, MeteredFile<'a, File, R>>>>;
 
 /// A tenant's file, and the words that it had when it was opened.
 pub type Opened<'a, R> = (TenantFile<TenantDisk<'a, R>>, Vec<u64>);

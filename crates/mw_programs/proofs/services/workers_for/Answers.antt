@@ -7,8 +7,8 @@ use Rattle.mw_service.proofs.Workers.{behind, of_next, one_more, pushed}
 use Rattle.mw_programs.proofs.services.workers_for.Goals as goal
 
 -- src/services.rt
-pub new-requires : goal.new-requires
-new-requires g c =
+pub new-worker-requires : goal.new-worker-requires
+new-worker-requires g c =
     let left = into_iter_items c.loop-pass.pass-iterator in
     let rest = into_iter_items c.next.new.self in
     let new = of_next (IsNew g.J.EngineBrand.identity) left rest c.in-Some.pass c.in-Some.ensures.steps.0 c.loop-pass.invariant.new in
