@@ -171,14 +171,7 @@ where
 }
 
 /// Serves clients, and shows the pages, if there are any and they have an address.
-fn serve_and_show<
-    'a,
-    S: Service + Send + Drop,
-    P: Pages + Send + Drop,
-    R,
-    O: Write,
-    L: Log + Sync,
->(
+fn serve_and_show<'a, S: Service + Send + Drop, P: Pages + Send + Drop, R, O: Write, L: Log + Sync>(
     rt: &R,
     services: Vec<S>,
     pages: Option<P>,
@@ -276,7 +269,15 @@ where
 {
     match &listening.admin {
         Some(admin) => {
-            serve_both(rt, services, listening, admin.as_str(), out, notes, counters)
+            serve_both(
+                rt,
+                services,
+                listening,
+                admin.as_str(),
+                out,
+                notes,
+                counters,
+            )
         }
         None => serve_one(rt, services, listening, out, notes, counters),
     }

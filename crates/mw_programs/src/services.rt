@@ -78,9 +78,7 @@ where
             let meter = counted(listening, meters);
             let workers = workers_for(rt, engine, passes, watch, meter)?;
             let counters = meters.server();
-            serve_clients(
-                rt, workers, pages, listening, out, notes, watch, counters,
-            )
+            serve_clients(rt, workers, pages, listening, out, notes, watch, counters)
         }
         Some(shared) => serve_shared(
             rt, engine, passes, pages, listening, *shared, out, notes, watch, meters,
@@ -128,9 +126,7 @@ where
     let pools = Pools::new(rt, passes, shared.readers, has_admin, meter)?;
     let borrowers = borrowers_for(rt, engine, &pools, shared.clients, watch, meter)?;
     let counters = meters.server();
-    serve_clients(
-        rt, borrowers, pages, listening, out, notes, watch, counters,
-    )
+    serve_clients(rt, borrowers, pages, listening, out, notes, watch, counters)
 }
 
 /// Makes the pages if they have an address. A worker with the last of these passes gives their figures.

@@ -1,7 +1,7 @@
 //! Implements `mwserve`: reads the command line, opens the files, and serves the tenants' words.
 //!
 //! `mwserve` calls `serve`. docs/OPERATING tells its options, notes and statuses: change them together.
-ghost use Rattle.std.specs.Prelude.{◌≡◌, ◌<◌, ◌≤◌, All, IfOk, vec_len};
+ghost use Rattle.std.specs.Prelude.{◌≡◌, ◌+◌, ◌<◌, ◌≤◌, All, IfOk, vec_len};
 ghost use Rattle.mw_config.specs.CommandLine.{ArePermittedArgs};
 ghost use Rattle.mw_config.specs.declared.command_line.Mode.TheVariants.{Listen};
 ghost use Rattle.mw_config.specs.Limits.{ArePermitted};
@@ -351,9 +351,7 @@ where
     match &args.mode {
         Mode::Script(path) => run_script(rt, &engine, passes, path.as_str(), out, watch),
         Mode::Listen(listening) => {
-            serve_all_clients(
-                rt, &engine, passes, listening, out, notes, watch, meters,
-            )
+            serve_all_clients(rt, &engine, passes, listening, out, notes, watch, meters)
         }
     }
 }
