@@ -6,6 +6,7 @@ ghost use Rattle.std.specs.Prelude.{◌≡◌, ◌≢◌, None, length};
 ghost use Rattle.std.specs.Option.{option_map};
 ghost use Rattle.mw_actor.specs.ActorState as acting;
 ghost use Rattle.mw_actor.specs.Asks.{asks};
+ghost use Rattle.mw_look.specs.Steps.{op_of};
 ghost use Rattle.mw_world.specs.Definition.Calls.{called_at};
 ghost use Rattle.mw_table.specs.CarriedRequest.{IsCarried};
 ghost use Rattle.mw_table.specs.FromRule.{ExtendsKnownRun};

@@ -1,10 +1,10 @@
 //! The lock of a tenant's file, with a room for the changes that wait for it.
 //!
-//! Used by: `engine`; `start`, which makes it; `serving`, which takes it; `end`. What is known of the file rests on
-//! the lock alone.
+//! Used by: `engine`; `start`, which makes it; `serving` and `copies`, which take it; `end`. The contracts of the file
+//! come from its lock. The room has none.
 use crate::brand::EngineBrand;
 use crate::guarded_file::GuardedFile;
-use crate::waiting_room::WaitingRoom;
+use crate::waiting_room::{WaitingRoom, strike_off};
 use mw_actor::Actor;
 use mw_core::waiting_change;
 use mw_disk::Disk;
@@ -33,17 +33,19 @@ impl<J: EngineBrand, D: Disk> FileLock<J, D> {
         file.into_inner()
     }
 
-    /// Takes the lock for the next call of a request, and calls the changes that wait. If the lock isn't free soon,
-    /// the request waits in its turn, and its change in the room if a prepare is next.
+    /// Takes the lock for the next call of a request, and lists the other changes that wait. If the lock isn't free
+    /// soon, the request waits in its turn, and its change in the room if a prepare is next.
     pub(crate) fn lock(&self, rt: &impl Wait, actor: &Actor) -> FairGuard<'_, GuardedFile<J, D>> {
-        let mut guard = match self.file.try_lock() {
-            Some(guard) => guard,
-            None => {
-                self.enter_room(rt, actor);
-                self.file.lock_in_turn(rt)
-            }
-        };
+        if let Some(mut guard) = self.file.try_lock() {
+            self.room.call_all(rt, &mut guard.value.called);
+            return guard;
+        }
+        let slot = self.enter_room(rt, actor);
+        let mut guard = self.file.lock_in_turn(rt);
         self.room.call_all(rt, &mut guard.value.called);
+        if let Some(slot) = slot {
+            strike_off(&mut guard.value.called, slot);
+        }
         guard
     }
 
@@ -52,9 +54,11 @@ impl<J: EngineBrand, D: Disk> FileLock<J, D> {
         self.file.lock(rt)
     }
 
-    fn enter_room(&self, rt: &impl Wait, actor: &Actor) {
-        if let Some(waiting) = waiting_change(actor) {
-            self.room.enter(rt, waiting);
-        }
+    /// Lets a request's change wait in the room if a prepare is next. Gives its slot then.
+    fn enter_room(&self, rt: &impl Wait, actor: &Actor) -> Option<u8> {
+        let waiting = waiting_change(actor)?;
+        let slot = waiting.slot;
+        self.room.enter(rt, waiting);
+        Some(slot)
     }
 }

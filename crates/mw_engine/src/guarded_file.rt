@@ -18,7 +18,7 @@ pub(crate) struct GuardedFile<J: EngineBrand, D: Disk> {
     pub(crate) book: Book<D>,
     pub(crate) file_pass: Option<FilePass>,
     pub(crate) tenant: u8,
-    /// The changes that waited when the lock was taken, for the call that is made then.
+    /// The changes that wait for the file, as far as whoever took its lock last knows.
     pub(crate) called: Waiters,
     pub(crate) brand: PhantomData<J>,
     ghost kept: { KeepsFor D.facts J.identity book file_pass tenant },

@@ -10,10 +10,10 @@ use std::sync::{Mutex, Wait};
 /// The most changes that wait: one for each worker.
 const SEATS: usize = MAX_WORKERS as usize;
 
-/// Some of the changes that wait for a file, in the order in which they came.
+/// Some of the changes that wait for a file.
 pub(crate) type Waiters = ArrayVec<Waiting, SEATS>;
 
-/// The changes that wait for a file, and came since the latest call on it.
+/// The changes that have begun to wait for a file since its lock was taken last.
 #[derive(Drop)]
 pub(crate) struct WaitingRoom {
     waiters: Mutex<Waiters>,
@@ -35,9 +35,8 @@ impl WaitingRoom {
         }
     }
 
-    /// Makes a list of the changes that wait here, and empties the room.
+    /// Adds the changes that wait here to a list of those that wait, and empties the room.
     pub(crate) fn call_all(&self, rt: &impl Wait, called: &mut Waiters) {
-        called.clear();
         let mut waiters = self.waiters.lock(rt);
         for waiting in waiters.as_slice() {
             if !called.is_full() {
@@ -48,5 +47,12 @@ impl WaitingRoom {
             }
         }
         waiters.clear();
+    }
+}
+
+/// Strikes the change of a slot off a list of those that wait, if it is there.
+pub(crate) fn strike_off(called: &mut Waiters, slot: u8) {
+    if let Some(index) = called.iter().position(|waiting| waiting.slot == slot) {
+        called.swap_pop(index);
     }
 }

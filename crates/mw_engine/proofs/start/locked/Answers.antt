@@ -1,6 +1,6 @@
 -- Proves goals of `locked` (src/start.rt) that the check does not prove by itself. Used by: the proof of that function alone.
 -- It may change freely as long as this crate checks.
-use Rattle.std.specs.Prelude.{◌≡◌, ◌+◌, ◌++◌, [], ◌∷◌, length, Option}
+use Rattle.std.specs.Prelude.{◌≡◌, ◌+◌, ◌++◌, length, Option}
 use Rattle.std.specs.Option.{option_to_list}
 use Rattle.std.specs.Vec.Iter.{into_iter_items}
 use Rattle.std.proofs.Common.{ap, sym, subst, ◌∙◌, length-append, arith}
@@ -45,7 +45,7 @@ loop-book-preserved g c =
     let all = inv.all in
     let of_books = ap length at in
     let of_file_passes = ap length also in
-    let more : length c.push.new.self.items ≡ length c.loop-book.made.items + 1 = ap length c.in_ok-push.ensures.items ∙ length-append c.loop-book.made.items (c.new.result ∷ []) in
+    let more : length c.push.new.self.items ≡ length c.loop-book.made.items + 1 = ap length c.in_ok-push.ensures.items ∙ length-append c.loop-book.made.items _ in
     record {
       kept = rest_kept g.D.Disk.facts g.J.EngineBrand.identity c.in-Some.book file_pass (into_iter_items c.loop-book.book-iterator) (into_iter_items c.next.new.self) (into_iter_items c.loop-book.file_passes)
           (into_iter_items c.next-in-loop-book.new.self) at also inv.kept;

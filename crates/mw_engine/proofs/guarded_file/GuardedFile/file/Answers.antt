@@ -1,6 +1,6 @@
 -- Proves goals of `GuardedFile::file` (src/file_calls.rt) that the check does not prove by itself. Used by: the proof of that
 -- function alone. It may change freely as long as this crate checks.
-use Rattle.std.proofs.Common.{length, sym, ◌∙◌}
+use Rattle.std.proofs.Common.{sym, ◌∙◌}
 use Rattle.mw_engine.proofs.GuardedFileLaws.{keeps_some, kept_over, file_pass_of, there_of}
 use Rattle.mw_engine.proofs.guarded_file.GuardedFile.file.Goals as goal
 
@@ -26,7 +26,7 @@ invariant_of-self g c =
     let taken = sym c.take.ensures.value ∙ c.in-Some.is in
     record {
       kept = keeps_some facts identity made.new.book made.result old.tenant
-          (kept_over facts c.args.core.now.shared identity c.requires.engine (length c.args.self.now.called.items) c.args.pass.now made.new.pass c.args.actor.now made.new.actor old.book made.new.book file_pass made.result (old.kept.kept file_pass taken)
+          (kept_over facts c.args.core.now.shared identity c.requires.engine _ c.args.pass.now made.new.pass c.args.actor.now made.new.actor old.book made.new.book file_pass made.result (old.kept.kept file_pass taken)
           made.ensures.files made.ensures.file_pass made.ensures.whose made.ensures.agrees)
           (made.ensures.whose ∙ old.kept.its file_pass taken);
     }
@@ -47,12 +47,12 @@ returns-clause-files g c =
       file_pass = file_pass;
       returned = made.result;
       kept_before = kept;
-      kept_after = kept_over facts c.args.core.now.shared identity c.requires.engine (length c.args.self.now.called.items) c.args.pass.now made.new.pass c.args.actor.now made.new.actor old.book made.new.book file_pass made.result kept
+      kept_after = kept_over facts c.args.core.now.shared identity c.requires.engine _ c.args.pass.now made.new.pass c.args.actor.now made.new.actor old.book made.new.book file_pass made.result kept
           made.ensures.files made.ensures.file_pass made.ensures.whose made.ensures.agrees;
       its = its;
       its_still = made.ensures.whose ∙ its;
       follows = made.ensures.follows;
       known = made.ensures.known;
-      waiting = length c.args.self.now.called.items;
+      waiting = _;
       once = made.ensures.files;
     }
