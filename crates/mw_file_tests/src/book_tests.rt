@@ -78,6 +78,10 @@ fn a_change_that_waited_is_prepared_by_no_device_call_of_its_own(rt: HostRuntime
     let last_fails = [Some(Filed::Made), Some(Filed::Made), Some(Filed::Broken)];
     same(&rt, &ahead, &Some(last_fails));
     let another = prepares_beside(rt.alloc(), failing_disk(&rt, 11), 6);
-    let second_fails = [Some(Filed::Made), Some(Filed::Broken), Some(Filed::Untouched)];
+    let second_fails = [
+        Some(Filed::Made),
+        Some(Filed::Broken),
+        Some(Filed::Untouched),
+    ];
     same(&rt, &another, &Some(second_fails));
 }

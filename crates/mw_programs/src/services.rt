@@ -17,7 +17,6 @@ use mw_engine::{Engine, EngineBrand, NoHold, Pass};
 use mw_http_server::Pages;
 use mw_meters::Meters;
 use mw_metrics::ServerCounters;
-use mw_opening::TenantDisk;
 use mw_server_pages::ServerPages;
 use mw_service::{Borrower, FaultWatch, MeteredService, PassPool, ReadPool, Worker};
 use std::alloc::AllocError;
@@ -42,13 +41,14 @@ pub(crate) fn serve_all_clients<
     'e,
     'a,
     J,
+    D: Disk + Drop + Send + Sync,
     R,
     O: Write,
     L: Log + Sync,
     T: FaultWatch + FileLook + Sync,
 >(
     rt: &'e R,
-    engine: &'e Engine<J, TenantDisk<'_, R>, NoHold>,
+    engine: &'e Engine<J, D, NoHold>,
     passes: Vec<Pass>,
     listening: &'a Listening,
     out: &mut O,
@@ -92,6 +92,7 @@ fn serve_shared<
     'e,
     'a,
     J,
+    D: Disk + Drop + Send + Sync,
     R,
     O: Write,
     L: Log + Sync,
@@ -99,7 +100,7 @@ fn serve_shared<
     T: FaultWatch + FileLook + Sync,
 >(
     rt: &'e R,
-    engine: &'e Engine<J, TenantDisk<'_, R>, NoHold>,
+    engine: &'e Engine<J, D, NoHold>,
     passes: Vec<Pass>,
     pages: Option<P>,
     listening: &'a Listening,

@@ -21,7 +21,7 @@ use mw_disk::{Disk, FileDisk};
 use mw_engine::{Engine, EngineBrand, EngineParts, NoHold, Pass};
 use mw_meters::Meters;
 use mw_opening::{
-    Cause, FileStates, LastErrors, MeteredFile, Notes, Opened, ReadFault, TenantDisk, TenantsFault,
+    Cause, FileStates, LastErrors, MeteredFile, Notes, Opened, ReadFault, TenantsFault,
     TrackedFile, WatchedFile, are_all_open, note_cause, open_files, open_plain, read_tenants_file,
 };
 use mw_service::{FaultWatch, Worker};
@@ -293,7 +293,7 @@ where
         workers_of(args),
         NoHold,
     )?;
-    serve_engine::<Brand, _, _, _, _>(rt, parts, passes, args, out, notes, watch, meters)
+    serve_engine::<Brand, _, _, _, _, _>(rt, parts, passes, args, out, notes, watch, meters)
 }
 
 /// Gives the number of workers: as many as were asked for, and one for each further address, but at most [`MAX_WORKERS`].
@@ -320,13 +320,14 @@ fn own_workers(mode: &Mode) -> u8
 fn serve_engine<
     'a,
     J: EngineBrand + Send + Sync,
+    D: Disk + Drop + Send + Sync,
     R,
     O: Write,
     L: Log + Sync,
     T: FaultWatch + FileLook + Sync,
 >(
     rt: &R,
-    parts: EngineParts<TenantDisk<'_, R>, NoHold>,
+    parts: EngineParts<D, NoHold>,
     passes: Vec<Pass>,
     args: &'a Args,
     out: &mut O,
@@ -357,9 +358,9 @@ where
 }
 
 /// Runs one session, from the script to `out`, by the first worker.
-fn run_script<'e, 'a, J: EngineBrand, R, O: Write, T: FaultWatch>(
+fn run_script<'e, 'a, J: EngineBrand, D: Disk + Drop, R, O: Write, T: FaultWatch>(
     rt: &'e R,
-    engine: &'e Engine<J, TenantDisk<'_, R>, NoHold>,
+    engine: &'e Engine<J, D, NoHold>,
     passes: Vec<Pass>,
     path: &'a str,
     out: &mut O,
