@@ -1,15 +1,16 @@
-"""A chart of what scripts/bench-server measured, as SVG: changes a second of each store, and how long a GET takes beside each load.
+"""A chart of what scripts/bench-server measured, as SVG: changes a second of each store, and how long a GET takes beside each load;
+or, of one tenant with several clients, changes a second, how long one takes, and the syncs of one.
 
 Used by: scripts/bench-server --chart; scripts/check-programs draws one of figures that are made up.
 """
 import math
 from pathlib import Path
-from typing import List, Sequence, Tuple
+from typing import Dict, List, Sequence, Tuple
 from xml.sax.saxutils import escape
 
 WIDTH, LEFT, RIGHT = 860, 330, 90
 BAR, GAP, GROUP = 14, 3, 12
-COLOURS = ("#2b6cb0", "#dd8a2e")
+COLOURS = ("#2b6cb0", "#dd8a2e", "#3f9b5f", "#a14c9c", "#8a8a8a")
 Row = Tuple[str, Sequence[float]]
 
 
@@ -24,7 +25,7 @@ def shown(value: float) -> str:
 
 
 class Panel:
-    """Bars of several rows, of two kinds each, with a title. Their lengths grow with the logarithm where that is asked for."""
+    """Bars of several rows, of two to five kinds each, with a title. Their lengths grow with the logarithm where that is asked for."""
 
     def __init__(self, title: str, kinds: Sequence[str], is_logarithmic: bool = False):
         self.title, self.kinds, self.is_logarithmic = title, kinds, is_logarithmic
@@ -41,7 +42,7 @@ class Panel:
         """The elements of the panel below a height, and where it ends."""
         out = [text(10, top + 18, self.title, ' font-weight="bold"')]
         for number, kind in enumerate(self.kinds):
-            at = LEFT + number * 230
+            at = LEFT + number * min(230, (WIDTH - LEFT) // len(self.kinds))
             out.append(f'<rect x="{at}" y="{top + 27}" width="12" height="12" fill="{COLOURS[number]}"/>')
             out.append(text(at + 18, top + 38, kind))
         y = top + 52
@@ -63,6 +64,7 @@ class Chart:
     def __init__(self) -> None:
         self.stores = Panel("Changes a second", ("one client", "sixteen clients"))
         self.gets = Panel("A GET, microseconds (the scale is logarithmic)", ("half of them take less", "99 of 100 take less"), True)
+        self.one_tenant: List[Panel] = []
 
     def add_store(self, name: str, rates: Sequence[float]) -> None:
         """A store's changes a second: of one client, and of sixteen."""
@@ -72,11 +74,20 @@ class Chart:
         """How long GETs took beside a load: half of them less, and 99 of 100."""
         self.gets.rows.append((name, microseconds))
 
+    def add_one_tenant(self, disk: str, clients: Sequence[str], stores: Dict[str, Sequence[Tuple[float, float, float, float]]]) -> None:
+        """What stores did on a disk under the loads of these clients, a figure of each kind a load: changes a second, microseconds
+        that half of them and 99 of 100 took at most, syncs a change."""
+        for part, title, is_logarithmic in ((0, f"Changes a second, {disk}", False), (3, f"Syncs a change, {disk}", False),
+                                            (2, f"99 of 100 changes take less, microseconds, {disk} (logarithmic)", True)):
+            panel = Panel(f"{title}; by clients:", clients, is_logarithmic)
+            panel.rows += [(name, [figures[part] for figures in loads]) for name, loads in stores.items()]
+            self.one_tenant.append(panel)
+
     def svg(self) -> str:
         """The chart, of the panels that have rows."""
         out: List[str] = []
         y = 0.0
-        for panel in (self.stores, self.gets):
+        for panel in (self.stores, self.gets, *self.one_tenant):
             if panel.rows:
                 elements, y = panel.draw(y)
                 out += elements

@@ -218,4 +218,17 @@ def try_chart(folder):
     same((len(bars), [it for it in ("a <store>", "alone", "2,000", "10", "26", "0.0") if it not in said]), (4, []), "a chart")
     longest = float(bars[1].get("width"))
     same((float(bars[0].get("width")), float(bars[3].get("width"))), (round(longest / 200, 1), 0.0), "the bars of a chart")
+    try_chart_of_one_tenant(folder)
     print("the chart of bench-server has a bar for each figure")
+
+
+def try_chart_of_one_tenant(folder):
+    """That of one tenant has a bar of its own for each load, of changes a second, of syncs a change and of times."""
+    chart = Chart()
+    chart.add_one_tenant("a disk", ["1", "4", "16", "64", "one word"], {"a <store>": [(2000 + k, 50, 100 + k, 4.5 - k) for k in range(5)]})
+    chart.write(folder / "chart.svg")
+    root = ElementTree.parse(folder / "chart.svg").getroot()
+    said = [it.text for it in root.iter() if it.tag.endswith("text")]
+    bars = [it for it in root.iter() if it.tag.endswith("rect") and it.get("height") == str(chart_module.BAR)]
+    wanted = ("2,000", "2,004", "4.5", "0.5", "100", "104", "one word")
+    same((len(bars), [it for it in wanted if it not in said]), (15, []), "a chart of one tenant")

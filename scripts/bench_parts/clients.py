@@ -1,0 +1,223 @@
+"""What clients of a store do, each in a process of its own, and how long each of their requests took.
+
+Used by: scripts/bench-server and one_tenant.py.
+"""
+import multiprocessing
+import os
+import socket
+import sqlite3
+import time
+
+HOST = "127.0.0.1"
+WORDS = 4096
+RECORD = 264
+
+
+def wrong(text):
+    raise SystemExit(f"bench-server: {text}")
+
+
+# What a client does: each yields once for every request that was answered.
+
+
+def syncs(path):
+    """Writes a few bytes and syncs the file, again and again."""
+    file = os.open(path, os.O_RDWR | os.O_CREAT, 0o600)
+    os.pwrite(file, bytes(1 << 16), 0)
+    os.fsync(file)
+    number = 0
+    while True:
+        number += 1
+        os.pwrite(file, number.to_bytes(8, "little") * (RECORD // 8), RECORD * (number % 32))
+        os.fdatasync(file)
+        yield
+
+
+class Line:
+    """A connection that sends a line, and reads the reply."""
+
+    def __init__(self, port):
+        self.socket = socket.create_connection((HOST, port))
+        self.socket.setsockopt(socket.IPPROTO_TCP, socket.TCP_NODELAY, 1)
+        self.rest = b""
+
+    def ask(self, line):
+        self.socket.sendall(line)
+        while b"\n" not in self.rest:
+            piece = self.socket.recv(4096)
+            if not piece:
+                wrong("a connection ended")
+            self.rest += piece
+        reply, _, self.rest = self.rest.partition(b"\n")
+        return reply
+
+
+def changes(port, tenant, word=0):
+    """Counts a word of a tenant up, from what it is. A change that is answered BUSY is asked for again."""
+    line = Line(port)
+    if not line.ask(b"TENANT t%d\n" % tenant).startswith(b"OK "):
+        wrong("no such tenant")
+    value = int(line.ask(b"GET %d\n" % word).split()[1])
+    while True:
+        reply = b"BUSY"
+        while reply == b"BUSY":
+            reply = line.ask(b"CAS %d:%d:%d\n" % (word, value, value + 1))
+        if reply != b"YES":
+            wrong(f"{reply!r} in place of YES")
+        value += 1
+        yield
+
+
+def gets(port, tenant):
+    """Reads a tenant's last word."""
+    line = Line(port)
+    line.ask(b"TENANT t%d\n" % tenant)
+    while True:
+        if not line.ask(b"GET %d\n" % (WORDS - 1)).startswith(b"VAL "):
+            wrong("no value")
+        yield
+
+
+def contended_changes(port, tenant, word=0):
+    """Counts a word up that others count up too, by one each time: after a NO it asks again, with the value that it was told."""
+    line = Line(port)
+    if not line.ask(b"TENANT t%d\n" % tenant).startswith(b"OK "):
+        wrong("no such tenant")
+    value = int(line.ask(b"GET %d\n" % word).split()[1])
+    while True:
+        reply = line.ask(b"CAS %d:%d:%d\n" % (word, value, value + 1))
+        while reply != b"YES":
+            if reply.startswith(b"NO "):
+                value = int(reply.split()[2])
+            elif reply != b"BUSY":
+                wrong(f"{reply!r} in place of YES, NO or BUSY")
+            reply = line.ask(b"CAS %d:%d:%d\n" % (word, value, value + 1))
+        value += 1
+        yield
+
+
+def sqlite_changes(path, address=0, is_shared=False):
+    """Counts a word of a table up, where it is what is expected, and has it synced. What a shared word is it looks up again, where
+    nothing was changed."""
+    base = sqlite3.connect(path, timeout=60, isolation_level=None)
+    base.execute("PRAGMA journal_mode=WAL")
+    base.execute("PRAGMA synchronous=FULL")
+    base.execute("CREATE TABLE IF NOT EXISTS words (address INTEGER PRIMARY KEY, value INTEGER)")
+    base.execute("INSERT OR IGNORE INTO words VALUES (?, 0)", (address,))
+    look = lambda: base.execute("SELECT value FROM words WHERE address = ?", (address,)).fetchone()[0]
+    change = lambda: base.execute("UPDATE words SET value = ? WHERE address = ? AND value = ?", (value + 1, address, value)).rowcount
+    value = look()
+    while True:
+        while change() != 1:
+            if not is_shared:
+                wrong("SQLite changed nothing")
+            value = look()
+        value += 1
+        yield
+
+
+LUA = "if redis.call('GET', KEYS[1]) == ARGV[1] then redis.call('SET', KEYS[1], ARGV[2]) return 1 else return 0 end"
+
+
+def redis_changes(port, number, is_shared=False):
+    """Counts a word of Redis up, by a script that compares it first. What a shared word is it looks up again, where nothing was
+    changed."""
+    line = Line(port)
+    ask = lambda *words: line.ask(b"".join([b"*%d\r\n" % len(words), *(b"$%d\r\n%s\r\n" % (len(it), it) for it in words)]))
+    key = b"word%d" % number
+    ask(b"SET", key, b"0", b"NX")
+
+    def look():
+        ask(b"GET", key)
+        return int(line.ask(b""))
+
+    value = look()
+    while True:
+        while ask(b"EVAL", LUA.encode(), b"1", key, b"%d" % value, b"%d" % (value + 1)) != b":1\r":
+            if not is_shared:
+                wrong("Redis changed nothing")
+            value = look()
+        value += 1
+        yield
+
+
+def etcd_changes(port, number, is_shared=False):
+    """Counts a word of etcd up, by a transaction that compares it first. What a shared word is it looks up again, where nothing was
+    changed."""
+    import base64
+    import http.client
+    import json
+
+    text = lambda it: base64.b64encode(it.encode()).decode()
+    link, key = http.client.HTTPConnection(HOST, port), text(f"word{number}")
+    link.connect()
+    link.sock.setsockopt(socket.IPPROTO_TCP, socket.TCP_NODELAY, 1)
+
+    def ask(path, what):
+        link.request("POST", f"/v3/kv/{path}", json.dumps(what))
+        return json.loads(link.getresponse().read())
+
+    def look():
+        return int(base64.b64decode(ask("range", {"key": key})["kvs"][0]["value"]))
+
+    def change():
+        compare = [{"key": key, "target": "VALUE", "value": text(str(value))}]
+        put = [{"requestPut": {"key": key, "value": text(str(value + 1))}}]
+        return ask("txn", {"compare": compare, "success": put}).get("succeeded")
+
+    new = [{"key": key, "target": "VERSION", "version": "0"}]
+    ask("txn", {"compare": new, "success": [{"requestPut": {"key": key, "value": text("0")}}]})
+    value = look()
+    while True:
+        while not change():
+            if not is_shared:
+                wrong("etcd changed nothing")
+            value = look()
+        value += 1
+        yield
+
+
+def client(what, gate, seconds, pins, given):
+    """Does what a client does for so long, once all clients are at the gate, and gives how long each request took. It does it once
+    before."""
+    if pins:
+        os.sched_setaffinity(0, pins.timed if what[0] is gets else pins.load)
+    works, took = iter(what[0](*what[1:])), []
+    next(works)
+    gate.wait()
+    before = time.monotonic()
+    end = before + seconds
+    while before < end:
+        next(works)
+        after = time.monotonic()
+        took.append(after - before)
+        before = after
+    given.put((what[0].__name__, took))
+
+
+def together(seconds, *whats, pins=None, by=multiprocessing):
+    """What these clients took, all at once, each in a process of its own: by kind, the times of all requests. `by`: how processes
+    are started."""
+    given, gate = by.Queue(), by.Barrier(len(whats))
+    processes = [by.Process(target=client, args=(it, gate, seconds, pins, given)) for it in whats]
+    for it in processes:
+        it.start()
+    took = {}
+    for _ in processes:
+        try:
+            kind, times = given.get(timeout=seconds + 60)
+        except Exception:
+            wrong("a client ended by a fault")
+        took.setdefault(kind, []).extend(times)
+    for it in processes:
+        it.join()
+    return took
+
+
+def rate(took, seconds):
+    return sum(map(len, took.values())) / seconds
+
+
+def quantile(times, part):
+    times = sorted(times)
+    return times[min(len(times) - 1, int(len(times) * part))]

@@ -1,0 +1,169 @@
+"""Times changes of one tenant by several clients, and counts the syncs of them, beside other stores with as many clients.
+
+A row is told for each store and each number of clients: changes a second; how long a change takes, half of them less and 99 of
+100 less; and how many syncs the store made for a change. All are medians of the turns. The clients have a word each, or all
+have one. Of one word each client adds 1 again and again: its change is asked for until it is made, with the value that the word
+was found to have, and takes as long as all of this.
+
+Syncs are counted, and made slower, by slow_syncs.c, which is put under a store; under etcd, which no library can be put under,
+by strace, which looks at its syncs alone. So what is told of etcd is what it does under strace.
+
+Used by: scripts/bench-server --one-tenant.
+"""
+import multiprocessing
+import os
+import shutil
+import sqlite3
+import tempfile
+from contextlib import contextmanager
+from pathlib import Path
+from statistics import median
+from typing import Callable, Dict, Iterator, List, NamedTuple, Sequence, Tuple
+
+from .chart import Chart
+from .clients import HOST, changes, contended_changes, etcd_changes, quantile, redis_changes, sqlite_changes, together, wrong
+from .stores import Other, Server, compiled, free_port, number, row
+
+DELAYS = {0: "the disk as it is", 2000: "each sync 2 ms longer"}
+"""By how many microseconds a sync is longer."""
+APART = 16
+QUOTA = WORKERS = 64
+
+
+class Load(NamedTuple):
+    """So many clients, with a word each or with one for all."""
+    clients: int
+    is_shared: bool = False
+
+    def text(self) -> str:
+        return f"{self.clients} of one word" if self.is_shared else str(self.clients)
+
+
+LOADS = (Load(1), Load(4), Load(16), Load(64), Load(16, True))
+
+
+class Figures(NamedTuple):
+    """Changes a second; how many microseconds one takes, half of them less and 99 of 100 less; and the syncs a change."""
+    rate: float
+    half: float
+    most: float
+    syncs: float
+
+
+class Running(NamedTuple):
+    """A store that runs: what a client of a word does; how many syncs were made so far; and how its clients' processes are
+    started."""
+    client: Callable[[int, bool], Tuple]
+    syncs: Callable[[], int]
+    by: object = multiprocessing
+
+
+class Counter:
+    """A file in which syncs are counted, and the environment of a process whose syncs are counted there."""
+
+    def __init__(self, room: Path, library: Path, delay: int) -> None:
+        self.path = room / "syncs"
+        self.path.write_bytes(bytes(8))
+        self.environment = {"LD_PRELOAD": str(library), "SYNC_DELAY": str(delay), "SYNC_COUNT": str(self.path)}
+
+    def syncs(self) -> int:
+        return int.from_bytes(self.path.read_bytes(), "little")
+
+
+@contextmanager
+def mondlexi(program: Path, room: Path, library: Path, delay: int) -> Iterator[Running]:
+    """An mwserve with one tenant."""
+    counter = Counter(room, library, delay)
+    with Server(program, room, workers=WORKERS, tenants=1, quota=QUOTA, environment=counter.environment) as server:
+        yield Running(lambda word, is_shared: (contended_changes if is_shared else changes, server.port, 0, APART * word), counter.syncs)
+
+
+@contextmanager
+def sqlite(room: Path, library: Path, delay: int) -> Iterator[Running]:
+    """One file for all clients. The library is put under each of them, since SQLite has no server."""
+    counter = Counter(room, library, delay)
+    before = dict(os.environ)
+    os.environ.update(counter.environment)
+    try:
+        yield Running(lambda word, is_shared: (sqlite_changes, room / "base", word, is_shared), counter.syncs,
+                      multiprocessing.get_context("spawn"))
+    finally:
+        os.environ.clear()
+        os.environ.update(before)
+
+
+@contextmanager
+def redis(room: Path, library: Path, delay: int) -> Iterator[Running]:
+    """One log for all clients, synced before a reply."""
+    counter, port = Counter(room, library, delay), free_port()
+    words = ["redis-server", "--port", str(port), "--dir", str(room), "--appendonly", "yes", "--appendfsync", "always", "--save", ""]
+    with Other(words, port, counter.environment):
+        yield Running(lambda word, is_shared: (redis_changes, port, word, is_shared), counter.syncs)
+
+
+@contextmanager
+def etcd(room: Path, library: Path, delay: int) -> Iterator[Running]:
+    """One log for all clients, under strace."""
+    told, port = room / "syncs", free_port()
+    at, peer = f"http://{HOST}:{port}", f"http://{HOST}:{free_port()}"
+    words = ["strace", "-f", "-qq", "--seccomp-bpf", "-o", str(told), "-e", "trace=fsync,fdatasync"]
+    words += ["-e", f"inject=fsync,fdatasync:delay_enter={delay}"] if delay else []
+    words += ["etcd", "--data-dir", str(room / "etcd"), "--listen-client-urls", at, "--advertise-client-urls", at]
+    words += ["--listen-peer-urls", peer, "--initial-advertise-peer-urls", peer, "--initial-cluster", f"default={peer}"]
+    with Other(words, port):
+        yield Running(lambda word, is_shared: (etcd_changes, port, word, is_shared), lambda: told.read_text().count("sync("))
+
+
+def stores_of(programs: Sequence[Path]) -> Dict[str, Callable]:
+    """All stores that are there, by name."""
+    def of(program: Path) -> Callable:
+        return lambda room, library, delay: mondlexi(program, room, library, delay)
+
+    stores: Dict[str, Callable] = {f"Mondlexi, {program}": of(program) for program in programs}
+    stores[f"SQLite {sqlite3.sqlite_version}, WAL, FULL"] = sqlite
+    if shutil.which("redis-server"):
+        stores["Redis, a script, fsync always"] = redis
+    if shutil.which("etcd") and shutil.which("strace"):
+        stores["etcd, a transaction"] = etcd
+    return stores
+
+
+def figures_of(running: Running, load: Load, seconds: float) -> Figures:
+    """What clients find in so many seconds. Each makes a change before it begins to time."""
+    before = running.syncs()
+    clients = [running.client(0 if load.is_shared else word, load.is_shared) for word in range(load.clients)]
+    took = together(seconds, *clients, by=running.by)
+    times = [time for all_times in took.values() for time in all_times]
+    if not times:
+        wrong("no change was made")
+    syncs = (running.syncs() - before) / (len(times) + load.clients)
+    return Figures(len(times) / seconds, median(times) * 1e6, quantile(times, 0.99) * 1e6, syncs)
+
+
+def by_turns(stores: Dict[str, Callable], folder: Path, library: Path, delay: int, seconds: float, turns: int) -> Dict[Tuple[str, Load], Figures]:
+    """The figures of each store under each load: the medians of the turns, in each of which every store is new."""
+    found: Dict[Tuple[str, Load], List[Figures]] = {}
+    for _ in range(turns):
+        for name, store in stores.items():
+            with tempfile.TemporaryDirectory(dir=folder) as room, store(Path(room), library, delay) as running:
+                for load in LOADS:
+                    found.setdefault((name, load), []).append(figures_of(running, load, seconds))
+    return {key: Figures(*map(median, zip(*told))) for key, told in found.items()}
+
+
+def time_one_tenant(programs: Sequence[Path], folder: str, seconds: float, turns: int, chart: Chart) -> None:
+    """Prints the rows, and adds them to a chart."""
+    if not shutil.which("cc"):
+        wrong("there is no C compiler cc, so syncs can't be counted")
+    stores = stores_of(programs)
+    with tempfile.TemporaryDirectory() as built:
+        library = compiled(built, "slow_syncs", "-shared", "-fPIC", "-ldl")
+        for delay, disk in DELAYS.items():
+            row(f"one tenant, {disk}", "changes/s", "50 %, us", "99 %, us", "syncs/change")
+            found = by_turns(stores, Path(folder), library, delay, seconds, turns)
+            for name in stores:
+                row(name)
+                for load in LOADS:
+                    it = found[name, load]
+                    row(f"  clients: {load.text()}", number(it.rate), number(it.half), number(it.most), number(it.syncs, 2))
+            chart.add_one_tenant(disk, [load.text() for load in LOADS], {name: [found[name, load] for load in LOADS] for name in stores})
