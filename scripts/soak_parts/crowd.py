@@ -15,7 +15,6 @@ from typing import Deque, List, Sequence, Tuple
 from .history import Answer, Entry, Reply, Request
 from .server import HOST, PATIENCE, Server, Tenant, Wrong
 
-MOST_ENTRIES = 16
 MOST_UNDER_WAY = 3
 """How many lines a client sends before it reads a reply."""
 SHARE_OF_READS = 0.3
@@ -38,7 +37,7 @@ class View:
         """Something to ask for: an address to read, or the entries of a change."""
         if dice.random() < SHARE_OF_READS:
             return dice.randrange(self.tenant.words), ()
-        count = dice.randint(1, min(MOST_ENTRIES, self.tenant.words))
+        count = dice.randint(1, min(self.tenant.most_entries, self.tenant.words))
         return 0, tuple(self.entry(dice, address) for address in sorted(dice.sample(range(self.tenant.words), count)))
 
     def entry(self, dice: random.Random, address: int) -> Entry:
@@ -129,16 +128,17 @@ def read_reply(line: str, request: Request) -> Reply:
 
 
 class Crowd:
-    """The clients of one life of a server, each of one tenant of `views`, by turns."""
+    """The clients of one life of a server, as many of each view's tenant as it has."""
 
-    def __init__(self, server: Server, views: Sequence[View], clients: int, dice: random.Random) -> None:
+    def __init__(self, server: Server, views: Sequence[View], dice: random.Random) -> None:
         self.server = server
         self.dice = dice
         self.selector = selectors.DefaultSelector()
         self.numbers = itertools.count(1)
         self.lost: List[Request] = []
-        for view in itertools.islice(itertools.cycle(views), clients):
-            self.join(view)
+        for view in views:
+            for _ in range(view.tenant.clients):
+                self.join(view)
 
     def join(self, view: View) -> None:
         """A further client."""

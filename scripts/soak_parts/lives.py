@@ -13,13 +13,15 @@ from .checker import judge, judge_faults
 from .crowd import Crowd, View, undecided_until
 from .history import UNDECIDED, Answer, Epoch, Request
 from .layout import SET
-from .recording import FileLog, after_power_cut, calls_behind_a_failure
+from .recording import FileLog, Kind, after_power_cut, calls_behind_a_failure
 from .server import POOL, Programs, Server, Tenant, Wrong, make_files, random_plan
 
 TENANTS = (Tenant("narrow", 3, 1, 1), Tenant("busy", 4, 3, 4), Tenant("broad", 8, 8, 8), Tenant("single", 1, 2, 2),
-           Tenant("neighbour", 5, 16, 32))
-CLIENTS = 25
-WORKERS = (["--workers", "40"], ["--clients", "40", "--workers", "6"])
+           Tenant("neighbour", 5, 16, 32), Tenant("crowded", 48, 16, 16, clients=16, most_entries=3))
+CROWDED = TENANTS[-1]
+"""The tenant of many clients, whose changes have few words: many of them are under way at a time, and share syncs."""
+CLIENTS = sum(tenant.clients for tenant in TENANTS)
+WORKERS = (["--workers", "56"], ["--clients", "56", "--workers", "6"])
 """A worker for each client, or fewer that they share: each life has the one or the other."""
 LONGEST_LIFE = 1.5
 SHARE_OF_FAILING_FILES = 0.15
@@ -49,6 +51,8 @@ class Found:
     undecided_found: int = 0
     made: int = 0
     judged: int = 0
+    crowded_changes: int = 0
+    crowded_syncs: int = 0
 
     def lines(self, seconds: float, cuts: bool) -> List[str]:
         """What to print."""
@@ -60,6 +64,8 @@ class Found:
                 f"{sum(self.answers.values())} requests of {CLIENTS} clients on {len(TENANTS)} tenants: {told}",
                 f"{self.calls} writes and syncs, {self.failing_calls} calls let fail; up to {self.most_open} changes of a tenant "
                 "at once durable and not finished",
+                f"tenant {CROWDED.name}, {CROWDED.clients} clients: {self.crowded_syncs} syncs of its file, those of openings among "
+                f"them, for {self.crowded_changes} changes that were answered YES",
                 f"{self.judged} histories judged: {self.made} changes made, all found; of {self.undecided} more that had no "
                 f"reply, or were under way when a call failed, {self.undecided_found} found, wholly"]
 
@@ -124,7 +130,7 @@ class Lives:
             self.read_words(server, tenant)
         if seconds is None:
             return
-        crowd = Crowd(server, list(self.views.values()), CLIENTS, self.dice)
+        crowd = Crowd(server, list(self.views.values()), self.dice)
         try:
             crowd.run(seconds)
             if self.dice.random() < SHARE_OF_HOLD_UPS:
@@ -183,6 +189,8 @@ class Lives:
             log = logs.get(tenant.name, FileLog())
             requests, view.requests = view.requests, []
             self.found.answers.update(request.reply.answer for request in requests)
+            if tenant is CROWDED:
+                self.found.crowded_changes += sum(request.writes and request.reply.answer is Answer.YES for request in requests)
             if self.programs.recorder is not None:
                 self.found.complaints += judge_faults(tenant.name, requests, log.failed_at)
                 self.look_at_calls(tenant, log)
@@ -198,6 +206,8 @@ class Lives:
         if calls_behind_a_failure(log):
             self.found.complaints.append(f"tenant {tenant.name}: calls on its file after one that had failed")
         self.found.calls += len(log.calls)
+        if tenant is CROWDED:
+            self.found.crowded_syncs += sum(call.kind is Kind.SYNC for call in log.calls)
         self.found.failing_calls += log.failed_at is not None
         self.found.cut_calls += unsynced(log)
         self.found.most_open = max(self.found.most_open, most_open(log))

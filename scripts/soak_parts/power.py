@@ -12,9 +12,9 @@ from .layout import read_file
 from .recording import Disk, FileLog, cuts, image, plain_images, random_image
 from .server import Plan, Programs, Server, Tenant, Wrong, make_files
 
-RECORDED = (Tenant("alone", 2, 1, 1), Tenant("pair", 3, 2, 2), Tenant("four", 8, 4, 8))
-CLIENTS = {"alone": 1, "pair": 2, "four": 4}
-WORKERS = ["--workers", "20"]
+RECORDED = (Tenant("alone", 2, 1, 1, clients=1), Tenant("pair", 3, 2, 2, clients=2), Tenant("four", 8, 4, 8, clients=4),
+            Tenant("crowded", 24, 16, 16, clients=16, most_entries=2))
+WORKERS = ["--workers", "32"]
 SHORTEST_RECORDING, LONGEST_RECORDING = 0.01, 0.05
 SHARE_OF_FAILURES = 0.4
 SLOTS = 16
@@ -158,8 +158,7 @@ class Power:
         server = Server(self.programs, folder, RECORDED, WORKERS, plan)
         try:
             server.wait_until_ready()
-            every = [view for view in views for _ in range(CLIENTS[view.tenant.name])]
-            crowd = Crowd(server, every, len(every), self.dice)
+            crowd = Crowd(server, views, self.dice)
             crowd.run(self.dice.uniform(SHORTEST_RECORDING, LONGEST_RECORDING))
         finally:
             server.kill()

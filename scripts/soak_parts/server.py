@@ -27,11 +27,14 @@ class Wrong(Exception):
 
 @dataclass(frozen=True)
 class Tenant:
-    """A tenant: its name, and how many words, changes under way and record places it has."""
+    """A tenant: its name, and how many words, changes under way and record places it has; how many clients, and how many
+    entries a change of theirs has at most."""
     name: str
     words: int
     quota: int
     places: int
+    clients: int = 5
+    most_entries: int = 16
 
     def path(self, folder: Path) -> Path:
         """Its file."""
