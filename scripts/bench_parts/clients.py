@@ -99,7 +99,7 @@ def contended_changes(port, tenant, word=0):
 def sqlite_changes(path, address=0, is_shared=False):
     """Counts a word of a table up, where it is what is expected, and has it synced. What a shared word is it looks up again, where
     nothing was changed."""
-    base = sqlite3.connect(path, timeout=60, isolation_level=None)
+    base = sqlite3.connect(path, timeout=600, isolation_level=None)
     base.execute("PRAGMA journal_mode=WAL")
     base.execute("PRAGMA synchronous=FULL")
     base.execute("CREATE TABLE IF NOT EXISTS words (address INTEGER PRIMARY KEY, value INTEGER)")
@@ -205,7 +205,7 @@ def together(seconds, *whats, pins=None, by=multiprocessing):
     took = {}
     for _ in processes:
         try:
-            kind, times = given.get(timeout=seconds + 60)
+            kind, times = given.get(timeout=seconds + 300)
         except Exception:
             wrong("a client ended by a fault")
         took.setdefault(kind, []).extend(times)
