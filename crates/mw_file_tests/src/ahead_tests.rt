@@ -1,75 +1,21 @@
 //! Tests the calls on a tenant's file that prepare changes ahead, also with a crash in each.
 //!
 //! It may change freely as long as this crate checks and its tests pass.
-ghost use Rattle.std.specs.Prelude.{◌≡◌, ◌<◌, true, length, [], ◌∷◌};
-ghost use Rattle.mw_file.specs.File.{words_of, states_of};
-ghost use Rattle.mw_file.specs.NewChanges.{MayPrepare};
-ghost use Rattle.mw_file.specs.PlaceStates.{stage_of};
-
+use crate::calls::{prepare, prepare_all, seal, seal_with, settle, settle_all};
 use crate::file_tests::{
-    ONES, TORN, Trouble, Words, change, may_seal, over_and_over, prepare, seal, settle,
-    troubled_file, words_left,
+    ONES, TORN, Trouble, Words, change, over_and_over, troubled_file, words_left,
 };
 use crate::same::{same, same_at};
 use mw_disk::MemDisk;
 use mw_file::*;
-use mw_words::is_change;
 use std::process::Abort;
 use std::slice;
-
-/// Tells whether a place is one of the file's and free.
-fn is_free(states: &[PlaceState], place: Place) -> bool
-    ensures there { result ≡ true → place.0 < length states.now }
-    ensures free { result ≡ true → stage_of states.now place.0 ≡ Stage.Free }
-{
-    match states.get(place.0 as usize) {
-        Some(state) => state.stage == Stage::Free,
-        None => false,
-    }
-}
-
-/// Tells whether a change may be prepared.
-fn may_prepare(file: &TenantFile<MemDisk>, change: &NewChange) -> bool
-    ensures { result ≡ true → MayPrepare (words_of file.now) (states_of file.now) (change.now ∷ []) }
-{
-    is_free(file.states(), change.place) && is_change(&change.entries, usize::from(file.words()))
-}
 
 /// The change of the second word of a file to 2, in the second place.
 fn waiting() -> NewChange {
     NewChange {
         place: Place(1),
         entries: change(&[(1, 2)]),
-    }
-}
-
-/// Prepares the change that waits, if it may be prepared.
-fn prepare_waiting(file: &mut TenantFile<MemDisk>) -> Option<Result<(), FileFault>> {
-    let waiting = waiting();
-    if may_prepare(file, &waiting) {
-        Some(file.prepare_all(slice::from_ref(&waiting)))
-    } else {
-        None
-    }
-}
-
-/// Seals the change of the first place, and prepares the one that waits, if both may be done.
-fn seal_with_waiting(file: &mut TenantFile<MemDisk>) -> Option<Result<(), FileFault>> {
-    let waiting = waiting();
-    if may_seal(file.states(), Place(0)) && may_prepare(file, &waiting) {
-        Some(file.seal_with(Place(0), slice::from_ref(&waiting)))
-    } else {
-        None
-    }
-}
-
-/// Settles all sealed changes, and prepares the one that waits, if it may be prepared.
-fn settle_with_waiting(file: &mut TenantFile<MemDisk>) -> Option<Result<(), FileFault>> {
-    let waiting = waiting();
-    if may_prepare(file, &waiting) {
-        Some(file.settle_all(slice::from_ref(&waiting)))
-    } else {
-        None
     }
 }
 
@@ -88,7 +34,7 @@ fn a_crash_in_a_seal_leaves_nothing_of_a_change_that_waits(rt: HostRuntime) {
     for calls in 0..=5 {
         let mut file = troubled_file(&rt, calls, Trouble::Stop);
         let _ = prepare(&mut file, &change(&[(0, 1)]));
-        let _ = seal_with_waiting(&mut file);
+        let _ = seal_with(&mut file, Place(0), slice::from_ref(&waiting()));
         for torn in TORN {
             let words = words_left(&rt, &file, &over_and_over(&rt, torn));
             same_at(&rt, u64::from(calls), &may_leave(calls, words), &true);
@@ -109,20 +55,22 @@ fn taken_through(
     file: &mut TenantFile<MemDisk>,
     ahead: Ahead,
 ) -> [Option<Result<(), FileFault>>; 4] {
+    let waiting = waiting();
+    let changes = slice::from_ref(&waiting);
     let prepared = prepare(file, &change(&[(0, 1)])).map(|told| told.map(|_| ()));
-    let waiting = match ahead {
-        Ahead::Prepare => prepare_waiting(file),
+    let first = match ahead {
+        Ahead::Prepare => prepare_all(file, changes),
         Ahead::Seal | Ahead::Settle => Some(Ok(())),
     };
     let sealed = match ahead {
-        Ahead::Seal => seal_with_waiting(file),
+        Ahead::Seal => seal_with(file, Place(0), changes),
         Ahead::Prepare | Ahead::Settle => seal(file, Place(0)),
     };
     let settled = match ahead {
-        Ahead::Settle => settle_with_waiting(file),
+        Ahead::Settle => settle_all(file, changes),
         Ahead::Prepare | Ahead::Seal => settle(file, Place(0)),
     };
-    [prepared, waiting, sealed, settled]
+    [prepared, first, sealed, settled]
 }
 
 #[test]

@@ -1,5 +1,5 @@
-//! Tests every byte that the calls on a file write: those of a change, of a cancel, of an opening that finishes open
-//! records, and of a migration. What must be written is laid out by hand, by the tables of docs/FILES.md.
+//! Tests every byte that the calls on a file write: those of a change, of several changes that share syncs, of a cancel, of
+//! an opening that finishes open records, and of a migration. What must be written is laid out by hand, by the tables of docs/FILES.md.
 //!
 //! All files here have 300 words, and their bytes are at these offsets:
 //!
@@ -15,12 +15,12 @@
 //! | 5528 | bytes that nobody looks at, up to 5568 |
 //!
 //! Nothing else uses it: it may change with what it tests.
-use crate::file_tests::{
-    MEMORY, cancel, change, disk_with, opened, opening, prepare, seal, settle,
-};
+use crate::calls::{cancel, prepare, prepare_all, seal, seal_with, settle, settle_all};
+use crate::file_tests::{MEMORY, change, disk_with, opened, opening};
 use crate::same::{same, same_at};
 use mw_disk::{Disk, MemDisk};
-use mw_file::{Place, TenantFile};
+use mw_file::{NewChange, Place, TenantFile};
+use mw_words::Entries;
 use std::process::Abort;
 
 /// Bytes of a file, with the offset at which they begin.
@@ -129,12 +129,15 @@ enum Play {
     Change,
     /// Two changes are prepared in the opened file. The first is canceled, and another is prepared.
     Cancel,
+    /// Two changes are prepared, sealed one after the other, and settled together.
+    Share,
+    /// A change is prepared. Its seal prepares another one, and the settle of that one a third.
+    Ahead,
 }
 
 /// Prepares, seals and settles the change of words 0 and 258.
 fn make_change(file: &mut TenantFile<MemDisk>) {
-    let entries = change(&[(0, 0x0605_0403_0201), (258, 0x1615_1413_1211)]);
-    let _ = prepare(file, &entries);
+    let _ = prepare(file, &two_words());
     let _ = seal(file, Place(0));
     let _ = settle(file, Place(0));
 }
@@ -162,11 +165,52 @@ const SIXTEEN: [(u16, u64); 16] = [
 /// Prepares the change of words 0 and 258, and one of sixteen words. Cancels the first, and prepares the
 /// change of word 299.
 fn cancel_one(file: &mut TenantFile<MemDisk>) {
-    let entries = change(&[(0, 0x0605_0403_0201), (258, 0x1615_1413_1211)]);
-    let _ = prepare(file, &entries);
+    let _ = prepare(file, &two_words());
     let _ = prepare(file, &change(&SIXTEEN));
     let _ = cancel(file, Place(0));
     let _ = prepare(file, &change(&[(299, 7)]));
+}
+
+/// Makes the change of words 0 and 258.
+fn two_words() -> Entries {
+    change(&[(0, 0x0605_0403_0201), (258, 0x1615_1413_1211)])
+}
+
+/// Prepares the change of words 0 and 258 and that of words 1 and 299. Seals the second, then the first, and settles
+/// both.
+fn share_syncs(file: &mut TenantFile<MemDisk>) {
+    let changes = [
+        NewChange {
+            place: Place(0),
+            entries: two_words(),
+        },
+        NewChange {
+            place: Place(1),
+            entries: change(&[(1, 65), (299, 9)]),
+        },
+    ];
+    let _ = prepare_all(file, &changes);
+    let _ = seal(file, Place(1));
+    let _ = seal(file, Place(0));
+    let _ = settle_all(file, &[]);
+}
+
+/// Makes the change of word 299, to be prepared in this place.
+fn new_in(place: u16) -> [NewChange; 1] {
+    [NewChange {
+        place: Place(place),
+        entries: change(&[(299, 9)]),
+    }]
+}
+
+/// Prepares the change of words 0 and 258. Its seal prepares that of word 299, and after its settle that one is
+/// sealed, and settled with the same change prepared once more.
+fn prepare_ahead(file: &mut TenantFile<MemDisk>) {
+    let _ = prepare(file, &two_words());
+    let _ = seal_with(file, Place(0), &new_in(1));
+    let _ = settle_all(file, &[]);
+    let _ = seal(file, Place(1));
+    let _ = settle_all(file, &new_in(0));
 }
 
 /// Gives the disk with the file of these bytes with which this is done, if it stops after so many calls.
@@ -182,6 +226,8 @@ fn played<R: Abort + AllocGlobal>(rt: &R, start: &[u8], play: Play, calls: u64) 
         Play::Open => {}
         Play::Change => make_change(&mut file),
         Play::Cancel => cancel_one(&mut file),
+        Play::Share => share_syncs(&mut file),
+        Play::Ahead => prepare_ahead(&mut file),
     }
     file.into_disk()
 }
@@ -244,12 +290,12 @@ const HOME_258: Called = Called::Wrote(4664, 8, &[(4664, b"\x11\x12\x13\x14\x15\
 const CHANGE: [Called; 9] = [
     TWO_ENTRIES,
     Called::Synced,
-    Called::Wrote(5000, 1, &[(5000, b"\xa5")]),
+    SET_0,
     Called::Synced,
     HOME_0,
     HOME_258,
     Called::Synced,
-    Called::Wrote(5000, 1, &[(5000, b"\0")]),
+    CLEAR_0,
     Called::Synced,
 ];
 
@@ -301,6 +347,96 @@ fn bytes_of_a_cancel(rt: HostRuntime) {
     makes_calls(&rt, &start, Play::Cancel, &CANCEL);
 }
 
+/// The home words of the change of words 1 and 299.
+const HOME_1: Called = Called::Wrote(2608, 8, &[(2608, b"\x41\0\0\0\0\0\0\0")]);
+
+const HOME_299: Called = Called::Wrote(4992, 8, &[(4992, b"\x09\0\0\0\0\0\0\0")]);
+
+/// The commit byte of place 0 is set, and cleared; and that of place 1.
+const SET_0: Called = Called::Wrote(5000, 1, &[(5000, b"\xa5")]);
+
+const CLEAR_0: Called = Called::Wrote(5000, 1, &[(5000, b"\0")]);
+
+const SET_1: Called = Called::Wrote(5264, 1, &[(5264, b"\xa5")]);
+
+const CLEAR_1: Called = Called::Wrote(5264, 1, &[(5264, b"\0")]);
+
+/// Both records share a sync; each seal has its own; the home words share one, and so do the commit bytes that are
+/// cleared. All go in the order of the places.
+const SHARE: [Called; 15] = [
+    TWO_ENTRIES,
+    Called::Wrote(
+        5265,
+        263,
+        &[
+            (5265, b"\x02"),
+            (5272, b"\x01\0\0\0\0\0\0\0\x41\0\0\0\0\0\0\0"),
+            (5288, b"\x2b\x01\0\0\0\0\0\0\x09\0\0\0\0\0\0\0"),
+        ],
+    ),
+    Called::Synced,
+    SET_1,
+    Called::Synced,
+    SET_0,
+    Called::Synced,
+    HOME_0,
+    HOME_258,
+    HOME_1,
+    HOME_299,
+    Called::Synced,
+    CLEAR_0,
+    CLEAR_1,
+    Called::Synced,
+];
+
+#[test]
+fn bytes_of_changes_that_share_syncs(rt: HostRuntime) {
+    let start = laid(&rt, 5568, &SECOND_JUNK, &SECOND);
+    makes_calls(&rt, &start, Play::Share, &SHARE);
+}
+
+/// The record of word 299 is written before the commit byte of the seal that prepares it, and before the home word of
+/// the settle that prepares it.
+const AHEAD: [Called; 17] = [
+    TWO_ENTRIES,
+    Called::Synced,
+    Called::Wrote(
+        5265,
+        263,
+        &[
+            (5265, b"\x01"),
+            (5272, b"\x2b\x01\0\0\0\0\0\0\x09\0\0\0\0\0\0\0"),
+        ],
+    ),
+    SET_0,
+    Called::Synced,
+    HOME_0,
+    HOME_258,
+    Called::Synced,
+    CLEAR_0,
+    Called::Synced,
+    SET_1,
+    Called::Synced,
+    Called::Wrote(
+        5001,
+        263,
+        &[
+            (5001, b"\x01"),
+            (5008, b"\x2b\x01\0\0\0\0\0\0\x09\0\0\0\0\0\0\0"),
+        ],
+    ),
+    HOME_299,
+    Called::Synced,
+    CLEAR_1,
+    Called::Synced,
+];
+
+#[test]
+fn bytes_of_changes_that_are_prepared_ahead(rt: HostRuntime) {
+    let start = laid(&rt, 5568, &SECOND_JUNK, &SECOND);
+    makes_calls(&rt, &start, Play::Ahead, &AHEAD);
+}
+
 /// Two open records, with junk where a reader doesn't look, and a home word that a crash left half written.
 const OPEN_RECORDS: [Part; 6] = [
     (2600, b"\xff\xff\xff\xff\xff\xff\xff\xff"),
@@ -317,10 +453,10 @@ const OPENING: [Called; 9] = [
     Called::Asked,
     HOME_0,
     HOME_258,
-    Called::Wrote(4992, 8, &[(4992, b"\x09\0\0\0\0\0\0\0")]),
+    HOME_299,
     Called::Synced,
-    Called::Wrote(5000, 1, &[(5000, b"\0")]),
-    Called::Wrote(5264, 1, &[(5264, b"\0")]),
+    CLEAR_0,
+    CLEAR_1,
     Called::Synced,
 ];
 

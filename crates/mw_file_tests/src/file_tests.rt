@@ -1,16 +1,16 @@
 //! Tests the calls on a tenant's file, also with a crash in each. Other tests of this crate use the disks here.
 //!
 //! It may change freely as long as this crate checks and its tests pass.
-ghost use Rattle.std.specs.Prelude.{◌≡◌, ◌≤◌, ◌==◌, true};
+ghost use Rattle.std.specs.Prelude.{◌≤◌};
 ghost use Rattle.mw_words.specs.declared.limits.TheConstants.{MAX_WORDS};
 ghost use Rattle.mw_record.specs.declared.layout.TheConstants.{FIRST_PLACES};
-ghost use Rattle.mw_file.specs.PlaceStates.{MaySeal, commit_writes, stage_of};
 
+use crate::calls::{cancel, prepare, seal, settle};
 use crate::same::{same, same_at};
 use mw_disk::{Disk, DiskFault, MemDisk};
 use mw_file::*;
 use mw_record::{header, size};
-use mw_words::{Entries, Entry, is_change};
+use mw_words::{Entries, Entry};
 use std::alloc::Global;
 use std::process::Abort;
 
@@ -146,77 +146,6 @@ pub(crate) fn change(writes: &[(u16, u64)]) -> Entries {
         });
     }
     entries
-}
-
-/// Tells whether a place is at this stage.
-fn is_at(states: &[PlaceState], place: Place, stage: Stage) -> bool
-    ensures { result ≡ true → stage_of states.now place.0 ≡ stage }
-{
-    match states.get(place.0 as usize) {
-        Some(state) => state.stage == stage,
-        None => false,
-    }
-}
-
-/// Tells whether no place is sealed.
-fn none_sealed(states: &[PlaceState]) -> bool
-    ensures { result ≡ (commit_writes states.now == 0) }
-{
-    for state in states {
-        if state.stage == Stage::Sealed {
-            return false;
-        }
-    }
-    true
-}
-
-/// Gives true only if this place may be sealed: no other one is sealed.
-pub(crate) fn may_seal(states: &[PlaceState], place: Place) -> bool
-    ensures { result ≡ true → MaySeal states.now place.0 }
-{
-    is_at(states, place, Stage::Prepared) && none_sealed(states)
-}
-
-/// Prepares a change, if there is a place and the file has its words.
-pub(crate) fn prepare(
-    file: &mut TenantFile<MemDisk>,
-    entries: &Entries,
-) -> Option<Result<Place, FileFault>> {
-    if file.has_place() && is_change(entries, usize::from(file.words())) {
-        Some(file.prepare(entries))
-    } else {
-        None
-    }
-}
-
-/// Seals a change, if it is prepared and none is sealed.
-pub(crate) fn seal(file: &mut TenantFile<MemDisk>, place: Place) -> Option<Result<(), FileFault>> {
-    if may_seal(file.states(), place) {
-        Some(file.seal(place))
-    } else {
-        None
-    }
-}
-
-/// Settles a change, if it is sealed.
-pub(crate) fn settle(
-    file: &mut TenantFile<MemDisk>,
-    place: Place,
-) -> Option<Result<(), FileFault>> {
-    if is_at(file.states(), place, Stage::Sealed) {
-        Some(file.settle(place))
-    } else {
-        None
-    }
-}
-
-/// Cancels a change, if it is prepared.
-pub(crate) fn cancel(file: &mut TenantFile<MemDisk>, place: Place) -> Option<()> {
-    if is_at(file.states(), place, Stage::Prepared) {
-        Some(file.cancel(place))
-    } else {
-        None
-    }
 }
 
 /// Makes a file of three words with so many places. The change of word 0 is prepared in its first place,

@@ -11,6 +11,8 @@ mod book_tests;
 #[cfg(test)]
 mod byte_tests;
 #[cfg(test)]
+mod calls;
+#[cfg(test)]
 mod copy_tests;
 #[cfg(test)]
 mod disk_tests;
@@ -26,3 +28,7 @@ mod power_tests;
 mod record_tests;
 #[cfg(test)]
 mod same;
+#[cfg(test)]
+mod shared_tests;
+#[cfg(test)]
+mod torn;

@@ -3,64 +3,14 @@
 //! Nothing else uses it: it may change with what it tests.
 
 use crate::file_tests::{
-    MEMORY, ONES, Trouble, WRITTEN, Words, ZEROS, answers, left, opening, over_and_over, troubled,
+    MEMORY, ONES, Trouble, WRITTEN, ZEROS, answers, left, opening, over_and_over, troubled,
     troubled_file, words_of,
 };
 use crate::opening_tests::old_file;
 use crate::same::{same, same_at};
+use crate::torn::torn_anywhere;
 use mw_disk::Disk;
 use std::process::Abort;
-
-/// Gives the second of these bytes from one index up to another, and the first elsewhere.
-fn torn<R: Abort + AllocGlobal>(
-    rt: &R,
-    kept: &[u8],
-    taken: &[u8],
-    from: usize,
-    to: usize,
-) -> Vec<u8> {
-    let mut bytes = Vec::new(rt.alloc());
-    for (index, (kept, taken)) in kept.iter().zip(taken).enumerate() {
-        let byte = if from <= index && index < to {
-            taken
-        } else {
-            kept
-        };
-        bytes.push(*byte).expect(rt, MEMORY);
-    }
-    bytes
-}
-
-/// Tells whether a file with these bytes opens with one of these lists of words.
-fn opens_with<R: Abort + AllocGlobal>(rt: &R, image: &[u8], may: &[Words]) -> bool {
-    match words_of(rt, image) {
-        Some(words) => may.contains(&words),
-        None => false,
-    }
-}
-
-/// Three files torn at one byte open with one of these lists of words. One has the new bytes before it, one
-/// has those from there on, and one has only that byte.
-fn torn_at<R: Abort + AllocGlobal>(rt: &R, kept: &[u8], taken: &[u8], cut: usize, may: &[Words]) {
-    let parts = [(0, cut), (cut, taken.len()), (cut, cut.saturating_add(1))];
-    for (from, to) in parts {
-        let image = torn(rt, kept, taken, from, to);
-        same_at(rt, cut as u64, &opens_with(rt, &image, may), &true);
-    }
-}
-
-/// Files torn at each byte that differs open with one of these lists of words. Gives how many files these
-/// were.
-fn torn_anywhere<R: Abort + AllocGlobal>(rt: &R, kept: &[u8], taken: &[u8], may: &[Words]) -> u64 {
-    let mut images: u64 = 0;
-    for (cut, (before, after)) in kept.iter().zip(taken).enumerate() {
-        if before != after {
-            torn_at(rt, kept, taken, cut, may);
-            images = images.saturating_add(3);
-        }
-    }
-    images
-}
 
 /// Gives what a crash with these torn bytes leaves of a file whose device stopped after so many calls of a
 /// change.
@@ -73,17 +23,17 @@ fn left_of_change<R: Abort + AllocGlobal>(rt: &R, calls: u8, torn: &[u8]) -> Vec
 /// The calls of a change after which something is not synced: how many were made, after how many of them
 /// all was synced, and what words there may be then. The nine calls are the record and a sync, the commit
 /// byte and a sync, two words and a sync, the commit byte and a sync.
-const UNSYNCED: [(u8, u8, &[Words]); 5] = [
-    (1, 0, &[[0, 0]]),
-    (3, 2, &[[0, 0], [1, 2]]),
-    (5, 4, &[[1, 2]]),
-    (6, 4, &[[1, 2]]),
-    (8, 7, &[[1, 2]]),
+const UNSYNCED: [(u8, u8, &[&[u64]]); 5] = [
+    (1, 0, &[&[0, 0]]),
+    (3, 2, &[&[0, 0], &[1, 2]]),
+    (5, 4, &[&[1, 2]]),
+    (6, 4, &[&[1, 2]]),
+    (8, 7, &[&[1, 2]]),
 ];
 
 /// If the power fails after so many calls of a change, with so many synced, the file keeps any part of the
 /// bytes since, and has one of these lists of words. Gives how many files were tried.
-fn torn_change<R: Abort + AllocGlobal>(rt: &R, calls: u8, synced: u8, may: &[Words]) -> u64 {
+fn torn_change<R: Abort + AllocGlobal>(rt: &R, calls: u8, synced: u8, may: &[&[u64]]) -> u64 {
     let written = left_of_change(rt, calls, WRITTEN);
     let before = left_of_change(rt, synced, WRITTEN);
     let zeros = left_of_change(rt, calls, ZEROS);
@@ -122,7 +72,7 @@ fn torn_opening<R: Abort + AllocGlobal>(rt: &R, calls: u8) -> u64 {
     let ones = left_of_opening(rt, calls, ONES);
     let mut images: u64 = 0;
     for other in [&zeros, &ones] {
-        images = images.saturating_add(torn_anywhere(rt, other, &written, &[[5, 0]]));
+        images = images.saturating_add(torn_anywhere(rt, other, &written, &[&[5, 0]]));
     }
     images
 }

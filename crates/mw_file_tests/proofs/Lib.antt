@@ -1,0 +1,2 @@
+mod ApartWrites
+mod PreparedPlaces
