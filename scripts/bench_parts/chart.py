@@ -10,6 +10,7 @@ from xml.sax.saxutils import escape
 
 WIDTH, LEFT, RIGHT = 860, 330, 90
 BAR, GAP, GROUP = 14, 3, 12
+LONGEST_NAME = 46
 COLOURS = ("#2b6cb0", "#dd8a2e", "#3f9b5f", "#a14c9c", "#8a8a8a")
 Row = Tuple[str, Sequence[float]]
 
@@ -20,8 +21,13 @@ def text(x: float, y: float, said: str, more: str = "") -> str:
 
 
 def shown(value: float) -> str:
-    """A figure with commas, and a decimal if it is small."""
-    return f"{value:,.0f}" if value >= 10 else f"{value:.1f}"
+    """A figure with commas, or two decimals if it is small."""
+    return f"{value:,.0f}" if value >= 10 else f"{value:.2f}"
+
+
+def shortened(name: str) -> str:
+    """A name, or the end of it if there is no room for all."""
+    return name if len(name) <= LONGEST_NAME else f"..{name[2 - LONGEST_NAME:]}"
 
 
 class Panel:
@@ -48,7 +54,7 @@ class Panel:
         y = top + 52
         most = max((value for _, values in self.rows for value in values), default=1) or 1
         for name, values in self.rows:
-            out.append(text(10, y + BAR, name))
+            out.append(text(10, y + BAR, shortened(name)))
             for number, value in enumerate(values):
                 long = self.length(value, most)
                 out.append(f'<rect x="{LEFT}" y="{y}" width="{long:.1f}" height="{BAR}" fill="{COLOURS[number]}"/>')

@@ -215,7 +215,7 @@ def try_chart(folder):
     root = ElementTree.parse(folder / "chart.svg").getroot()
     said = [it.text for it in root.iter() if it.tag.endswith("text")]
     bars = [it for it in root.iter() if it.tag.endswith("rect") and it.get("height") == str(chart_module.BAR)]
-    same((len(bars), [it for it in ("a <store>", "alone", "2,000", "10", "26", "0.0") if it not in said]), (4, []), "a chart")
+    same((len(bars), [it for it in ("a <store>", "alone", "2,000", "10", "26", "0.00") if it not in said]), (4, []), "a chart")
     longest = float(bars[1].get("width"))
     same((float(bars[0].get("width")), float(bars[3].get("width"))), (round(longest / 200, 1), 0.0), "the bars of a chart")
     try_chart_of_one_tenant(folder)
@@ -230,5 +230,5 @@ def try_chart_of_one_tenant(folder):
     root = ElementTree.parse(folder / "chart.svg").getroot()
     said = [it.text for it in root.iter() if it.tag.endswith("text")]
     bars = [it for it in root.iter() if it.tag.endswith("rect") and it.get("height") == str(chart_module.BAR)]
-    wanted = ("2,000", "2,004", "4.5", "0.5", "100", "104", "one word")
+    wanted = ("2,000", "2,004", "4.50", "0.50", "100", "104", "one word")
     same((len(bars), [it for it in wanted if it not in said]), (15, []), "a chart of one tenant")
