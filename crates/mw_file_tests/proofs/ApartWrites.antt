@@ -20,7 +20,7 @@ apart_at (w ∷ writes) others addr apart here =
     let parts = and_parts _ _ apart in
     elim (cases_Bool (w.0 == addr)) [
       | inl is ↦ ap (holds others) (sym (eqb-true w.0 addr is)) ∙ not_true _ parts.0
-      | inr no ↦ apart_at writes others addr parts.1 (sym (ap (λ b. b || holds writes addr) no) ∙ here)
+      | inr ne ↦ apart_at writes others addr parts.1 (sym (ap (λ b. b || holds writes addr) ne) ∙ here)
     ]
 
 -- no address of the change is one of a sealed place's

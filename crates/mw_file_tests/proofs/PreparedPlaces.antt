@@ -44,6 +44,9 @@ above lowest (c ∷ changes) rise =
     let rest : All (λ d. c.place.0 + 1 ≤ d.place.0) changes = above (c.place.0 + 1) changes parts.1 in
     All-cons (λ d. lowest ≤ d.place.0) c changes le (λ i d lt. let next = rest i d lt in omega (arith, le, next))
 
+below_apart : (a b : ℕ) → a + 1 ≤ b → a ≢ b
+below_apart a b le e = absurd (omega (arith, le, e))
+
 -- so no two of them are the same
 rise_apart : (lowest : ℕ) (changes : List NewChange) → places_rise lowest changes ≡ true → AllPairs (λ c d. c.place.0 ≢ d.place.0) changes
 rise_apart lowest [] rise = λ i j d low high. absurd (omega (arith, high))
@@ -51,7 +54,7 @@ rise_apart lowest (c ∷ changes) rise =
     let parts = and_parts _ _ rise in
     let rest : All (λ d. c.place.0 + 1 ≤ d.place.0) changes = above (c.place.0 + 1) changes parts.1 in
     AllPairs-cons (λ c d. c.place.0 ≢ d.place.0) c changes
-    (λ i d lt e. let next = rest i d lt in absurd (omega (arith, e, next)))
+    (λ i d lt. below_apart c.place.0 _ (rest i d lt))
     (rise_apart (c.place.0 + 1) changes parts.1)
 
 pub may_prepare_from : (words : ℕ) (states : List PlaceState) (changes : List NewChange) → list_all (has_room words states) changes ≡ true → places_rise 0 changes ≡ true
