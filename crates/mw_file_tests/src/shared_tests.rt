@@ -294,18 +294,32 @@ fn answers<R: Abort + AllocGlobal>(
     ([first, second, third], faults, file)
 }
 
+/// Tells whether a crash with these torn bytes leaves one of two lists of words.
+fn crash_leaves<R: Abort + AllocGlobal>(
+    rt: &R,
+    file: &TenantFile<MemDisk>,
+    torn: &[u8],
+    may: &[Words; 2],
+) -> bool {
+    let [least, most] = may;
+    let image = left(rt, file, &over_and_over(rt, torn));
+    opens_with(rt, &image, &[least, most])
+}
+
+/// Crashes leave one of two lists of words, whatever is torn.
+fn crashes_leave<R: Abort + AllocGlobal>(rt: &R, file: &TenantFile<MemDisk>, may: [Words; 2]) {
+    for torn in TORN {
+        same(rt, &crash_leaves(rt, file, torn, &may), &true);
+    }
+}
+
 /// If this device call of a call fails, the file has failed, and crashes leave the words before the call or after it.
 fn fails_at<R: Abort + AllocGlobal>(rt: &R, case: Case, calls: u8) {
     let (answers, faults, file) = answers(rt, case, calls);
     let (disk, failed) = (Some(Err(FileFault::Disk)), Some(Err(FileFault::Failed)));
     let wanted = ([disk, failed, failed], 1);
     same_at(rt, u64::from(calls), &(answers, faults), &wanted);
-    let [least, most] = case.may(calls.saturating_add(1), calls);
-    for torn in TORN {
-        let image = left(rt, &file, &over_and_over(rt, torn));
-        let is_right = opens_with(rt, &image, &[&least, &most]);
-        same_at(rt, u64::from(calls), &is_right, &true);
-    }
+    crashes_leave(rt, &file, case.may(calls.saturating_add(1), calls));
 }
 
 /// Each device call of a call fails in turn.
