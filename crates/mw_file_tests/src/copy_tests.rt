@@ -1,7 +1,8 @@
 //! Tests the copy of a file that is in use, also on a device that fails.
 //!
 //! Nothing else uses it: it may change with what it tests.
-use crate::file_tests::{MEMORY, cancel, disk_with, opening, seal, settle, with_two_records};
+use crate::calls::{cancel, seal, settle};
+use crate::file_tests::{MEMORY, disk_with, opening, with_two_records};
 use crate::same::{same, same_at};
 use mw_disk::MemDisk;
 use mw_file::*;
