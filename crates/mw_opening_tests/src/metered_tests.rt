@@ -14,7 +14,11 @@ type Counted = [(u64, u64); 3];
 
 /// Gives how many calls were counted, and how many failed.
 fn counted(figures: &CallFigures) -> (u64, u64) {
-    (figures.time.counts.iter().sum(), figures.failures)
+    let mut calls = 0u64;
+    for count in &figures.time.counts {
+        calls = calls.saturating_add(*count);
+    }
+    (calls, figures.failures)
 }
 
 /// What a counter that counts one such call has, with this failure.

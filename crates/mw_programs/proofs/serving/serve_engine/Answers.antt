@@ -1,0 +1,18 @@
+-- Proves goals of `serve_engine` (src/serving.rt) that the check does not prove by itself. Used by: the proof of that function
+-- alone. It may change freely as long as this crate checks.
+use Rattle.std.specs.Prelude.{ℕ, ◌≤◌, Option, Some, None, IfSome}
+use Rattle.std.proofs.Common.{subst}
+use Rattle.mw_config.specs.declared.command_line.Mode.{Mode}
+use Rattle.mw_config.specs.declared.command_line.SharedWorkers.{SharedWorkers}
+use Rattle.mw_config.specs.CommandLine.{AreSharedWell, SuitsWorkers}
+use Rattle.mw_programs.proofs.serving.serve_engine.Goals as goal
+
+-- if workers are shared well, there are clients
+some_clients : (workers : ℕ) (shared : Option SharedWorkers) → IfSome shared (AreSharedWell workers) → IfSome shared (λ one. 1 ≤ one.clients)
+some_clients workers None well = tt
+some_clients workers (Some one) well = well.clients.0
+
+pub serve_all_clients-requires-clause-clients : goal.serve_all_clients-requires-clause-clients
+serve_all_clients-requires-clause-clients g c κs within =
+    some_clients c.args.args.now.workers c.in-Listen.listening.shared
+    (subst (λ (mode : Mode). SuitsWorkers c.args.args.now.workers mode) c.in-Listen.is c.requires.args.shared)
