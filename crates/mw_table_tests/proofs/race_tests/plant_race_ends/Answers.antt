@@ -21,6 +21,6 @@ reads_zeros-reads-requires g c =
       idle = c.in_ok-reader.ensures.idle;
       tenants = subst (λ (basis : Basis). 1 ≤ tenants_of basis.config) (sym same) c.in_ok-world.ensures.tenants;
       words = ap (λ (basis : Basis). (tenant_at basis.config 0).words) same ∙ c.in_ok-world.ensures.words;
-      quota_is = ap (λ (basis : Basis). (opening_at basis.openings 0).quota) same ∙ sym (c.quota_of.ensures c.in_ok-core.run.events);
+      quota_is = ap (λ (basis : Basis). (opening_at basis.openings 0).quota) same ∙ sym (c.quota_of.ensures c.in_ok-core.run'.events);
       pool = ap (λ (basis : Basis). basis.config.pool) same ∙ c.in_ok-world.ensures.pool;
     }
