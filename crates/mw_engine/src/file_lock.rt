@@ -5,7 +5,7 @@
 use crate::brand::EngineBrand;
 use crate::guarded_file::GuardedFile;
 use crate::waiting_room::{WaitingRoom, strike_off};
-use mw_actor::Actor;
+use mw_actor::{Actor, Point};
 use mw_core::waiting_change;
 use mw_disk::Disk;
 use mw_turns::{FairGuard, FairLock};
@@ -34,9 +34,15 @@ impl<J: EngineBrand, D: Disk> FileLock<J, D> {
     }
 
     /// Takes the lock for the next call of a request, and lists the other changes that wait. If the lock isn't free
-    /// soon, the request waits in its turn, and its change in the room if a prepare is next.
+    /// soon, the request waits in its turn, and its change in the room if a prepare is next. A call that may share the
+    /// syncs of others goes behind those that wait.
     pub(crate) fn lock(&self, rt: &impl Wait, actor: &Actor) -> FairGuard<'_, GuardedFile<J, D>> {
-        if let Some(mut guard) = self.file.try_lock() {
+        let free = if shares_syncs(actor) {
+            self.file.try_lock_after_others()
+        } else {
+            self.file.try_lock()
+        };
+        if let Some(mut guard) = free {
             self.room.call_all(rt, &mut guard.value.called);
             return guard;
         }
@@ -60,5 +66,15 @@ impl<J: EngineBrand, D: Disk> FileLock<J, D> {
         let slot = waiting.slot;
         self.room.enter(rt, waiting);
         Some(slot)
+    }
+}
+
+/// Whether the next call of a request may make no sync if it comes after others: the prepare of the request's own
+/// change, whose record others write along, or the settle of it, which another settle takes along.
+fn shares_syncs(actor: &Actor) -> bool {
+    match actor.point() {
+        Point::Prepare(_) => true,
+        Point::Settle(task) => task.own.slot == task.target.slot,
+        _ => false,
     }
 }

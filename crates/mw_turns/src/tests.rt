@@ -1,7 +1,7 @@
 //! Tests what no contract says: that each wait ends, and that long waits are in turn.
 //!
 //! Nothing else uses it: it may change with what it tests.
-use crate::FairLock;
+use crate::{FairGuard, FairLock};
 use std::alloc::{AllocError, Global};
 use std::sync::Wait;
 use std::test::Fail;
@@ -90,6 +90,55 @@ fn repeats<R: Threads + Wait + Clock + Sync>(rt: &R, alloc: Global) -> Result<u3
 fn long_holds_are_in_turn(rt: HostRuntime) -> Result<(), Fail> {
     let repeats = repeats(&rt, rt.alloc())?;
     assert!(rt; repeats < HOLDS / 2);
+    Ok(())
+}
+
+/// Takes the lock, after those that wait for it.
+fn lock_after_others<'a>(rt: &impl Wait, turns: &'a FairLock<Turns>) -> FairGuard<'a, Turns> {
+    match turns.try_lock_after_others() {
+        Some(guard) => guard,
+        None => turns.lock_in_turn(rt),
+    }
+}
+
+/// Holds the lock as often as it can, for three milliseconds and for none by turns.
+fn hold_by_turns<R: Wait + Clock>(rt: &R, turns: &FairLock<Turns>, holder: usize) {
+    for hold in 0..HOLDS {
+        let mut guard = lock_after_others(rt, turns);
+        if hold % 2 == 0 {
+            thread::sleep(rt, Duration::from_millis(3));
+        }
+        if !guard.value.note(holder) {
+            return;
+        }
+    }
+}
+
+/// How often a thread held the lock twice in a row though others waited, if half of the holds are short.
+fn repeats_of_short_holds<R: Threads + Wait + Clock + Sync>(
+    rt: &R,
+    alloc: Global,
+) -> Result<u32, AllocError> {
+    let turns = FairLock::new(Turns {
+        last: HOLDERS,
+        holds: 0,
+        repeats: 0,
+    });
+    let shared = &turns;
+    thread::map_indices(
+        rt,
+        alloc,
+        HOLDERS,
+        &|holder| { hold_by_turns(rt, shared, holder) },
+    )?;
+    Ok(turns.into_inner().repeats)
+}
+
+/// With `lock` half of the threads hold it twice in a row: after a short hold, before the first of the queue has woken.
+#[test]
+fn short_holds_between_long_ones_are_in_turn(rt: HostRuntime) -> Result<(), Fail> {
+    let repeats = repeats_of_short_holds(&rt, rt.alloc())?;
+    assert!(rt; repeats < HOLDS / 4);
     Ok(())
 }
 
