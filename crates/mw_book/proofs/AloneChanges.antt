@@ -1,7 +1,8 @@
--- A call for a change that is alone makes just the device calls that the world lists, and settles no change ahead.
+-- A call for a change that is alone makes just the device calls that the world lists, and leaves no change settled or prepared ahead.
 -- Used by: the law a_change_alone_makes_the_listed_calls. It may change freely as long as this crate checks.
-use Rattle.std.proofs.Common.{◌≡◌, ◌≢◌, ℕ, ◌+◌, ◌<◌, ◌||◌, ◌&&◌, not, Bool, true, false, List, Option, Some, None, is_some, get_or, length, nat_lt, refl, sym, ap, ◌∙◌, inl, inr, arith}
-use Rattle.std.proofs.lemmas.Bool.{and_parts, cases_eq, cases_lt, cond-true, cond-false, eq-eqb, ne_eqb, le-ltb, ltb-true}
+use Rattle.std.proofs.Common.{◌≡◌, ◌≢◌, ℕ, ◌+◌, ◌<◌, ◌==◌, zero, suc, ◌||◌, ◌&&◌, not, Bool, true, false, List, [], length, nat_lt, take, min, if◌then◌else◌, refl, sym, ap, ◌∙◌, inl, inr, arith}
+use Rattle.std.specs.List.{filter}
+use Rattle.std.proofs.lemmas.Bool.{and_parts, cases_eq, cases_lt, cond-true, cond-false, eq-eqb, ne_eqb, ltb-true}
 use Rattle.std.proofs.lemmas.List.{length-map}
 use Rattle.mw_words.specs.declared.jobs.Entry.{Entry}
 use Rattle.mw_look.specs.declared.steps.Call.{Call}
@@ -15,16 +16,17 @@ use Rattle.mw_world_file.specs.Files.{File, Place, Empty, Prepared, Sealed, empt
 use Rattle.mw_book.specs.declared.answers.Filed.{Filed}
 use Rattle.mw_book.specs.declared.answers.Filed.TheVariants.{Made, Broken, Untouched}
 use Rattle.mw_book.specs.declared.book.Book.{Book}
-use Rattle.mw_book.specs.Alone.{AloneLeavesNoneAhead, AloneMakesListedCalls, FindsAlone}
+use Rattle.mw_book.specs.declared.waiting.TheConstants.{MOST_AHEAD}
+use Rattle.mw_book.specs.Alone.{AloneLeavesNoneAhead, AloneLeavesNonePrepared, AloneMakesListedCalls, FindsAlone}
 use Rattle.mw_book.specs.Ends.{calls_on, prepare_calls, settle_calls}
-use Rattle.mw_book.specs.PreparedAhead.{HasNonePrepared, are_writes_of, has_written, is_for, written_place}
+use Rattle.mw_book.specs.RecordsAhead.{is_among, is_ready, makes_calls, place_lost, places_left, prepared_after, written_by}
 use Rattle.mw_book.specs.SettledAhead.{is_sealed_stage, ahead_after, ahead_by_settle}
 use Rattle.mw_book.specs.OpenFile.{states_in}
-use Rattle.mw_book.specs.Representation.{is_prepared_ahead, is_settled, place_at, place_in_file, stage_held, stage_in_file, writes_in_file}
+use Rattle.mw_book.specs.Representation.{is_prepared_ahead, is_settled, place_at, place_in_file, stage_held, stage_in_file}
 use Rattle.mw_book.proofs.ApartChanges.{sealed_stage}
 use Rattle.mw_book.proofs.FilePlaces.{IsAt, used_at}
 use Rattle.mw_book.proofs.PlacesAhead.{busy_sealed, held_plain, own_busy}
-use Rattle.mw_book.proofs.WrittenPlaces.{written_none}
+use Rattle.mw_book.proofs.RecordsAhead.{but_fewer}
 
 told_open : (p : Place) → is_sealed p ≡ false → is_sealed_stage (stage_told p) ≡ false
 told_open Empty is = refl
@@ -93,20 +95,9 @@ module _ {D : Type 0} (facts : D → Facts) (book : Book D) (file : File) (slot 
     rest : Bool
     rest = is_settled book.table place || (not (is_settled book.table (place_at book slot)) && is_sealed_stage (stage_in_file (states_in book.held) book.table place))
 
--- where none is prepared ahead no record is
-none_for : (found : Option ℕ) (slot : ℕ) → is_some found ≡ false → is_for found slot ≡ false
-none_for None slot none = refl
-none_for (Some other) slot none = absurd (let e : true ≡ false = none in cc)
-
-none_written : {D : Type 0} (book : Book D) (slot : ℕ) (entries : List Entry) → HasNonePrepared book → has_written book slot entries ≡ false
-none_written book slot entries none =
-    let at = written_none (states_in book.held) book.table slot entries 0 book.places (λ place. ap (λ b. b && are_writes_of (writes_in_file (states_in book.held) book.table place) entries)
-    (none_for (get_or book.table.ahead_for place None) slot (none place))) in
-    le-ltb (written_place (states_in book.held) book.table slot entries book.places) book.places (omega (arith, at))
-
 own_listed : {D : Type 0} (facts : D → Facts) (book : Book D) (file : File) (call : Call) (slot : ℕ) (entries : List Entry) → FindsAlone facts book file call slot
     → calls_on book call slot entries (entries_at file (place_for call file book.places slot)) ≡ device_calls call (entries_at file (place_for call file book.places slot))
-own_listed facts book file PrepareCall slot entries finds = ap (λ b. prepare_calls b (entries_at file (empty_from file 0 book.places))) (none_written book slot entries finds.none_prepared)
+own_listed facts book file PrepareCall slot entries finds = ap (λ b. prepare_calls b (entries_at file (empty_from file 0 book.places))) (finds.none_prepared slot entries)
 own_listed facts book file SealCall slot entries finds = refl
 own_listed facts book file SettleCall slot entries finds = settle_listed facts book file slot finds
 own_listed facts book file CancelCall slot entries finds = refl
@@ -124,4 +115,22 @@ none_ahead_after facts old file SettleCall slot Untouched finds place = finds.no
 none_ahead_after facts old file CancelCall slot answer finds place = finds.none_ahead place
 
 pub leaves_none_ahead : {D : Type 0} (facts : D → Facts) → AloneLeavesNoneAhead facts
-leaves_none_ahead facts old new file call slot entries most answer finds filed place = filed.ahead place ∙ none_ahead_after facts old file call slot answer finds place
+leaves_none_ahead facts old new file call slot entries waiting answer finds filed place = filed.ahead place ∙ none_ahead_after facts old file call slot answer finds place
+
+-- nothing is written ahead if no change waits
+none_waits : {D : Type 0} (old : Book D) (call : Call) (slot : ℕ) (entries : List Entry) → written_by old call slot entries [] ≡ []
+none_waits old call slot entries = by (makes_calls old call slot entries) (min MOST_AHEAD (places_left old call)) where
+  nothing : (n : ℕ) → take n (filter (is_ready old.words (states_in old.held) old.table old.places slot) []) ≡ []
+  nothing zero = refl
+  nothing (suc n) = refl
+
+  by : (b : Bool) (n : ℕ) → (if b then take n (filter (is_ready old.words (states_in old.held) old.table old.places slot) []) else []) ≡ []
+  by true n = nothing n
+  by false n = refl
+
+pub leaves_none_prepared : {D : Type 0} (facts : D → Facts) → AloneLeavesNonePrepared facts
+leaves_none_prepared facts old new file call slot entries answer finds filed other those = filed.records other those ∙ by answer where
+  by : (answer : Filed) → prepared_after call slot entries [] old answer other those ≡ false
+  by Made = ap (λ b. b || is_among (written_by old call slot entries []) other those) (but_fewer old (place_lost old call slot entries) other those (finds.none_prepared other those)) ∙ ap (λ ws. is_among ws other those) (none_waits old call slot entries)
+  by Broken = but_fewer old (place_lost old call slot entries) other those (finds.none_prepared other those)
+  by Untouched = finds.none_prepared other those

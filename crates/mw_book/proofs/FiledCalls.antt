@@ -1,7 +1,7 @@
 -- Each call on a book ends as its contract says, whether the device fails in it or not.
 -- Used by: the proofs of all calls of Book. It may change freely as long as this crate checks.
-use Rattle.std.proofs.Common.{◌≡◌, ◌≢◌, ℕ, ◌+◌, ◌==◌, ◌∷◌, ◌++◌, ◌<◌, ◌≤◌, Bool, true, false, List, [], length, Some, Result, Ok, Err, is_err, slice_set, nat_le, IsTrue, refl, sym, ap, subst, ◌∙◌, inl, inr, arith}
-use Rattle.std.proofs.lemmas.Bool.{and_from, cases_eq, cond-true, cond-false, eq-eqb, le-leb, ne_eqb}
+use Rattle.std.proofs.Common.{◌≡◌, ◌≢◌, ℕ, ◌+◌, ◌==◌, ◌-◌, ◌&&◌, ◌||◌, not, ◌∷◌, ◌++◌, ◌<◌, ◌≤◌, Bool, true, false, List, [], length, Some, None, get_or, Result, Ok, Err, is_err, slice_set, nat_le, IsTrue, refl, sym, ap, subst, ◌∙◌, inl, inr, arith}
+use Rattle.std.proofs.lemmas.Bool.{and_from, cases_Bool, cases_eq, cases_lt, cond-true, cond-false, eq-eqb, le-leb, ne_eqb}
 use Rattle.std.proofs.lemmas.List.{length-append}
 use Rattle.std.proofs.lemmas.List.Elements.{All-push}
 use Rattle.mw_words.specs.declared.limits.TheConstants.{MAX_POOL}
@@ -16,6 +16,7 @@ use Rattle.mw_record.specs.Records.{Pairs, put_pairs}
 use Rattle.mw_record.specs.Layout.{pairs_of}
 use Rattle.mw_record.proofs.ReadAgain.{put-put_pairs}
 use Rattle.mw_lone.proofs.SoundStores.{length-put}
+use Rattle.mw_file.specs.declared.place_states.PlaceState.{PlaceState}
 use Rattle.mw_file.specs.declared.place_states.Stage.{Stage}
 use Rattle.mw_file.specs.declared.place_states.Stage.TheVariants.{Free as FreeStage, Prepared as PreparedStage, Sealed as SealedStage}
 use Rattle.mw_file.specs.declared.tenant_file.TenantFile.{TenantFile}
@@ -35,29 +36,32 @@ use Rattle.mw_book.specs.declared.answers.Filed.{Filed}
 use Rattle.mw_book.specs.declared.answers.Filed.TheVariants.{Made, Broken, Untouched}
 use Rattle.mw_book.specs.declared.book.Book.{Book}
 use Rattle.mw_book.specs.declared.place_table.PlaceTable.{PlaceTable}
-use Rattle.mw_book.specs.FilePlaces.{flag_of}
+use Rattle.mw_book.specs.declared.waiting.Waiting.{Waiting}
+use Rattle.mw_book.specs.FilePlaces.{IsPermutation, flag_of}
 use Rattle.mw_book.specs.Answers.{Answers, is_refused, NoFault, OneFault}
-use Rattle.mw_book.specs.ChosenPlaces.{AreChosen}
+use Rattle.mw_book.specs.ChosenPlaces.{AreAhead, AreChosen, free_within}
 use Rattle.mw_book.specs.Crashes.{LeavesEither, stake_of}
 use Rattle.mw_book.specs.Ends.{Ends, FailedAt, calls_on, prepare_calls, settle_calls}
 use Rattle.mw_book.specs.CallOutcome.{IsFiled}
-use Rattle.mw_book.specs.PreparedAhead.{has_written}
-use Rattle.mw_book.specs.SameFiles.{RepresentsSame}
+use Rattle.mw_book.specs.PreparedAhead.{are_writes_of, has_written, is_for, is_written}
+use Rattle.mw_book.specs.RecordsAhead.{PreparesAhead, any_below, count_below, first_ready, free_places, has_but, is_among, is_free, makes_calls, place_lost, written_by}
+use Rattle.mw_book.specs.SameFiles.{HasMadeRoom, RepresentsSame}
 use Rattle.mw_book.specs.SettledAhead.{ahead_after, ahead_by_settle}
-use Rattle.mw_book.specs.Permits.{HasPlace, vacant_place}
+use Rattle.mw_book.specs.Permits.{HasPlace, is_vacant, vacant_place}
 use Rattle.mw_book.specs.OpenFile.{states_in, disk_in, OnDisk}
 use Rattle.mw_book.specs.Representation.{ArePlaced, Represents, HasParts, is_prepared_ahead, is_settled, place_at, place_in_file, stage_in_file, writes_in_file}
 use Rattle.mw_book.proofs.ChosenPlaces.{front_of, last_of}
-use Rattle.mw_book.proofs.FoundPlaces.{found_at, free_of, vacant_plain}
+use Rattle.mw_book.proofs.FoundPlaces.{found_at, free_of, vacant_plain, vacant_so}
 use Rattle.mw_book.proofs.PlacedAhead.{IsFresh, fresh_or_same, placed_beside, placed_settled}
 use Rattle.mw_book.proofs.PlacesAhead.{placed_let_go}
 use Rattle.mw_book.proofs.RepresentedFiles.{shows_parts, on_disk, on_same, leaves_either, untouched, failed_as, placed_in, keeps_in, certain, same_place, place_within, plain_at, writes_called}
+use Rattle.mw_book.proofs.RecordsAhead.{any_same, broken_records, free_from_first, free_past, has_any, has_parts, lost_needed, made_many, made_records, none_by, none_needed, not_written, nothing_lost, ready_same, same_records}
 use Rattle.mw_book.proofs.StagedPlaces.{placed_on, placed_as, staged_by}
 
 -- the same fact, if the call is known by another name
-pub filed_as : {D : Type 0} (facts : D → Facts) (call other : Call) (slot : ℕ) (entries : List Entry) (most : ℕ) (old new : Book D) (result : Filed) → call ≡ other → IsFiled facts other slot entries most old new result
-    → IsFiled facts call slot entries most old new result
-filed_as facts call other slot entries most old new result same is = subst (λ k. IsFiled facts k slot entries most old new result) (sym same) is
+pub filed_as : {D : Type 0} (facts : D → Facts) (call other : Call) (slot : ℕ) (entries : List Entry) (waiting : List Waiting) (old new : Book D) (result : Filed) → call ≡ other → IsFiled facts other slot entries waiting old new result
+    → IsFiled facts call slot entries waiting old new result
+filed_as facts call other slot entries waiting old new result same is = subst (λ k. IsFiled facts k slot entries waiting old new result) (sym same) is
 
 -- a call that is not a cancel is refused exactly if the book has failed
 refused_so : (call : Call) (failed : Bool) → (call ≡ CancelCall → ⊥) → is_refused call failed ≡ failed
@@ -76,9 +80,11 @@ same_ahead SettleCall Untouched slot old other place = refl
 same_ahead CancelCall answer slot old other place = refl
 
 -- a call on a file that had failed before
-pub refused : {D : Type 0} (facts : D → Facts) (call : Call) (slot : ℕ) (entries : List Entry) (most : ℕ) (old : Book D) → old.has_failed ≡ true → ((file : File) → fails_on call file ≡ file.has_failed)
-    → (call ≡ CancelCall → ⊥) → IsFiled facts call slot entries most old old Untouched
-refused facts call slot entries most old failed fails other = record {
+pub refused : {D : Type 0} (facts : D → Facts) (call : Call) (slot : ℕ) (entries : List Entry) (waiting : List Waiting) (old : Book D) → old.has_failed ≡ true → ((file : File) → fails_on call file ≡ file.has_failed)
+    → (call ≡ CancelCall → ⊥) → IsFiled facts call slot entries waiting old old Untouched
+refused facts call slot entries waiting old failed fails other = record {
+  records = λ s es. refl;
+  counts = λ is. absurd (let e : Untouched ≡ Made = is in cc);
   ahead = same_ahead call Untouched slot old (λ is. absurd (let e : Untouched ≡ Made = is in cc));
   ends = λ file shows. record { refused = fails file ∙ shows.same_failed ∙ failed; same = refl };
   answers = record { refused = refused_so call old.has_failed other ∙ failed; same = refl };
@@ -143,6 +149,13 @@ one_longer changes all own is_all =
     let more : length (changes ++ own ∷ []) ≡ length changes + 1 = length-append changes (own ∷ []) in
     omega (arith, long, more)
 
+-- the file's place of a change that was prepared ahead before is none that was chosen
+ahead_nowhere : (words : ℕ) (states : List PlaceState) (table : PlaceTable) (places low : ℕ) (next : PlaceTable) (changes : List NewChange) (top : ℕ) → AreChosen words states table places low next changes top
+    → IsPermutation table.file_place places → (k : ℕ) → k < places → is_prepared_ahead table k ≡ true → IsNoPlaceOf changes (place_in_file table k)
+ahead_nowhere words states table places low next changes top are permuted k lt is_on = are.others (place_in_file table k) (λ j less same.
+    let here : j ≡ k = permuted.apart j k less lt same in
+    ap (is_prepared_ahead next) here ∙ are.kept k is_on ∙ sym (ap (is_prepared_ahead table) here ∙ is_on))
+
 -- The old book holds one open file, and the new book holds what a call made of it.
 module _ {D : Type 0} (facts : D → Facts) (old new : Book D) (held now : TenantFile D) (is_old : old.held ≡ Some held) (later : Later (facts (disk_of held)) (facts (disk_of now))) where
   -- the disk is still honest, so a fact of an honest disk may be used
@@ -151,12 +164,16 @@ module _ {D : Type 0} (facts : D → Facts) (old new : Book D) (held now : Tenan
 
   -- a device call failed
   module _ (parts : HasParts new (Some now) old.words old.places old.place_of old.table true) (sound : old.has_failed ≡ false) (calls : ℕ) (met : MetFault facts calls held now)
-      (call : Call) (slot : ℕ) (entries : List Entry) (written most : ℕ) (few : written ≤ most) (other : call ≡ CancelCall → ⊥) (fails : (file : File) → fails_on call file ≡ file.has_failed) where
+      (call : Call) (slot : ℕ) (entries : List Entry) (written : ℕ) (waiting : List Waiting) (few : written ≤ length waiting) (none_lost : place_lost old call slot entries ≡ old.places) (other : call ≡ CancelCall → ⊥) (fails : (file : File) → fails_on call file ≡ file.has_failed) where
     pub broke : ((entries_there : List Entry) → calls ≡ written + calls_on old call slot entries entries_there)
         → ((file : File) → Represents facts old file → IsTrue (facts (disk_of held)).honest → RecoversTo facts now file.contents (pairs_of (doubt_of call (entries_at file (place_for call file old.places slot)))))
         → ((file : File) → Represents facts old file → LeavesEither file.contents (at_stake call file (place_for call file old.places slot)) (facts (disk_of held)) (facts (disk_of now)))
-        → IsFiled facts call slot entries most old new Broken
+        → IsFiled facts call slot entries waiting old new Broken
     broke many keeps leaves = record {
+      counts = λ is. absurd (let e : Broken ≡ Made = is in cc);
+      records = broken_records call slot entries waiting old new none_lost (λ s es.
+          has_parts new (Some now) old.words old.places old.place_of old.table true parts s es ∙ ap (λ states. any_below (is_written states old.table s es) old.places) met.states
+          ∙ ap (λ h. any_below (is_written (states_in h) old.table s es) old.places) (sym is_old) ∙ sym (has_any old s es));
       ends = λ file shows.
           let place : ℕ = place_for call file old.places slot in
           let doubt : List Entry = doubt_of call (entries_at file place) in
@@ -204,20 +221,51 @@ module _ {D : Type 0} (facts : D → Facts) (old new : Book D) (held now : Tenan
         subst (λ doubt. RecoversTo facts now file.contents doubt) (certain facts old held is_old file shows sound honest) (stays file shows honest).after
 
     -- a prepare in which the device failed
-    pub prepare_broken : (slot : ℕ) (entries : List Entry) (written most : ℕ) → written ≤ most → HasParts new (Some now) old.words old.places old.place_of old.table true → old.has_failed ≡ false → has_written old slot entries ≡ false → MetFault facts (written + 2) held now
-        → IsFiled facts PrepareCall slot entries most old new Broken
-    prepare_broken slot entries written most few parts sound none met =
-        broke parts sound (written + 2) met PrepareCall slot entries written most few (λ is. let e : PrepareCall ≡ CancelCall = is in cc) (λ file. refl) (λ there. sym (ap (λ b. written + prepare_calls b there) none)) (stays_certain sound)
+    pub prepare_broken : (slot : ℕ) (entries : List Entry) (written : ℕ) (waiting : List Waiting) → written ≤ length waiting → 1 ≤ free_places old → HasParts new (Some now) old.words old.places old.place_of old.table true → old.has_failed ≡ false → has_written old slot entries ≡ false → MetFault facts (written + 2) held now
+        → IsFiled facts PrepareCall slot entries waiting old new Broken
+    prepare_broken slot entries written waiting few some parts sound none met =
+        broke parts sound (written + 2) met PrepareCall slot entries written waiting few (lost_needed old slot entries none ∙ none_needed old some) (λ is. let e : PrepareCall ≡ CancelCall = is in cc) (λ file. refl) (λ there. sym (ap (λ b. written + prepare_calls b there) none)) (stays_certain sound)
         stays_safe
 
-    pub prepare_made : (slot place : ℕ) (entries : List Entry) (most : ℕ) (next : PlaceTable) (changes all : List NewChange) (top : ℕ) (own : NewChange) → all ≡ changes ++ own ∷ [] → place ≡ vacant_place (states_of held) old.table old.places
-        → is_prepared_ahead old.table place ≡ false → has_written old slot entries ≡ false → AreChosen old.words (states_of held) old.table old.places (place + 1) next changes top → length changes ≤ most
+    pub prepare_made : (slot place : ℕ) (entries : List Entry) (waiting : List Waiting) (next : PlaceTable) (changes all : List NewChange) (top : ℕ) (own : NewChange) → all ≡ changes ++ own ∷ [] → place ≡ vacant_place (states_of held) old.table old.places
+        → is_prepared_ahead old.table place ≡ false → has_written old slot entries ≡ false → AreChosen old.words (states_of held) old.table old.places (place + 1) next changes top → length changes ≤ length waiting
+        → AreAhead old.table next old.places changes (first_ready old.words (states_of held) old.table old.places slot (free_within (states_of held) old.table (place + 1) old.places) waiting)
         → own.place.0 ≡ place_in_file old.table place → own.entries.items ≡ entries
         → HasParts new (Some now) old.words old.places (slice_set old.place_of slot place) next old.has_failed
         → old.has_failed ≡ false → slot < MAX_POOL → MAX_POOL ≤ length old.place_of → WentWell facts (length all + 1) held now
         → ArePrepared (states_of held) (states_of now) all → HasPlace (states_of held) old.table old.places
-        → IsFiled facts PrepareCall slot entries most old new Made
-    prepare_made slot place entries most next changes all top own is_all is off none are fewer number_is entries_are parts sound within long went_all staged_all room = record {
+        → IsFiled facts PrepareCall slot entries waiting old new Made
+    prepare_made slot place entries waiting next changes all top own is_all is off none are fewer ahead number_is entries_are parts sound within long went_all staged_all room = record {
+      records =
+          let used : place < old.places = (let lt = room in omega (arith, is, lt)) in
+          let free : is_free (states_of held) old.table place ≡ true =
+          ap (λ b. b && not (is_prepared_ahead old.table place)) (ap (is_vacant (states_of held) old.table) is ∙ vacant_so (states_of held) old.table old.places room) ∙ ap not off in
+          let past = free_past (states_of held) old.table old.places place is used free in
+          let all_free : free_places old ≡ count_below (is_free (states_of held) old.table) old.places = ap (λ h. count_below (is_free (states_in h) old.table) old.places) is_old in
+          let some : 1 ≤ free_places old = omega (arith, past, all_free) in
+          let left : free_within (states_of held) old.table (place + 1) old.places ≡ free_places old - 1 = omega (arith, past, all_free) in
+          made_records PrepareCall slot entries waiting old new held now is_old next changes (free_within (states_of held) old.table (place + 1) old.places) ahead left (ap not none)
+          (lost_needed old slot entries none ∙ none_needed old some) are.same_places (front_of (λ d. writes_of_place (states_of now) d.place.0 ≡ pairs_of d.entries.items) changes own staged.writes_here)
+          (λ k lt is_on. staged.writes_there (place_in_file old.table k) (All-push (λ d. d.place.0 ≢ place_in_file old.table k) changes own
+          (ahead_nowhere old.words (states_of held) old.table old.places (place + 1) next changes top are old.permuted k lt is_on)
+          (λ same. let here = old.permuted.apart place k used lt (sym number_is ∙ same) in let e : true ≡ false = sym is_on ∙ sym (ap (is_prepared_ahead old.table) here) ∙ off in cc)))
+          (has_parts new (Some now) old.words old.places (slice_set old.place_of slot place) next old.has_failed parts);
+      counts = λ is_made.
+          let used : place < old.places = (let lt = room in omega (arith, is, lt)) in
+          let free : is_free (states_of held) old.table place ≡ true =
+          ap (λ b. b && not (is_prepared_ahead old.table place)) (ap (is_vacant (states_of held) old.table) is ∙ vacant_so (states_of held) old.table old.places room) ∙ ap not off in
+          let past = free_past (states_of held) old.table old.places place is used free in
+          let all_free : free_places old ≡ count_below (is_free (states_of held) old.table) old.places = ap (λ h. count_below (is_free (states_in h) old.table) old.places) is_old in
+          let some : 1 ≤ free_places old = omega (arith, past, all_free) in
+          let left : free_within (states_of held) old.table (place + 1) old.places ≡ free_places old - 1 = omega (arith, past, all_free) in
+          let many = made_many PrepareCall slot entries waiting old new held now is_old next changes (free_within (states_of held) old.table (place + 1) old.places) ahead left (ap not none)
+          (lost_needed old slot entries none ∙ none_needed old some) are.same_places (front_of (λ d. writes_of_place (states_of now) d.place.0 ≡ pairs_of d.entries.items) changes own staged.writes_here)
+          (λ k lt is_on. staged.writes_there (place_in_file old.table k) (All-push (λ d. d.place.0 ≢ place_in_file old.table k) changes own
+          (ahead_nowhere old.words (states_of held) old.table old.places (place + 1) next changes top are old.permuted k lt is_on)
+          (λ same. let here = old.permuted.apart place k used lt (sym number_is ∙ same) in let e : true ≡ false = sym is_on ∙ sym (ap (is_prepared_ahead old.table) here) ∙ off in cc)))
+          (has_parts new (Some now) old.words old.places (slice_set old.place_of slot place) next old.has_failed parts) in
+          on_disk facts (Good (length (written_by old PrepareCall slot entries waiting) + prepare_calls (has_written old slot entries) entries)) old.held new.held held now is_old parts.is_held
+          (subst (λ n. Good n (facts (disk_of held)) (facts (disk_of now))) (ap (λ n. n + 2) many ∙ ap (λ b. length (written_by old PrepareCall slot entries waiting) + prepare_calls b entries) (sym none)) went.made);
       ends = λ file shows.
           let placed = placed_in facts old held is_old file shows in
           let same = is ∙ found_at (states_of held) old.table old.places file placed in
@@ -278,8 +326,12 @@ module _ {D : Type 0} (facts : D → Facts) (old new : Book D) (held now : Tenan
 
     pub cancel_made : (slot : ℕ) → slot < MAX_POOL → is_free_stage (stage_in_file (states_of held) old.table (place_at old slot)) ≡ false → is_prepared_ahead old.table (place_at old slot) ≡ false → (w : Pairs)
         → IsStaged (states_of held) (states_of now) (place_in_file old.table (place_at old slot)) FreeStage w → HasParts new (Some now) old.words old.places old.place_of old.table old.has_failed
-        → (entries : List Entry) (most : ℕ) → disk_of now ≡ disk_of held → IsFiled facts CancelCall slot entries most old new Made
-    cancel_made slot within busy own w staged parts entries most same = record {
+        → (entries : List Entry) (waiting : List Waiting) → disk_of now ≡ disk_of held → IsFiled facts CancelCall slot entries waiting old new Made
+    cancel_made slot within busy own w staged parts entries waiting same = record {
+      counts = λ is_made. on_disk facts (Good 0) old.held new.held held now is_old parts.is_held (subst (λ d. Good 0 (facts (disk_of held)) (facts d)) (sym same) (good_none (facts (disk_of held))));
+      records = same_records CancelCall slot entries waiting old new refl refl (λ s es.
+          has_parts new (Some now) old.words old.places old.place_of old.table old.has_failed parts s es ∙ any_same (is_written (states_of now) old.table s es) (is_written (states_of held) old.table s es) old.places (still_written s es)
+          ∙ ap (λ h. any_below (is_written (states_in h) old.table s es) old.places) (sym is_old) ∙ sym (has_any old s es));
       ends = λ file shows. record {
         began = refl;
         written = 0;
@@ -296,6 +348,19 @@ module _ {D : Type 0} (facts : D → Facts) (old new : Book D) (held now : Tenan
       places = parts.is_places;
       ahead = λ place. ap (λ table. is_settled table place) parts.is_table;
     } where
+      -- the file's place of the change that is cancelled is no place of another one
+      elsewhere : (k : ℕ) → k < old.places → is_prepared_ahead old.table k ≡ true → place_in_file old.table k ≢ place_in_file old.table (place_at old slot)
+      elsewhere k lt is_on same = elim (cases_lt (place_at old slot) old.places) [
+        | inl less ↦ let here = old.permuted.apart k (place_at old slot) lt less same in let e : true ≡ false = sym is_on ∙ ap (is_prepared_ahead old.table) here ∙ own in cc
+        | inr past ↦ let at = old.permuted.past (place_at old slot) past in let low = old.permuted.within k lt in let e : ⊥ = omega (arith, same, at, low, past) in e
+      ]
+
+      still_written : (s : ℕ) (es : List Entry) (k : ℕ) → k < old.places → is_written (states_of now) old.table s es k ≡ is_written (states_of held) old.table s es k
+      still_written s es k lt = elim (cases_Bool (is_prepared_ahead old.table k)) [
+        | inl is_on ↦ ap (λ ws. is_for (get_or old.table.ahead_for k None) s && are_writes_of ws es) (staged.writes_there (place_in_file old.table k) (elsewhere k lt is_on))
+        | inr is_off ↦ not_written (states_of now) old.table s es k is_off ∙ sym (not_written (states_of held) old.table s es k is_off)
+      ]
+
       placed : (file : File) → Represents facts old file → ArePlaced (states_of now) old.table old.places (upd file.places (place_at old slot) Empty)
       placed file shows =
           placed_on (states_of held) (stage_of (states_of now)) (writes_of_place (states_of now)) old.table old.places (place_at old slot) file.places FreeStage w (placed_in facts old held is_old file shows) old.permuted
@@ -307,11 +372,23 @@ module _ {D : Type 0} (facts : D → Facts) (old new : Book D) (held now : Tenan
       many_made : roll_calls (states_of held) ≡ settle_calls (is_settled old.table (place_at old slot)) (states_in old.held)
       many_made = ap (λ h. roll_calls (states_in h)) (sym is_old) ∙ ap (λ flag. settle_calls flag (states_in old.held)) (sym plain)
 
-      pub settle_made : (entries : List Entry) (most : ℕ) (flags : List Bool) (next : PlaceTable) (changes : List NewChange) (low top : ℕ) → AreChosen old.words (states_of held) old.table old.places low next changes top
-          → length changes ≤ most → HasParts new (Some now) old.words old.places old.place_of (record next { settled = flags }) old.has_failed
+      pub settle_made : (entries : List Entry) (waiting : List Waiting) (flags : List Bool) (next : PlaceTable) (changes : List NewChange) (top : ℕ) → AreChosen old.words (states_of held) old.table old.places 0 next changes top
+          → length changes ≤ length waiting → AreAhead old.table next old.places changes (first_ready old.words (states_of held) old.table old.places slot (free_within (states_of held) old.table 0 old.places) waiting) → HasParts new (Some now) old.words old.places old.place_of (record next { settled = flags }) old.has_failed
           → ((place : ℕ) → flag_of flags place ≡ ahead_by_settle (states_of held) old.table (place_at old slot) place) → AreSettledWith (states_of held) (states_of now) changes
-          → WentWell facts (length changes + roll_calls (states_of held)) held now → IsFiled facts SettleCall slot entries most old new Made
-      settle_made entries most flags next changes low top chosen fewer parts are settled went = record {
+          → WentWell facts (length changes + roll_calls (states_of held)) held now → IsFiled facts SettleCall slot entries waiting old new Made
+      settle_made entries waiting flags next changes top chosen fewer ahead parts are settled went = record {
+        records =
+            made_records SettleCall slot entries waiting old new held now is_old next changes (free_within (states_of held) old.table 0 old.places) ahead
+            (free_from_first (states_of held) old.table old.places ∙ ap (λ h. count_below (is_free (states_in h) old.table) old.places) (sym is_old)) (ap not plain) refl chosen.same_places settled.writes_here
+            (λ k lt is_on. settled.writes_there (place_in_file old.table k) (ahead_nowhere old.words (states_of held) old.table old.places 0 next changes top chosen old.permuted k lt is_on))
+            (has_parts new (Some now) old.words old.places old.place_of (record next { settled = flags }) old.has_failed parts);
+        counts = λ is_made.
+            let many = made_many SettleCall slot entries waiting old new held now is_old next changes (free_within (states_of held) old.table 0 old.places) ahead
+            (free_from_first (states_of held) old.table old.places ∙ ap (λ h. count_below (is_free (states_in h) old.table) old.places) (sym is_old)) (ap not plain) refl chosen.same_places settled.writes_here
+            (λ k lt is_on. settled.writes_there (place_in_file old.table k) (ahead_nowhere old.words (states_of held) old.table old.places 0 next changes top chosen old.permuted k lt is_on))
+            (has_parts new (Some now) old.words old.places old.place_of (record next { settled = flags }) old.has_failed parts) in
+            on_disk facts (Good (length (written_by old SettleCall slot entries waiting) + settle_calls (is_settled old.table (place_at old slot)) (states_in old.held))) old.held new.held held now is_old parts.is_held
+            (subst (λ n. Good n (facts (disk_of held)) (facts (disk_of now))) (ap (λ n. n + roll_calls (states_of held)) many ∙ ap (λ n. length (written_by old SettleCall slot entries waiting) + n) many_made) went.made);
         ends = λ file shows. record {
           began = shows.same_failed ∙ sound;
           written = length changes;
@@ -330,13 +407,13 @@ module _ {D : Type 0} (facts : D → Facts) (old new : Book D) (held now : Tenan
       } where
         placed : (file : File) → Represents facts old file → ArePlaced (states_of now) (record next { settled = flags }) old.places (upd file.places (place_at old slot) Empty)
         placed file shows =
-            placed_settled old.words (states_of held) (states_of now) old.table next old.places low changes top chosen old.permuted file.places (placed_in facts old held is_old file shows)
+            placed_settled old.words (states_of held) (states_of now) old.table next old.places 0 changes top chosen old.permuted file.places (placed_in facts old held is_old file shows)
             (place_at old slot) flags is_sealed_there plain are settled
 
-      pub settle_broken : (entries : List Entry) (written most : ℕ) → written ≤ most → HasParts new (Some now) old.words old.places old.place_of old.table true → MetFault facts (written + roll_calls (states_of held)) held now
-          → IsFiled facts SettleCall slot entries most old new Broken
-      settle_broken entries written most few parts met =
-          broke parts sound (written + roll_calls (states_of held)) met SettleCall slot entries written most few (λ is. let e : SettleCall ≡ CancelCall = is in cc) (λ file. refl)
+      pub settle_broken : (entries : List Entry) (written : ℕ) (waiting : List Waiting) → written ≤ length waiting → HasParts new (Some now) old.words old.places old.place_of old.table true → MetFault facts (written + roll_calls (states_of held)) held now
+          → IsFiled facts SettleCall slot entries waiting old new Broken
+      settle_broken entries written waiting few parts met =
+          broke parts sound (written + roll_calls (states_of held)) met SettleCall slot entries written waiting few refl (λ is. let e : SettleCall ≡ CancelCall = is in cc) (λ file. refl)
           (λ there. ap (λ n. written + n) many_made) (stays_certain sound) stays_safe
 
   -- A seal, by its answer.
@@ -345,9 +422,9 @@ module _ {D : Type 0} (facts : D → Facts) (old new : Book D) (held now : Tenan
     safe_as : (file : File) → Represents facts old file → ChangeIsSealed facts held now (pairs_of (entries_at file (file.place_of slot))) r
     safe_as file shows = subst (λ w. ChangeIsSealed facts held now w r) (writes_called facts old held is_old file shows slot within busy own) safe
 
-    pub seal_broken : (entries : List Entry) (written most : ℕ) → written ≤ most → is_err r ≡ true → FileEnds facts (written + 2) held now r → HasParts new (Some now) old.words old.places old.place_of old.table true → IsFiled facts SealCall slot entries most old new Broken
-    seal_broken entries written most few bad ends parts =
-        broke parts sound (written + 2) (met_fault facts (written + 2) held now r bad (failed_as facts old held is_old ∙ sound) ends) SealCall slot entries written most few (λ is. let e : SealCall ≡ CancelCall = is in cc) (λ file. refl)
+    pub seal_broken : (entries : List Entry) (written : ℕ) (waiting : List Waiting) → written ≤ length waiting → is_err r ≡ true → FileEnds facts (written + 2) held now r → HasParts new (Some now) old.words old.places old.place_of old.table true → IsFiled facts SealCall slot entries waiting old new Broken
+    seal_broken entries written waiting few bad ends parts =
+        broke parts sound (written + 2) (met_fault facts (written + 2) held now r bad (failed_as facts old held is_old ∙ sound) ends) SealCall slot entries written waiting few refl (λ is. let e : SealCall ≡ CancelCall = is in cc) (λ file. refl)
         (λ there. refl) (λ file shows honest. (left file shows honest).after)
         (λ file shows honest. leaves_either (facts (disk_of held)) (facts (disk_of now)) (length (states_of held)) file.contents (entries_at file (file.place_of slot)) (left file shows honest).moments) where
           left : (file : File) → Represents facts old file → IsTrue (facts (disk_of held)).honest
@@ -356,11 +433,24 @@ module _ {D : Type 0} (facts : D → Facts) (old new : Book D) (held now : Tenan
               sealed_badly facts (written + 2) held now (pairs_of (entries_at file (file.place_of slot))) r bad (failed_as facts old held is_old ∙ sound) ends (safe_as file shows) honest
               file.contents (pairs_of file.doubt) (keeps_in facts old held is_old file shows honest)
 
-    pub seal_made : (entries : List Entry) (most : ℕ) (next : PlaceTable) (changes : List NewChange) (low top : ℕ) → AreChosen old.words (states_of held) old.table old.places low next changes top → length changes ≤ most
+    pub seal_made : (entries : List Entry) (waiting : List Waiting) (next : PlaceTable) (changes : List NewChange) (top : ℕ) → AreChosen old.words (states_of held) old.table old.places 0 next changes top → length changes ≤ length waiting
+        → AreAhead old.table next old.places changes (first_ready old.words (states_of held) old.table old.places slot (free_within (states_of held) old.table 0 old.places) waiting)
         → is_err r ≡ false → WentWell facts (length changes + 2) held now → stage_in_file (states_of held) old.table (place_at old slot) ≡ PreparedStage
         → IsSealedWith (states_of held) (states_of now) (place_in_file old.table (place_at old slot)) changes
-        → HasParts new (Some now) old.words old.places old.place_of next old.has_failed → IsFiled facts SealCall slot entries most old new Made
-    seal_made entries most next changes low top are fewer well went was staged parts = record {
+        → HasParts new (Some now) old.words old.places old.place_of next old.has_failed → IsFiled facts SealCall slot entries waiting old new Made
+    seal_made entries waiting next changes top are fewer ahead well went was staged parts = record {
+      records =
+          made_records SealCall slot entries waiting old new held now is_old next changes (free_within (states_of held) old.table 0 old.places) ahead
+          (free_from_first (states_of held) old.table old.places ∙ ap (λ h. count_below (is_free (states_in h) old.table) old.places) (sym is_old)) refl refl are.same_places staged.writes_here
+          (λ k lt is_on. staged.writes_there (place_in_file old.table k) (ahead_nowhere old.words (states_of held) old.table old.places 0 next changes top are old.permuted k lt is_on))
+          (has_parts new (Some now) old.words old.places old.place_of next old.has_failed parts);
+      counts = λ is_made.
+          let many = made_many SealCall slot entries waiting old new held now is_old next changes (free_within (states_of held) old.table 0 old.places) ahead
+          (free_from_first (states_of held) old.table old.places ∙ ap (λ h. count_below (is_free (states_in h) old.table) old.places) (sym is_old)) refl refl are.same_places staged.writes_here
+          (λ k lt is_on. staged.writes_there (place_in_file old.table k) (ahead_nowhere old.words (states_of held) old.table old.places 0 next changes top are old.permuted k lt is_on))
+          (has_parts new (Some now) old.words old.places old.place_of next old.has_failed parts) in
+          on_disk facts (Good (length (written_by old SealCall slot entries waiting) + 2)) old.held new.held held now is_old parts.is_held
+          (subst (λ n. Good n (facts (disk_of held)) (facts (disk_of now))) (ap (λ n. n + 2) many) went.made);
       ends = λ file shows. record {
         began = shows.same_failed ∙ sound;
         written = length changes;
@@ -413,7 +503,7 @@ module _ {D : Type 0} (facts : D → Facts) (old new : Book D) (held now : Tenan
           shows_parts facts new (Some now) old.words old.places old.place_of next old.has_failed (sealed file (file.place_of slot)) parts (record {
             same_words = length-put file.contents es ∙ shows.same_words;
             same_places = subst (λ p. ArePlaced (states_of now) next old.places (upd file.places p (Sealed es))) (sym at)
-                (placed_beside old.words (states_of held) (states_of now) old.table next old.places low changes top are old.permuted file.places (placed_in facts old held is_old file shows) (place_at old slot)
+                (placed_beside old.words (states_of held) (states_of now) old.table next old.places 0 changes top are old.permuted file.places (placed_in facts old held is_old file shows) (place_at old slot)
                 (place_within facts old held is_old file shows slot within busy) SealedStage (writes_in_file (states_of held) old.table (place_at old slot)) (Sealed es)
                 (plain_at facts old held is_old file shows slot within busy) own refl (λ full. writes_called facts old held is_old file shows slot within busy own)
                 (λ k lt fresh. away k lt fresh)
@@ -429,10 +519,16 @@ none_more : (n : ℕ) → n ≡ 0 + n
 none_more n = omega arith
 
 -- A settle of a change that was settled ahead: only its flag is cleared.
-pub settle_ahead : {D : Type 0} (facts : D → Facts) (old new : Book D) (slot : ℕ) (entries : List Entry) (most : ℕ) (flags : List Bool) → slot < MAX_POOL → old.has_failed ≡ false
+pub settle_ahead : {D : Type 0} (facts : D → Facts) (old new : Book D) (slot : ℕ) (entries : List Entry) (waiting : List Waiting) (flags : List Bool) → slot < MAX_POOL → old.has_failed ≡ false
     → is_settled old.table (place_at old slot) ≡ true → HasParts new old.held old.words old.places old.place_of (record old.table { settled = flags }) old.has_failed
-    → ((place : ℕ) → flag_of flags place ≡ ahead_by_settle (states_in old.held) old.table (place_at old slot) place) → IsFiled facts SettleCall slot entries most old new Made
-settle_ahead facts old new slot entries most flags within sound ahead parts are = record {
+    → ((place : ℕ) → flag_of flags place ≡ ahead_by_settle (states_in old.held) old.table (place_at old slot) place) → IsFiled facts SettleCall slot entries waiting old new Made
+settle_ahead facts old new slot entries waiting flags within sound ahead parts are = record {
+  counts = λ is_made.
+      subst (λ n. OnDisk facts (Good n) (disk_in old.held) (disk_in new.held))
+      (sym (ap (λ ws. length ws + settle_calls (is_settled old.table (place_at old slot)) (states_in old.held)) (none_by old SettleCall slot entries waiting (ap not ahead)) ∙ ap (λ flag. 0 + settle_calls flag (states_in old.held)) ahead))
+      (subst (λ h. OnDisk facts (Good 0) (disk_in old.held) (disk_in h)) (sym parts.is_held) (on_same facts (Good 0) old.held good_none));
+  records = same_records SettleCall slot entries waiting old new refl (ap not ahead) (λ s es.
+      has_parts new old.held old.words old.places old.place_of (record old.table { settled = flags }) old.has_failed parts s es ∙ sym (has_any old s es));
   ends = λ file shows. record {
     began = shows.same_failed ∙ sound;
     written = 0;
@@ -456,69 +552,4 @@ settle_ahead facts old new slot entries most flags within sound ahead parts are 
   words = parts.is_words;
   places = parts.is_places;
   ahead = λ place. ap (λ table. is_settled table place) parts.is_table ∙ are place;
-}
-
--- After a change that was prepared ahead was given up, a prepare that was tried ends for the book before that too.
-module _ {D : Type 0} (facts : D → Facts) (slot : ℕ) (entries : List Entry) (most : ℕ) (old mid new : Book D) (same : RepresentsSame facts old mid) (none : has_written old slot entries ≡ false) (still_none : has_written mid slot entries ≡ false) where
-  same_calls : (there : List Entry) → calls_on mid PrepareCall slot entries there ≡ calls_on old PrepareCall slot entries there
-  same_calls there = ap (λ b. prepare_calls b there) (still_none ∙ sym none)
-
-  tried_same : (result : Filed) → (result ≡ Untouched → ⊥) → (file : File) → Ends facts PrepareCall slot entries most file mid new result → Represents facts old file → Ends facts PrepareCall slot entries most file old new result
-  tried_same Made tried file ends shows = record {
-    began = ends.began;
-    written = ends.written;
-    few = ends.few;
-    made = subst (λ d. OnDisk facts (Good (ends.written + calls_on old PrepareCall slot entries (entries_at file (place_for PrepareCall file old.places slot)))) d (disk_in new.held)) same.disk
-        (subst (λ n. OnDisk facts (Good (ends.written + n)) (disk_in mid.held) (disk_in new.held)) (same_calls (entries_at file (place_for PrepareCall file old.places slot)))
-        (subst (λ places. OnDisk facts (Good (ends.written + calls_on mid PrepareCall slot entries (entries_at file (place_for PrepareCall file places slot)))) (disk_in mid.held) (disk_in new.held)) same.places ends.made));
-    shows = subst (λ n. Represents facts new (filed PrepareCall file slot (place_for PrepareCall file n slot) entries)) same.places ends.shows;
-  }
-  tried_same Broken tried file ends shows = record {
-    began = ends.began;
-    number = ends.number;
-    within = ends.within;
-    written = ends.written;
-    few = ends.few;
-    failed = subst (λ d. OnDisk facts (Bad (ends.written + calls_on old PrepareCall slot entries (entries_at file (place_for PrepareCall file old.places slot)))) d (disk_in new.held)) same.disk
-        (subst (λ n. OnDisk facts (Bad (ends.written + n)) (disk_in mid.held) (disk_in new.held)) (same_calls (entries_at file (place_for PrepareCall file old.places slot)))
-        (subst (λ places. OnDisk facts (Bad (ends.written + calls_on mid PrepareCall slot entries (entries_at file (place_for PrepareCall file places slot)))) (disk_in mid.held) (disk_in new.held)) same.places ends.failed));
-    made = λ is. subst (λ d. OnDisk facts (FailedAt 2 ends.number) d (disk_in new.held)) same.disk (ends.made (ap (λ b. ends.written + prepare_calls b (entries_at file (place_for PrepareCall file mid.places slot))) still_none
-        ∙ sym (ap (λ b. ends.written + prepare_calls b (entries_at file (place_for PrepareCall file old.places slot))) none) ∙ is));
-    shows = ends.shows;
-  }
-  tried_same Untouched tried file ends shows = absurd (tried refl)
-
-answered_same : {D : Type 0} (facts : D → Facts) (old mid new : Book D) (result : Filed) → RepresentsSame facts old mid → (result ≡ Untouched → ⊥) → Answers facts PrepareCall mid new result → Answers facts PrepareCall old new result
-answered_same facts old mid new Made same tried answers = record {
-  began = sym same.failed ∙ answers.began;
-  same_failed = answers.same_failed ∙ same.failed;
-  faults = subst (λ d. OnDisk facts NoFault d (disk_in new.held)) same.disk answers.faults;
-}
-answered_same facts old mid new Broken same tried answers = record {
-  other = answers.other;
-  sound = sym same.failed ∙ answers.sound;
-  failed = answers.failed;
-  faults = subst (λ d. OnDisk facts OneFault d (disk_in new.held)) same.disk answers.faults;
-}
-answered_same facts old mid new Untouched same tried answers = absurd (tried refl)
-
-stake_prepare : (result : Filed) (file : File) (place other : ℕ) → stake_of result PrepareCall file place ≡ stake_of result PrepareCall file other
-stake_prepare Made file place other = refl
-stake_prepare Broken file place other = refl
-stake_prepare Untouched file place other = refl
-
-pub prepare_after : {D : Type 0} (facts : D → Facts) (slot : ℕ) (entries : List Entry) (most : ℕ) (old mid new : Book D) (result : Filed) → RepresentsSame facts old mid → (result ≡ Untouched → ⊥)
-    → has_written old slot entries ≡ false → has_written mid slot entries ≡ false → IsFiled facts PrepareCall slot entries most mid new result → IsFiled facts PrepareCall slot entries most old new result
-prepare_after facts slot entries most old mid new result same tried none still_none is = record {
-  ends = λ file shows. tried_same facts slot entries most old mid new same none still_none result tried file (is.ends file (same.shows file shows)) shows;
-  answers = answered_same facts old mid new result same tried is.answers;
-  moments = λ file shows.
-      subst (λ change. OnDisk facts (LeavesEither file.contents change) (disk_in old.held) (disk_in new.held))
-      (stake_prepare result file (place_for PrepareCall file mid.places slot) (place_for PrepareCall file old.places slot))
-      (subst (λ d. OnDisk facts (LeavesEither file.contents (stake_of result PrepareCall file (place_for PrepareCall file mid.places slot))) d (disk_in new.held)) same.disk (is.moments file (same.shows file shows)));
-  later = subst (λ d. OnDisk facts Later d (disk_in new.held)) same.disk is.later;
-  quiet = λ cancels. is.quiet cancels ∙ same.disk;
-  words = is.words ∙ same.words;
-  places = is.places ∙ same.places;
-  ahead = λ place. is.ahead place ∙ ap (λ flags. flag_of flags place) same.settled;
 }

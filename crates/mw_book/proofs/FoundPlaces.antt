@@ -77,6 +77,9 @@ module _ (states : List PlaceState) (table : PlaceTable) (place : ℕ) (vacant :
   pub free_of : is_prepared_ahead table place ≡ false → stage_in_file states table place ≡ Free
   free_of none = free_only (stage_in_file states table place) (sym (ap (λ b. is_left b (stage_in_file states table place)) none) ∙ both.0)
 
+  pub prepared_of : is_prepared_ahead table place ≡ true → stage_in_file states table place ≡ PreparedStage
+  prepared_of ahead = prepared_only (stage_in_file states table place) (sym (ap (λ b. is_left b (stage_in_file states table place)) ahead) ∙ both.0)
+
   pub plain_of : is_settled table place ≡ false
   plain_of = not_true (is_settled table place) both.1
 

@@ -1,8 +1,8 @@
 -- If a change that was prepared ahead is given up in the lowest vacant place, the book represents the same files, and that place is the
 -- lowest vacant one still.
 -- Used by: the proof of Book::make_room. It may change freely as long as this crate checks.
-use Rattle.std.proofs.Common.{◌≡◌, ◌≢◌, ℕ, ◌<◌, ◌≤◌, ◌&&◌, not, Bool, true, false, List, length, Option, Some, None, is_some, get_or, slice_set, nat_lt, IsTrue, refl, sym, ap, subst, ◌∙◌, inl, inr, arith}
-use Rattle.std.proofs.lemmas.Bool.{cases_eq, lt-ltb, ltb-true}
+use Rattle.std.proofs.Common.{◌≡◌, ◌≢◌, ℕ, ◌<◌, ◌≤◌, ◌-◌, ◌+◌, ◌==◌, ◌&&◌, not, Bool, true, false, List, length, Option, Some, None, is_some, get_or, slice_set, IsTrue, refl, sym, ap, subst, ◌∙◌, inl, inr, arith}
+use Rattle.std.proofs.lemmas.Bool.{cases_eq, cond-true, eq-eqb, ne_eqb}
 use Rattle.std.proofs.lemmas.List.{get_or-set_same, get_or-set_other}
 use Rattle.mw_words.specs.declared.limits.TheConstants.{MAX_PLACES}
 use Rattle.mw_words.specs.declared.jobs.Entry.{Entry}
@@ -19,13 +19,15 @@ use Rattle.mw_book.specs.declared.book.Book.{Book}
 use Rattle.mw_book.specs.declared.place_table.PlaceTable.{PlaceTable}
 use Rattle.mw_book.specs.OpenFile.{states_in, disk_in}
 use Rattle.mw_book.specs.Permits.{HasPlace, is_left, is_vacant, vacant_place}
-use Rattle.mw_book.specs.PreparedAhead.{are_writes_of, is_for, is_written, written_place}
+use Rattle.mw_book.specs.PreparedAhead.{are_writes_of, has_written, is_for, is_written}
+use Rattle.mw_book.specs.RecordsAhead.{any_below, count_below, free_places, has_but, is_free, place_needed}
 use Rattle.mw_book.specs.Representation.{HasParts, Represents, is_prepared_ahead, is_settled, place_in_file, stage_in_file, writes_in_file}
-use Rattle.mw_book.specs.SameFiles.{RepresentsSame}
+use Rattle.mw_book.specs.SameFiles.{HasMadeRoom, RepresentsSame}
+use Rattle.mw_book.proofs.CountedPlaces.{count_more, count_none}
 use Rattle.mw_book.proofs.FoundPlaces.{vacant_alike, vacant_plain, vacant_prepared, vacant_so}
+use Rattle.mw_book.proofs.RecordsAhead.{any_same, but_fewer, free_parts, has_parts, not_written}
 use Rattle.mw_book.proofs.RepresentedFiles.{keeps_in, placed_in, shows_parts, there_held}
 use Rattle.mw_book.proofs.StagedPlaces.{placed_without, staged_by}
-use Rattle.mw_book.proofs.WrittenPlaces.{written_ahead, written_found, written_there}
 
 -- the table without the change that was prepared ahead in a place
 abbrev pub without : PlaceTable → ℕ → PlaceTable
@@ -71,27 +73,57 @@ module _ {D : Type 0} (facts : D → Facts) (old : Book D) (held now : TenantFil
   pub still_room : HasPlace (states_of now) (without old.table place) old.places
   still_room = let lt = low in let at = still_lowest in omega (arith, at, lt)
 
-  -- a record that is prepared ahead was so before
-  fewer_at : (slot : ℕ) (entries : List Entry) (k : ℕ) → k < old.places → is_written (states_of now) (without old.table place) slot entries k ≡ true → is_written (states_of held) old.table slot entries k ≡ true
-  fewer_at slot entries k lt has = elim (cases_eq k place) [
-    | inl here ↦ absurd (let e : true ≡ false = sym (written_ahead (states_of now) (without old.table place) slot entries k has) ∙ ap (is_prepared_ahead (without old.table place)) here ∙ gone in cc)
-    | inr apart ↦
-        ap (λ found. is_for found slot && are_writes_of (writes_in_file (states_of held) old.table k) entries) (sym (get_or-set_other old.table.ahead_for place k None None apart))
-        ∙ ap (λ ws. is_for (get_or (without old.table place).ahead_for k None) slot && are_writes_of ws entries)
-        (sym (staged.writes_there (place_in_file old.table k) (λ same. apart (old.permuted.apart k place lt low same)))) ∙ has
-  ]
+  -- The same changes are prepared ahead as before, but for the one that was given up.
+  module _ (slot : ℕ) (entries : List Entry) where
+    one_written : (k : ℕ) → k < old.places → is_written (states_of now) (without old.table place) slot entries k ≡ (not (k == place) && is_written (states_of held) old.table slot entries k)
+    one_written k lt = elim (cases_eq k place) [
+      | inl here ↦
+          not_written (states_of now) (without old.table place) slot entries k (ap (is_prepared_ahead (without old.table place)) here ∙ gone)
+          ∙ sym (ap (λ b. not b && is_written (states_of held) old.table slot entries k) (eq-eqb k place here))
+      | inr apart ↦
+          ap (λ found. is_for found slot && are_writes_of (writes_in_file (states_of now) old.table k) entries) (get_or-set_other old.table.ahead_for place k None None apart)
+          ∙ ap (λ ws. is_for (get_or old.table.ahead_for k None) slot && are_writes_of ws entries)
+          (staged.writes_there (place_in_file old.table k) (λ same. apart (old.permuted.apart k place lt low same)))
+          ∙ sym (ap (λ b. not b && is_written (states_of held) old.table slot entries k) (ne_eqb k place apart))
+    ]
 
-  pub fewer : (slot : ℕ) (entries : List Entry) → nat_lt (written_place (states_of held) old.table slot entries old.places) old.places ≡ false
-      → nat_lt (written_place (states_of now) (without old.table place) slot entries old.places) old.places ≡ false
-  fewer slot entries none = by (nat_lt (written_place (states_of now) (without old.table place) slot entries old.places) old.places) refl where
-    by : (b : Bool) → nat_lt (written_place (states_of now) (without old.table place) slot entries old.places) old.places ≡ b → b ≡ false
-    by false is = refl
-    by true is =
-        let lt = ltb-true (written_place (states_of now) (without old.table place) slot entries old.places) old.places is in
-        let there = written_there (states_of now) (without old.table place) slot entries 0 old.places (omega (arith, lt)) in
-        let was = fewer_at slot entries (written_place (states_of now) (without old.table place) slot entries old.places) lt there in
-        let found = written_found (states_of held) old.table slot entries 0 old.places (written_place (states_of now) (without old.table place) slot entries old.places) (omega arith) (omega (arith, lt)) was in
-        absurd (let e : true ≡ false = sym (lt-ltb (written_place (states_of held) old.table slot entries old.places) old.places (omega (arith, found))) ∙ none in cc)
+    given_has : any_below (is_written (states_of now) (without old.table place) slot entries) old.places ≡ any_below (λ k. not (k == place) && is_written (states_of held) old.table slot entries k) old.places
+    given_has = any_same (is_written (states_of now) (without old.table place) slot entries) (λ k. not (k == place) && is_written (states_of held) old.table slot entries k) old.places one_written
+
+  -- no place was free, and just this one is
+  module _ (none : (k : ℕ) → 0 ≤ k → k < old.places → is_free (states_of held) old.table k ≡ false) (new : Book D) (parts : HasParts new (Some now) old.words old.places old.place_of (without old.table place) old.has_failed) where
+    none_free : free_places old ≡ 0
+    none_free = ap (λ h. count_below (is_free (states_in h) old.table) old.places) is_old ∙ count_none (is_free (states_of held) old.table) old.places (λ k lt. none k (omega arith) lt)
+
+    one_free : count_below (is_free (states_of now) (without old.table place)) old.places ≡ count_below (is_free (states_of held) old.table) old.places + 1
+    one_free =
+        count_more (is_free (states_of held) old.table) (is_free (states_of now) (without old.table place)) old.places place low (none place (omega arith) low)
+        (ap (λ b. b && not (is_prepared_ahead (without old.table place) place)) is_so ∙ ap not gone)
+        (λ k lt apart. ap (λ b. b && not (is_prepared_ahead (without old.table place) k)) (same_vacant k lt) ∙ ap (λ b. is_vacant (states_of held) old.table k && not b) (kept k apart))
+
+    given_kept : (slot : ℕ) (entries : List Entry) → has_written new slot entries ≡ has_but old (place_needed old) slot entries
+    given_kept slot entries =
+        has_parts new (Some now) old.words old.places old.place_of (without old.table place) old.has_failed parts slot entries ∙ given_has slot entries
+        ∙ ap (λ h. any_below (λ k. not (k == place) && is_written (states_in h) old.table slot entries k) old.places) (sym is_old)
+        ∙ ap (λ n. has_but old n slot entries)
+        (is ∙ ap (λ h. vacant_place (states_in h) old.table old.places) (sym is_old)
+        ∙ sym (cond-true (free_places old == 0) (vacant_place (states_in old.held) old.table old.places) old.places (eq-eqb (free_places old) 0 none_free)))
+
+    just_one : free_places new ≡ 1
+    just_one =
+        let now_free : free_places new ≡ count_below (is_free (states_of now) (without old.table place)) old.places = free_parts new (Some now) old.words old.places old.place_of (without old.table place) old.has_failed parts in
+        let was : free_places old ≡ count_below (is_free (states_of held) old.table) old.places = ap (λ h. count_below (is_free (states_in h) old.table) old.places) is_old in
+        let more = one_free in
+        let zero_was = none_free in
+        omega (arith, now_free, was, more, zero_was)
+
+    pub given_room : HasMadeRoom old new
+    given_room = record {
+      kept = given_kept;
+      left = (let one = just_one in let zero_was = none_free in omega (arith, one, zero_was));
+      fewer = λ slot entries none. given_kept slot entries ∙ but_fewer old (place_needed old) slot entries none;
+      some = (let one = just_one in omega (arith, one));
+    }
 
   pub represents_same : (new : Book D) → HasParts new (Some now) old.words old.places old.place_of (without old.table place) old.has_failed → disk_of now ≡ disk_of held → ContentsStay facts held now → RepresentsSame facts old new
   represents_same new parts same safe = record {

@@ -1,8 +1,11 @@
 -- The book of a file that just opened, or that didn't open, represents that file, and no change is settled ahead.
 -- Used by: the proofs of Book::new and unopened. It may change freely as long as this crate checks.
-use Rattle.std.proofs.Common.{◌≡◌, ℕ, zero, suc, ◌<◌, Bool, true, false, List, [], length, get_or, replicate, Option, Some, None, is_some, IsTrue, refl, sym, ◌∙◌}
+use Rattle.std.proofs.Common.{◌≡◌, ℕ, zero, suc, ◌<◌, Bool, true, false, List, [], length, get_or, replicate, Option, Some, None, is_some, IsTrue, nat_lt, refl, sym, ◌∙◌, arith}
+use Rattle.std.proofs.lemmas.Bool.{le-ltb}
 use Rattle.mw_words.specs.declared.limits.TheConstants.{MAX_POOL}
+use Rattle.mw_words.specs.declared.jobs.Entry.{Entry}
 use Rattle.mw_disk.specs.Facts.{Facts}
+use Rattle.mw_file.specs.declared.place_states.PlaceState.{PlaceState}
 use Rattle.mw_file.specs.declared.tenant_file.TenantFile.{TenantFile}
 use Rattle.mw_file.specs.File.{disk_of, words_of, states_of}
 use Rattle.mw_file.proofs.Free.{stage_of-all_free}
@@ -11,8 +14,11 @@ use Rattle.mw_file.specs.PlaceStates.{all_free}
 use Rattle.mw_world_file.specs.Files.{Empty, file_of}
 use Rattle.mw_book.specs.declared.place_table.PlaceTable.{PlaceTable}
 use Rattle.mw_book.specs.FilePlaces.{flag_of}
+use Rattle.mw_book.specs.PreparedAhead.{written_place}
 use Rattle.mw_book.specs.Representation.{PartsRepresent, is_prepared_ahead, is_settled, place_in_file, unopened}
 use Rattle.mw_book.proofs.PlacesAhead.{held_plain}
+use Rattle.mw_book.proofs.RecordsAhead.{not_written}
+use Rattle.mw_book.proofs.WrittenPlaces.{written_none}
 
 module _ {D : Type 0} (facts : D → Facts) where
   -- the parts of the book of a file that just opened
@@ -64,7 +70,18 @@ none_ahead (suc many) (suc place) = none_ahead many place
 abbrev no_slots : ℕ → List (Option ℕ)
 no_slots many = replicate many None
 
+-- the table of a new book
+abbrev bare : List ℕ → ℕ → PlaceTable
+bare numbers many = record { file_place = numbers; settled = replicate many false; ahead_for = no_slots many }
+
 pub none_prepared : (many place : ℕ) → is_some (get_or (no_slots many) place None) ≡ false
 none_prepared zero place = refl
 none_prepared (suc many) zero = refl
 none_prepared (suc many) (suc place) = none_prepared many place
+
+-- then no record is
+pub no_records : (states : List PlaceState) (numbers : List ℕ) (many places slot : ℕ) (entries : List Entry)
+    → nat_lt (written_place states (record { file_place = numbers; settled = replicate many false; ahead_for = no_slots many }) slot entries places) places ≡ false
+no_records states numbers many places slot entries =
+    let at = written_none states (bare numbers many) slot entries 0 places (λ place. not_written states (bare numbers many) slot entries place (none_prepared many place)) in
+    le-ltb (written_place states (bare numbers many) slot entries places) places (omega (arith, at))

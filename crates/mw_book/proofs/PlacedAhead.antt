@@ -50,7 +50,7 @@ pub record IsLeft (stage : ℕ → Stage) (new : List PlaceState) (table : Place
 held_fresh : (flag ahead : Bool) (p : Place) → flag ≡ false → ahead ≡ true → stage_held flag ahead p ≡ Prepared
 held_fresh flag ahead p plain on = ap (λ b. stage_held b ahead p) plain ∙ ap (λ b. stage_held false b p) on
 
-empty_told : (p : Place) → stage_held false false p ≡ Free → is_empty p ≡ true
+pub empty_told : (p : Place) → stage_held false false p ≡ Free → is_empty p ≡ true
 empty_told Empty is = refl
 empty_told (PreparedPlace entries) is = absurd (let e : Prepared ≡ Free = is in cc)
 empty_told (SealedPlace entries) is = absurd (let e : Sealed ≡ Free = is in cc)

@@ -1,7 +1,8 @@
 -- If a place takes the record that was prepared ahead in another one, each place still has its own place of the file, and all places match.
--- Used by: the proof of Book::take_written. It may change freely as long as this crate checks.
-use Rattle.std.proofs.Common.{◌≡◌, ◌≢◌, ℕ, ◌+◌, ◌<◌, ◌≤◌, Bool, true, false, List, length, Option, Some, None, is_some, get_or, slice_set, nat_lt, refl, sym, ap, subst, ◌∙◌, inl, inr, arith}
-use Rattle.std.proofs.lemmas.Bool.{cases_eq, lt-ltb}
+-- Used by: MovedRecords, the proof of Book::take_written. It may change freely as long as this crate checks.
+use Rattle.std.proofs.Common.{◌≡◌, ◌≢◌, ℕ, ◌+◌, ◌==◌, ◌<◌, ◌≤◌, ◌&&◌, ◌||◌, not, Bool, true, false, List, [], length, Option, Some, None, is_some, get_or, slice_set, nat_lt, refl, sym, ap, subst, ◌∙◌, inl, inr, arith}
+use Rattle.std.specs.Cmp.{both_ways}
+use Rattle.std.proofs.lemmas.Bool.{and_parts, cases_eq, cond-true, cond-false, eq-eqb, lt-ltb, ne_eqb}
 use Rattle.std.proofs.lemmas.List.{get_or_default, get_or-set_same, get_or-set_other, length-set}
 use Rattle.mw_words.specs.declared.limits.TheConstants.{MAX_PLACES, MAX_POOL}
 use Rattle.mw_words.specs.declared.jobs.Entry.{Entry}
@@ -22,6 +23,7 @@ use Rattle.mw_book.specs.declared.answers.Filed.{Filed}
 use Rattle.mw_book.specs.declared.answers.Filed.TheVariants.{Made}
 use Rattle.mw_book.specs.declared.book.Book.{Book}
 use Rattle.mw_book.specs.declared.place_table.PlaceTable.{PlaceTable}
+use Rattle.mw_book.specs.declared.waiting.Waiting.{Waiting}
 use Rattle.mw_book.specs.Answers.{NoFault}
 use Rattle.mw_book.specs.CallOutcome.{IsFiled}
 use Rattle.mw_book.specs.Crashes.{LeavesEither}
@@ -29,12 +31,15 @@ use Rattle.mw_book.specs.Ends.{prepare_calls}
 use Rattle.mw_book.specs.FilePlaces.{place_in, IsPermutation}
 use Rattle.mw_book.specs.OpenFile.{states_in, disk_in, OnDisk}
 use Rattle.mw_book.specs.Permits.{HasPlace, is_vacant, vacant_place}
-use Rattle.mw_book.specs.PreparedAhead.{has_written, is_written, written_place}
+use Rattle.mw_book.specs.PreparedAhead.{are_writes_of, has_written, is_for, is_written, written_place}
+use Rattle.mw_book.specs.RecordsAhead.{any_below, first_ready, has_but, is_among, makes_calls, place_lost, place_needed, places_left}
 use Rattle.mw_book.specs.Representation.{ArePlaced, HasParts, Represents, is_prepared_ahead, is_settled, place_in_file, stage_held, stage_in_file, writes_in_file}
 use Rattle.mw_book.specs.TakenPlaces.{taken}
+use Rattle.mw_book.proofs.CountedPlaces.{Passes, any_by, any_there}
 use Rattle.mw_book.proofs.FilePlaces.{IsAt, used_at, used_by}
 use Rattle.mw_book.proofs.FoundPlaces.{found_at, vacant_plain, vacant_so, vacant_told}
 use Rattle.mw_book.proofs.PlacesAhead.{held_plain, open_empty, plain_open, told_empty}
+use Rattle.mw_book.proofs.RecordsAhead.{has_parts, none_by, not_written, or_none}
 use Rattle.mw_book.proofs.RepresentedFiles.{on_same, shows_parts, untouched}
 use Rattle.mw_book.proofs.WrittenPlaces.{written_ahead, written_there, written_writes}
 
@@ -48,7 +53,7 @@ module _ (table : PlaceTable) (place written : ℕ) (low : place < length table.
   now = taken table place written
 
   -- the places of the file
-  place_now : place_in_file now place ≡ place_in_file table written
+  pub place_now : place_in_file now place ≡ place_in_file table written
   place_now = elim (cases_eq place written) [
     | inl same ↦
         ap (place_in now.file_place) same ∙ get_or-set_same (slice_set table.file_place place (place_in_file table written)) written (place_in_file table place) written (omega (arith, lower, longer))
@@ -60,33 +65,92 @@ module _ (table : PlaceTable) (place written : ℕ) (low : place < length table.
     longer : length (slice_set table.file_place place (place_in_file table written)) ≡ length table.file_place
     longer = length-set table.file_place place (place_in_file table written)
 
-  written_now : place_in_file now written ≡ place_in_file table place
+  pub written_now : place_in_file now written ≡ place_in_file table place
   written_now = get_or-set_same (slice_set table.file_place place (place_in_file table written)) written (place_in_file table place) written (omega (arith, lower, longer)) where
     longer : length (slice_set table.file_place place (place_in_file table written)) ≡ length table.file_place
     longer = length-set table.file_place place (place_in_file table written)
 
-  others_now : (k : ℕ) → k ≢ place → k ≢ written → place_in_file now k ≡ place_in_file table k
+  pub others_now : (k : ℕ) → k ≢ place → k ≢ written → place_in_file now k ≡ place_in_file table k
   others_now k apart other =
       get_or-set_other (slice_set table.file_place place (place_in_file table written)) written k (place_in_file table place) k other
       ∙ get_or-set_other table.file_place place k (place_in_file table written) k apart
 
   -- what is prepared ahead
-  own_now : is_prepared_ahead now place ≡ false
+  pub own_now : is_prepared_ahead now place ≡ false
   own_now = ap is_some (get_or-set_same (slice_set table.ahead_for written (get_or table.ahead_for place None)) place None None (omega (arith, low, longer, wide))) where
     longer : length (slice_set table.ahead_for written (get_or table.ahead_for place None)) ≡ length table.ahead_for
     longer = length-set table.ahead_for written (get_or table.ahead_for place None)
 
-  ahead_now : written ≢ place → is_prepared_ahead now written ≡ is_prepared_ahead table place
+  pub ahead_now : written ≢ place → is_prepared_ahead now written ≡ is_prepared_ahead table place
   ahead_now apart =
       ap is_some (get_or-set_other (slice_set table.ahead_for written (get_or table.ahead_for place None)) place written None None apart
       ∙ get_or-set_same table.ahead_for written (get_or table.ahead_for place None) None (omega (arith, lower, wide)))
 
-  aheads_now : (k : ℕ) → k ≢ place → k ≢ written → is_prepared_ahead now k ≡ is_prepared_ahead table k
+  pub aheads_now : (k : ℕ) → k ≢ place → k ≢ written → is_prepared_ahead now k ≡ is_prepared_ahead table k
   aheads_now k apart other =
       ap is_some (get_or-set_other (slice_set table.ahead_for written (get_or table.ahead_for place None)) place k None None apart
       ∙ get_or-set_other table.ahead_for written k (get_or table.ahead_for place None) None other)
 
+  -- the slots that are told of what is prepared ahead
+  told_now : written ≢ place → get_or now.ahead_for written None ≡ get_or table.ahead_for place None
+  told_now apart =
+      get_or-set_other (slice_set table.ahead_for written (get_or table.ahead_for place None)) place written None None apart
+      ∙ get_or-set_same table.ahead_for written (get_or table.ahead_for place None) None (omega (arith, lower, wide))
+
+  tells_now : (k : ℕ) → k ≢ place → k ≢ written → get_or now.ahead_for k None ≡ get_or table.ahead_for k None
+  tells_now k apart other =
+      get_or-set_other (slice_set table.ahead_for written (get_or table.ahead_for place None)) place k None None apart
+      ∙ get_or-set_other table.ahead_for written k (get_or table.ahead_for place None) None other
+
   module _ (places : ℕ) (permuted : IsPermutation table.file_place places) (used : place < places) (also : written < places) where
+    -- The same changes are prepared ahead as before, but for the one that is taken.
+    module _ (states : List PlaceState) (slot : ℕ) (entries : List Entry) where
+      there_written : written ≢ place → is_written states now slot entries written ≡ is_written states table slot entries place
+      there_written apart =
+          ap (λ found. is_for found slot && are_writes_of (writes_in_file states now written) entries) (told_now apart)
+          ∙ ap (λ n. is_for (get_or table.ahead_for place None) slot && are_writes_of (writes_of_place states n) entries) written_now
+
+      else_written : (k : ℕ) → k ≢ place → k ≢ written → is_written states now slot entries k ≡ is_written states table slot entries k
+      else_written k apart other =
+          ap (λ found. is_for found slot && are_writes_of (writes_in_file states now k) entries) (tells_now k apart other)
+          ∙ ap (λ n. is_for (get_or table.ahead_for k None) slot && are_writes_of (writes_of_place states n) entries) (others_now k apart other)
+
+      none_here : (k : ℕ) → k ≡ place → is_written states now slot entries k ≡ false
+      none_here k here = ap (is_written states now slot entries) here ∙ not_written states now slot entries place own_now
+
+      kept_there : (k : ℕ) → k ≢ written → is_written states table slot entries k ≡ true → (not (k == written) && is_written states table slot entries k) ≡ true
+      kept_there k apart has = ap (λ b. not b && is_written states table slot entries k) (ne_eqb k written apart) ∙ has
+
+      was_there : Passes (is_written states now slot entries) places → any_below (λ k. not (k == written) && is_written states table slot entries k) places ≡ true
+      was_there one = elim (cases_eq one.number place) [
+        | inl here ↦ absurd (let e : true ≡ false = sym one.so ∙ none_here one.number here in cc)
+        | inr apart ↦ elim (cases_eq one.number written) [
+          | inl there ↦
+              let off : written ≢ place = λ same. apart (there ∙ same) in
+              any_by (λ k. not (k == written) && is_written states table slot entries k) places place used
+              (kept_there place (λ same. off (sym same)) (sym (there_written off) ∙ sym (ap (is_written states now slot entries) there) ∙ one.so))
+          | inr other ↦
+              any_by (λ k. not (k == written) && is_written states table slot entries k) places one.number one.low (kept_there one.number other (sym (else_written one.number apart other) ∙ one.so))
+        ]
+      ]
+
+      is_there : Passes (λ k. not (k == written) && is_written states table slot entries k) places → any_below (is_written states now slot entries) places ≡ true
+      is_there one =
+          let two = and_parts (not (one.number == written)) (is_written states table slot entries one.number) one.so in
+          let other : one.number ≢ written = λ same. let e : false ≡ true = sym (ap not (eq-eqb one.number written same)) ∙ two.0 in cc in
+          elim (cases_eq one.number place) [
+            | inl here ↦
+                any_by (is_written states now slot entries) places written also
+                (there_written (λ same. other (here ∙ sym same)) ∙ sym (ap (is_written states table slot entries) here) ∙ two.1)
+            | inr apart ↦ any_by (is_written states now slot entries) places one.number one.low (else_written one.number apart other ∙ two.1)
+          ]
+
+      pub taken_has : any_below (is_written states (taken table place written) slot entries) places ≡ any_below (λ k. not (k == written) && is_written states table slot entries k) places
+      taken_has =
+          both_ways (any_below (is_written states now slot entries) places) (any_below (λ k. not (k == written) && is_written states table slot entries k) places)
+          (λ is. was_there (any_there (is_written states now slot entries) places is))
+          (λ is. is_there (any_there (λ k. not (k == written) && is_written states table slot entries k) places is))
+
     -- the place that had this place of the file, before the change and after it
     record Had (k : ℕ) : Type 0 where
       was : ℕ
@@ -213,11 +277,23 @@ module _ (table : PlaceTable) (place written : ℕ) (low : place < length table.
       }
 
 -- A prepare of a change whose record was prepared ahead: its slot's place takes the record.
-pub prepare_taken : {D : Type 0} (facts : D → Facts) (old new : Book D) (slot place written : ℕ) (entries : List Entry) (most : ℕ) → place ≡ vacant_place (states_in old.held) old.table old.places
+pub prepare_taken : {D : Type 0} (facts : D → Facts) (old new : Book D) (slot place written : ℕ) (entries : List Entry) (waiting : List Waiting) → place ≡ vacant_place (states_in old.held) old.table old.places
     → HasPlace (states_in old.held) old.table old.places → written ≡ written_place (states_in old.held) old.table slot entries old.places → written < old.places → old.has_failed ≡ false → slot < MAX_POOL
     → MAX_POOL ≤ length old.place_of → place < length old.table.file_place → written < length old.table.file_place → length old.table.ahead_for ≡ length old.table.file_place
-    → HasParts new old.held old.words old.places (slice_set old.place_of slot place) (taken old.table place written) old.has_failed → IsFiled facts PrepareCall slot entries most old new Made
-prepare_taken facts old new slot place written entries most is room found also sound within long low lower wide parts = record {
+    → HasParts new old.held old.words old.places (slice_set old.place_of slot place) (taken old.table place written) old.has_failed → IsFiled facts PrepareCall slot entries waiting old new Made
+prepare_taken facts old new slot place written entries waiting is room found also sound within long low lower wide parts = record {
+  counts = λ is_made.
+      subst (λ n. OnDisk facts (Good n) (disk_in old.held) (disk_in new.held))
+      (sym (ap (λ ws. length ws + prepare_calls (has_written old slot entries) entries) (none_by old PrepareCall slot entries waiting (ap not there)) ∙ ap (λ b. 0 + prepare_calls b entries) there))
+      (subst (λ h. OnDisk facts (Good 0) (disk_in old.held) (disk_in h)) (sym parts.is_held) (on_same facts (Good 0) old.held good_none));
+  records = λ s es.
+      let used : place < old.places = (let lt = room in omega (arith, is, lt)) in
+      has_parts new old.held old.words old.places (slice_set old.place_of slot place) (taken old.table place written) old.has_failed parts s es
+      ∙ taken_has old.table place written low lower wide old.places old.permuted used also (states_in old.held) s es
+      ∙ ap (λ n. has_but old n s es) (found ∙ sym (cond-true (has_written old slot entries) (written_place (states_in old.held) old.table slot entries old.places) (place_needed old) there))
+      ∙ sym (or_none (has_but old (place_lost old PrepareCall slot entries) s es))
+      ∙ ap (λ ws. has_but old (place_lost old PrepareCall slot entries) s es || is_among ws s es)
+      (sym (cond-false (makes_calls old PrepareCall slot entries) (first_ready old.words (states_in old.held) old.table old.places slot (places_left old PrepareCall) waiting) [] (ap not there)));
   ends = λ file shows.
       let same = is ∙ found_at (states_in old.held) old.table old.places file shows.same_places in
       let used : place < old.places = (let lt = room in omega (arith, is, lt)) in

@@ -1,7 +1,7 @@
--- Defines that a change is alone: no other change is sealed, and none is settled or prepared ahead, as with one client. Then each call makes just the device calls that the
--- world lists, and leaves no change settled ahead.
+-- Defines that a change is alone: no other change is sealed, and none is settled or prepared ahead, as with one client. Then each call
+-- makes just the device calls that the world lists, and leaves no change settled or prepared ahead.
 -- Used by: the contracts of laws.rt. A change here changes the law a_change_alone_makes_the_listed_calls.
-use Rattle.std.specs.Prelude.{◌≡◌, ◌≢◌, ◌<◌, ◌≤◌, ◌+◌, ℕ, true, false, List}
+use Rattle.std.specs.Prelude.{◌≡◌, ◌≢◌, ◌<◌, ◌≤◌, ◌+◌, ℕ, true, false, List, []}
 use Rattle.mw_words.specs.declared.limits.TheConstants.{MAX_POOL}
 use Rattle.mw_words.specs.declared.jobs.Entry.{Entry}
 use Rattle.mw_look.specs.declared.steps.Call.{Call}
@@ -10,6 +10,7 @@ use Rattle.mw_world_file.specs.Calls.{device_calls, place_for, suits}
 use Rattle.mw_world_file.specs.Files.{File, entries_at, is_sealed}
 use Rattle.mw_book.specs.declared.answers.Filed.{Filed}
 use Rattle.mw_book.specs.declared.book.Book.{Book}
+use Rattle.mw_book.specs.declared.waiting.Waiting.{Waiting}
 use Rattle.mw_book.specs.CallOutcome.{IsFiled}
 use Rattle.mw_book.specs.Ends.{calls_on}
 use Rattle.mw_book.specs.PreparedAhead.{HasNonePrepared}
@@ -37,5 +38,10 @@ module _ {D : Type 0} (facts : D → Facts) where
 
   -- and it settles none ahead
   abbrev pub AloneLeavesNoneAhead : Type 0
-  AloneLeavesNoneAhead = (old new : Book D) (file : File) (call : Call) (slot : ℕ) (entries : List Entry) (most : ℕ) (answer : Filed) → FindsAlone old file call slot
-      → IsFiled facts call slot entries most old new answer → HasNoneAhead new
+  AloneLeavesNoneAhead = (old new : Book D) (file : File) (call : Call) (slot : ℕ) (entries : List Entry) (waiting : List Waiting) (answer : Filed) → FindsAlone old file call slot
+      → IsFiled facts call slot entries waiting old new answer → HasNoneAhead new
+
+  -- and if no change waits it leaves none prepared ahead
+  abbrev pub AloneLeavesNonePrepared : Type 0
+  AloneLeavesNonePrepared = (old new : Book D) (file : File) (call : Call) (slot : ℕ) (entries : List Entry) (answer : Filed) → FindsAlone old file call slot
+      → IsFiled facts call slot entries [] old new answer → HasNonePrepared new

@@ -10,6 +10,7 @@ pub mod CallOutcome
 pub mod OpenFile
 pub mod Permits
 pub mod PreparedAhead
+pub mod RecordsAhead
 pub mod Representation
 pub mod SameFiles
 pub mod SettledAhead

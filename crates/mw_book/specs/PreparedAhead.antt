@@ -1,5 +1,5 @@
--- Defines in which place the record of a change was prepared ahead: it is in the file though its slot has not prepared it yet.
--- Used by: Ends, Alone, the contracts of place_table.rt and calls.rt. A change here changes which prepares make no device call.
+-- Defines in which place a change is prepared ahead: its record is in the file, though its slot has not prepared it yet.
+-- Used by: Ends, Alone, RecordsAhead, the contracts of place_table.rt and calls.rt. A change here changes which prepares make no device call.
 use Rattle.std.specs.Prelude.{ℕ, zero, suc, ◌+◌, ◌==◌, ◌&&◌, ◌≡◌, Bool, true, false, List, [], ◌∷◌, Option, Some, None, get_or, nat_lt, if◌then◌else◌}
 use Rattle.mw_words.specs.declared.jobs.Entry.{Entry}
 use Rattle.mw_record.specs.Records.{Pairs}
@@ -7,7 +7,7 @@ use Rattle.mw_file.specs.declared.place_states.PlaceState.{PlaceState}
 use Rattle.mw_book.specs.declared.book.Book.{Book}
 use Rattle.mw_book.specs.declared.place_table.PlaceTable.{PlaceTable}
 use Rattle.mw_book.specs.OpenFile.{states_in}
-use Rattle.mw_book.specs.Representation.{is_prepared_ahead, writes_in_file}
+use Rattle.mw_book.specs.Representation.{writes_in_file}
 
 -- these are the writes of a change with these entries: the same addresses, with the same new values
 abbrev pub are_writes_of : Pairs → List Entry → Bool
@@ -16,7 +16,7 @@ are_writes_of [] (e ∷ entries) = false
 are_writes_of (w ∷ writes) [] = false
 are_writes_of (w ∷ writes) (e ∷ entries) = (w.0 == e.addr) && (w.1 == e.new) && are_writes_of writes entries
 
--- this slot is the one that is told
+-- what a place tells of a change that is prepared ahead in it names this slot
 abbrev pub is_for : Option ℕ → ℕ → Bool
 is_for None slot = false
 is_for (Some other) slot = other == slot
@@ -41,4 +41,4 @@ module _ {D : Type 0} where
 
   -- no change is prepared ahead
   abbrev pub HasNonePrepared : Book D → Type 0
-  HasNonePrepared book = (place : ℕ) → is_prepared_ahead book.table place ≡ false
+  HasNonePrepared book = (slot : ℕ) (entries : List Entry) → has_written book slot entries ≡ false

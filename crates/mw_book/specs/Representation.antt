@@ -1,4 +1,5 @@
--- Defines when a book represents a simulated file of mw_world_file: same words, places, fault and change in doubt.
+-- Defines when a book represents a simulated file of mw_world_file: same words, fault and change in doubt, and the same changes in the
+-- places, but for those that are settled or prepared ahead.
 -- Used by: Alike, CallOutcome, Crashes, Ends, Permits, mw_core, mw_engine, the contracts of calls.rt, new_books.rt and
 -- queries.rt. It is the relation that every call keeps. mw_core ties the world of running threads to the files by it.
 use Rattle.std.specs.Prelude.{◌≡◌, ◌<◌, ◌≤◌, ℕ, Bool, true, false, List, length, get_or, slice_index, Option, None, is_some}
@@ -43,10 +44,10 @@ stage_held true ahead place = Free
 stage_held false true place = Prepared
 stage_held false false place = stage_told place
 
--- The first places have the stages in the file that the world's places say, with the writes of their entries. But those are free whose
--- changes are settled ahead: only sealed changes are. And those are prepared in which a change is prepared ahead: only empty places
--- are. All further places of the file are free, and have none. The expected values of a change are not in a file. Here `stage` and
--- `written` tell of each place of the file how far its change is, and what it writes.
+-- The first places have the stages in the file that the world's places say, with the writes of their entries. There are two exceptions.
+-- A place whose change is settled ahead is free in the file, and sealed in the world. A place in which a change is prepared ahead is
+-- prepared in the file, and empty in the world. All further places of the file are free, and nothing is done ahead for them. The expected
+-- values of a change are not in a file. `stage` and `written` tell of each place of the file how far its change is, and what it writes.
 pub record ArePlacedBy (stage : ℕ → Stage) (written : ℕ → List (ℕ × ℕ)) (table : PlaceTable) (places : ℕ) (at : ℕ → Place) : Type 0 where
   pub stages : (place : ℕ) → place < places → stage (place_in_file table place) ≡ stage_held (is_settled table place) (is_prepared_ahead table place) (at place)
   pub ahead : (place : ℕ) → place < places → is_settled table place ≡ true → is_sealed (at place) ≡ true

@@ -1,10 +1,11 @@
--- Defines how a place takes the record that was prepared ahead in another one: the two change their places in the file.
+-- Defines how two places exchange their places in the file: the first then has what the file had for the second.
 -- Used by: the contracts of place_table.rt. It is private to this crate: it may change freely as long as this crate checks.
 use Rattle.std.specs.Prelude.{ℕ, None, get_or, slice_set}
 use Rattle.mw_book.specs.declared.place_table.PlaceTable.{PlaceTable}
 use Rattle.mw_book.specs.Representation.{place_in_file}
 
--- What was prepared ahead in `written` is now in `place`, for its own slot. What was prepared ahead in `place` is in `written`.
+-- The places `place` and `written` exchanged their places in the file. What was prepared ahead in `place` is so in `written` now, and no
+-- change is prepared ahead in `place`.
 abbrev pub taken : PlaceTable → ℕ → ℕ → PlaceTable
 taken table place written = record {
   file_place = slice_set (slice_set table.file_place place (place_in_file table written)) written (place_in_file table place);

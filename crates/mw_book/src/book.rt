@@ -19,8 +19,8 @@ pub(crate) const PLACES: usize = MAX_PLACES as usize;
 
 /// A tenant's file, and what is kept beside it: how many words the file has, how many of its places are used,
 /// the place of each slot's change, where the file has each place and which changes it has ahead, and whether the
-/// file has failed. The used places are the first ones. The file has failed if a device call has failed since it was
-/// opened, or if it didn't open. If it didn't open, no file is held.
+/// file has failed. The used places are the first ones. The file has failed if a call for a change has failed since it
+/// was opened, or if it didn't open. If it didn't open, no file is held.
 #[derive(Drop)]
 pub struct Book<D> {
     pub(crate) held: Option<TenantFile<D>>,

@@ -6,6 +6,7 @@ ghost use Rattle.std.specs.Prelude.{◌≡◌, ◌≢◌, ℕ, List, [], length,
 ghost use Rattle.mw_disk.specs.Runs.{Later};
 ghost use Rattle.mw_words.specs.declared.jobs.Entry.{Entry as EntryAt};
 ghost use Rattle.mw_world_file.specs.Files.{File};
+ghost use Rattle.mw_book.specs.declared.waiting.Waiting.{Waiting as WaitingAt};
 
 use crate::answers::Filed;
 use crate::book::Book;
@@ -21,10 +22,11 @@ impl<D: Disk> Book<D> {
     ghost use Rattle.mw_book.specs.Representation.{Represents, is_prepared_ahead};
     ghost use Rattle.mw_book.specs.Permits.{HasPlace, HasRoom, MayCall, vacant_place};
     ghost use Rattle.mw_book.specs.PreparedAhead.{has_written};
-    ghost use Rattle.mw_book.specs.SameFiles.{RepresentsSame};
+    ghost use Rattle.mw_book.specs.SameFiles.{HasMadeRoom, RepresentsSame};
     ghost use Rattle.mw_book.specs.Ends.{Ends};
     ghost use Rattle.mw_book.specs.Crashes.{IsCrashSafe};
     ghost use Rattle.mw_book.specs.CallOutcome.{IsFiled};
+    ghost use Rattle.mw_book.specs.RecordsAhead.{CountsCalls, PreparesAhead};
     ghost use Rattle.mw_book.specs.SettledAhead.{SettlesAhead};
 
     /// Makes a call on the file for the change of a slot. A prepare writes these entries into the lowest vacant
@@ -46,8 +48,10 @@ impl<D: Disk> Book<D> {
     ///
     /// A prepare, a seal and a settle that make device calls also write records of `waiting` changes, before their
     /// first sync. These changes are then prepared ahead: their own prepares make no device call, if their entries are
-    /// the same by then. A change is written if it is of another slot, is well formed for the file's words, is not
-    /// prepared ahead yet, and if a free place is left for it. Whether it is makes no difference to what the book
+    /// the same by then. A waiting change is ready if it is of another slot, is well formed for the file's words, and is
+    /// not prepared ahead yet. The first ready ones are written: at most 15, and as many as free places are left. A
+    /// change that is prepared ahead stays so until its own prepare, or until no place is free for another prepare. This
+    /// one then gives up the change in the lowest vacant place. None of it makes a difference to what the book
     /// represents.
     pub fn call(&mut self, call: Call, slot: u8, entries: &Entries, waiting: &[Waiting]) -> Filed
         requires may { MayCall self.old call slot entries.now.items }
@@ -59,6 +63,8 @@ impl<D: Disk> Book<D> {
         ensures words { self.new.words ≡ self.old.words }
         ensures places { self.new.places ≡ self.old.places }
         ensures ahead { SettlesAhead call slot self.old self.new result }
+        ensures records { PreparesAhead call slot entries.now.items waiting.now self.old self.new result }
+        ensures counts { CountsCalls D.facts call slot entries.now.items waiting.now self.old self.new result }
     {
         match call {
             Call::Prepare => self.prepare(slot, entries, waiting),
@@ -71,7 +77,7 @@ impl<D: Disk> Book<D> {
     /// Writes the record of a change into the lowest vacant place, for a slot.
     fn prepare(&mut self, slot: u8, entries: &Entries, waiting: &[Waiting]) -> Filed
         requires may { MayCall self.old Call.Prepare slot entries.now.items }
-        ensures { IsFiled D.facts Call.Prepare slot entries.now.items (length waiting.now) self.old self.new result }
+        ensures { IsFiled D.facts Call.Prepare slot entries.now.items waiting.now self.old self.new result }
     {
         if self.has_failed {
             return Filed::Untouched;
@@ -88,7 +94,7 @@ impl<D: Disk> Book<D> {
     fn take_written(&mut self, slot: u8, entries: &Entries) -> bool
         requires sound { self.old.has_failed ≡ false }
         requires room { HasPlace (states_in self.old.held) self.old.table self.old.places }
-        ensures taken { result ≡ true → (most : ℕ) → IsFiled D.facts Call.Prepare slot entries.now.items most self.old self.new Filed.Made }
+        ensures taken { result ≡ true → (waiting : List WaitingAt) → IsFiled D.facts Call.Prepare slot entries.now.items waiting self.old self.new Filed.Made }
         ensures left { result ≡ false → self.new ≡ self.old }
         ensures none { result ≡ false → has_written self.old slot entries.now.items ≡ false }
     {
@@ -107,7 +113,8 @@ impl<D: Disk> Book<D> {
         true
     }
 
-    /// Frees the lowest vacant place in the file, if a change is prepared ahead in it, and returns it.
+    /// Frees the lowest vacant place in the file, and returns it. A change that is prepared ahead in it moves to a free
+    /// place, or is given up if no place is free.
     fn make_room(&mut self) -> u16
         requires sound { self.old.has_failed ≡ false }
         requires room { HasPlace (states_in self.old.held) self.old.table self.old.places }
@@ -115,13 +122,17 @@ impl<D: Disk> Book<D> {
         ensures room { HasPlace (states_in self.new.held) self.new.table self.new.places }
         ensures none_ahead { is_prepared_ahead self.new.table result ≡ false }
         ensures same { RepresentsSame D.facts self.old self.new }
-        ensures fewer { (slot : ℕ) (entries : List EntryAt) → has_written self.old slot entries ≡ false → has_written self.new slot entries ≡ false }
+        ensures made { HasMadeRoom self.old self.new }
     {
         let Some(file) = &mut self.held else {
             unreachable!()
         };
         let place = self.table.vacant_place(file.states(), self.places);
         if !self.table.is_prepared_ahead(place) {
+            return place;
+        }
+        if let Some(free) = self.table.highest_free(file.states(), 0, self.places) {
+            self.table.take(place, free);
             return place;
         }
         file.cancel(Place(self.table.file_place(place)));
@@ -137,7 +148,7 @@ impl<D: Disk> Book<D> {
         requires lowest { place ≡ vacant_place (states_in self.old.held) self.old.table self.old.places }
         requires none_ahead { is_prepared_ahead self.old.table place ≡ false }
         requires none_written { has_written self.old slot entries.now.items ≡ false }
-        ensures filed { IsFiled D.facts Call.Prepare slot entries.now.items (length waiting.now) self.old self.new result }
+        ensures filed { IsFiled D.facts Call.Prepare slot entries.now.items waiting.now self.old self.new result }
         ensures tried { result ≢ Filed.Untouched }
     {
         let number = self.table.file_place(place);
@@ -170,7 +181,7 @@ impl<D: Disk> Book<D> {
     /// Seals the prepared change of a slot.
     fn seal(&mut self, slot: u8, waiting: &[Waiting]) -> Filed
         requires may { MayCall self.old Call.Seal slot [] }
-        ensures { (entries : List EntryAt) → IsFiled D.facts Call.Seal slot entries (length waiting.now) self.old self.new result }
+        ensures { (entries : List EntryAt) → IsFiled D.facts Call.Seal slot entries waiting.now self.old self.new result }
     {
         if self.has_failed {
             return Filed::Untouched;
@@ -204,7 +215,7 @@ impl<D: Disk> Book<D> {
     /// Else all sealed changes are settled in the file, the other ones ahead.
     fn settle(&mut self, slot: u8, waiting: &[Waiting]) -> Filed
         requires may { MayCall self.old Call.Settle slot [] }
-        ensures { (entries : List EntryAt) → IsFiled D.facts Call.Settle slot entries (length waiting.now) self.old self.new result }
+        ensures { (entries : List EntryAt) → IsFiled D.facts Call.Settle slot entries waiting.now self.old self.new result }
     {
         if self.has_failed {
             return Filed::Untouched;
@@ -241,7 +252,7 @@ impl<D: Disk> Book<D> {
     /// Cancels the prepared change of a slot. Then its place is free. It makes no device call.
     fn cancel(&mut self, slot: u8) -> Filed
         requires may { MayCall self.old Call.Cancel slot [] }
-        ensures { (entries : List EntryAt) (most : ℕ) → IsFiled D.facts Call.Cancel slot entries most self.old self.new result }
+        ensures { (entries : List EntryAt) (waiting : List WaitingAt) → IsFiled D.facts Call.Cancel slot entries waiting self.old self.new result }
     {
         let number = self.table.file_place(self.place_of[slot as usize]);
         let Some(file) = &mut self.held else {

@@ -15,6 +15,7 @@ use mw_file::TenantFile;
 
 impl<D: Disk> Book<D> {
     ghost use Rattle.mw_book.specs.OpenFile.{disk_in};
+    ghost use Rattle.mw_book.specs.PreparedAhead.{HasNonePrepared};
     ghost use Rattle.mw_book.specs.SettledAhead.{HasNoneAhead};
     ghost use Rattle.mw_book.specs.Representation.{Represents, unopened};
 
@@ -28,6 +29,7 @@ impl<D: Disk> Book<D> {
         ensures words { result.words ≡ words_of file }
         ensures places { result.places ≡ places }
         ensures none_ahead { HasNoneAhead result }
+        ensures none_prepared { HasNonePrepared result }
         ensures shows { (words : List ℕ) → length words ≡ words_of file
             → (IsTrue (D.facts (disk_of file)).honest → RecoversTo D.facts file words []) → Represents D.facts result (file_of words) }
     {

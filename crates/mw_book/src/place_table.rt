@@ -1,14 +1,15 @@
 //! Where a book's file has the change of each place, and which changes are in the file ahead of the world: settled
 //! there before their own slots settle them, or prepared there before their own slots prepare them.
 //!
-//! `calls.rt` and `queries.rt` call these. `specs/Representation`, `specs/Permits` and `specs/SettledAhead` have what
-//! they compute.
-ghost use Rattle.std.specs.Prelude.{◌≡◌, ◌≤◌, ◌<◌, ◌||◌, ℕ, true, false, length, IfSome};
+//! `calls.rt`, `waiting.rt` and `queries.rt` call these. `specs/Representation`, `specs/Permits`, `specs/PreparedAhead`,
+//! `specs/RecordsAhead` and `specs/SettledAhead` have what they compute.
+ghost use Rattle.std.specs.Prelude.{◌≡◌, ◌≤◌, ◌<◌, ◌||◌, ℕ, None, true, false, length, IfSome};
 ghost use Rattle.mw_words.specs.declared.limits.TheConstants.{MAX_PLACES};
 ghost use Rattle.mw_file.specs.PlaceStates as spec;
 ghost use Rattle.mw_book.specs.Permits as permit;
 ghost use Rattle.mw_book.specs.PreparedAhead as ahead;
 ghost use Rattle.mw_book.specs.Representation as held;
+ghost use Rattle.mw_book.specs.RecordsAhead.{is_free};
 ghost use Rattle.mw_book.specs.TakenPlaces.{taken};
 ghost use Rattle.mw_book.specs.SettledAhead.{is_sealed_stage};
 ghost use Rattle.mw_book.specs.FilePlaces.{flag_of, place_in};
@@ -77,6 +78,8 @@ impl PlaceTable {
         ensures top { IfSome result (λ place. place < top) }
         ensures vacant { IfSome result (λ place. permit.is_vacant states.now self.now place ≡ true) }
         ensures free { IfSome result (λ place. held.is_prepared_ahead self.now place ≡ false) }
+        ensures highest { IfSome result (λ place. (k : ℕ) → place < k → k < top → is_free states.now self.now k ≡ false) }
+        ensures none { result ≡ None → (k : ℕ) → low ≤ k → k < top → is_free states.now self.now k ≡ false }
     {
         for place in (low..top).rev() {
             if self.is_free(states, place) {
@@ -89,8 +92,7 @@ impl PlaceTable {
     /// Tells whether a place is vacant, and no change is prepared ahead in it.
     fn is_free(&self, states: &[PlaceState], place: u16) -> bool
         requires { place < MAX_PLACES }
-        ensures vacant { result ≡ true → permit.is_vacant states.now self.now place ≡ true }
-        ensures free { result ≡ true → held.is_prepared_ahead self.now place ≡ false }
+        ensures { result ≡ is_free states.now self.now place }
     {
         !self.is_prepared_ahead(place) && self.is_vacant(states, place)
     }
@@ -124,8 +126,8 @@ impl PlaceTable {
             && writes_just(states, self.file_place(place), entries)
     }
 
-    /// Gives a place the record that is prepared ahead in another one: the two change their places in the file. What
-    /// was prepared ahead in the first is now in the other.
+    /// Exchanges the places of the file that two places have. The first then has what the file had for the second, and
+    /// no change is prepared ahead in it. A change that was prepared ahead in the first is now so in the second.
     pub(crate) fn take(&mut self, place: u16, written: u16)
         requires place { place < MAX_PLACES }
         requires written { written < MAX_PLACES }

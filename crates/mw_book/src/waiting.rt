@@ -1,12 +1,14 @@
 //! Chooses which changes that wait for a file a call writes ahead, along with its own bytes, and into which places.
 //!
 //! The calls of `calls.rt` use it. `specs/ChosenPlaces` says what is chosen.
-ghost use Rattle.std.specs.Prelude.{◌≡◌, ◌≤◌, ◌<◌, ◌+◌, ℕ, true, false, length, IsTrue, IfSome};
+ghost use Rattle.std.specs.Prelude.{◌≡◌, ◌≤◌, ◌<◌, ◌+◌, ◌∷◌, ℕ, List, true, false, length, IsTrue, IfSome};
 ghost use Rattle.mw_words.specs.Change.{is_change};
 ghost use Rattle.mw_words.specs.declared.limits.TheConstants.{MAX_PLACES};
-ghost use Rattle.mw_book.specs.ChosenPlaces.{AreChosen, is_new_for};
+ghost use Rattle.mw_book.specs.declared.waiting.Waiting.{Waiting as WaitingAt};
+ghost use Rattle.mw_book.specs.ChosenPlaces.{AreAhead, AreChosen, IsUnderWay, free_within, is_new_for};
 ghost use Rattle.mw_book.specs.FilePlaces.{IsPermutation};
 ghost use Rattle.mw_book.specs.Permits.{is_vacant};
+ghost use Rattle.mw_book.specs.RecordsAhead.{first_ready};
 ghost use Rattle.mw_book.specs.Representation.{is_prepared_ahead};
 
 use crate::place_table::PlaceTable;
@@ -56,6 +58,9 @@ impl Chosen {
         ensures kept { (table : PlaceTable) (places : ℕ) → places ≤ length states.now → IsPermutation table.file_place places
             → AreChosen words states.now table places low self.old.table self.old.changes.items self.old.top
             → AreChosen words states.now table places low self.new.table self.new.changes.items self.new.top }
+        ensures ahead { (table : PlaceTable) (places slot : ℕ) (all rest : List WaitingAt) → is_new_for states.now table places slot change.now.slot change.now.entries.items ≡ true
+            → IsUnderWay words states.now table places low slot all self.old.table self.old.changes.items self.old.top (change.now ∷ rest)
+            → IsUnderWay words states.now table places low slot all self.new.table self.new.changes.items self.new.top rest }
     {
         if !is_change(&change.entries, words as usize) {
             return;
@@ -89,6 +94,8 @@ pub(crate) fn choose(
     ensures chosen { AreChosen words states.now table.now places low result.table result.changes.items result.top }
     ensures waiting { length result.changes.items ≤ length waiting.now }
     ensures most { length result.changes.items ≤ MOST_AHEAD }
+    ensures ahead { AreAhead table.now result.table places result.changes.items
+        (first_ready words states.now table.now places slot (free_within states.now table.now low places) waiting.now) }
 {
     let mut chosen = Chosen {
         table: *table,

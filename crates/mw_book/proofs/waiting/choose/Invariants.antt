@@ -1,9 +1,10 @@
 -- States what stays true from turn to turn in the loop of `choose` (src/waiting.rt). Used by: the proof of that function alone. It may
 -- change freely as long as this crate checks.
-use Rattle.std.proofs.Common.{◌≤◌, length}
+use Rattle.std.proofs.Common.{◌≤◌, drop, length}
 use Rattle.mw_words.specs.declared.limits.TheConstants.{MAX_PLACES}
 use Rattle.mw_book.specs.declared.waiting.TheConstants.{MOST_AHEAD}
-use Rattle.mw_book.specs.ChosenPlaces.{AreChosen}
+use Rattle.mw_book.specs.ChosenPlaces.{AreChosen, IsUnderWay, free_within}
+use Rattle.mw_book.specs.RecordsAhead.{first_ready}
 use Rattle.mw_book.proofs.waiting.choose.Given as goal
 
 -- those that were chosen so far may be prepared, and are no more than the changes that were looked at
@@ -13,4 +14,6 @@ invariant-loop-change l = record {
   fewer : length l.chosen.changes.items ≤ l.change-index;
   most : length l.chosen.changes.items ≤ MOST_AHEAD;
   top : l.chosen.top ≤ MAX_PLACES;
+  under : IsUnderWay l.words l.states l.table l.places l.low l.slot (first_ready l.words l.states l.table l.places l.slot (free_within l.states l.table l.low l.places) l.waiting) l.chosen.table l.chosen.changes.items l.chosen.top
+      (drop l.change-index l.waiting);
 }

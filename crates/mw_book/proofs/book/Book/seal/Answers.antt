@@ -9,7 +9,8 @@ use Rattle.mw_file.specs.NewChanges.{IsSealedWith, MayPrepare}
 use Rattle.mw_file.specs.PlaceStates.{stage_of, writes_of_place, MaySeal}
 use Rattle.mw_file.specs.RecoveryInvariant.{ChangeIsSealed}
 use Rattle.mw_file.proofs.Ended.{ended_well, went_well}
-use Rattle.mw_book.specs.ChosenPlaces.{AreChosen}
+use Rattle.mw_book.specs.ChosenPlaces.{AreAhead, AreChosen, free_within}
+use Rattle.mw_book.specs.RecordsAhead.{first_ready}
 use Rattle.mw_book.specs.OpenFile.{states_in}
 use Rattle.mw_book.specs.Representation.{place_at, place_in_file, stage_in_file}
 use Rattle.mw_book.proofs.FiledCalls.{refused, busy_in, seal_broken, seal_made}
@@ -18,7 +19,7 @@ use Rattle.mw_book.proofs.book.Book.seal.Goals as goal
 
 pub returns-then-self : goal.returns-then-self
 returns-then-self g c entries =
-    refused g.D.Disk.facts SealCall c.args.slot entries (length c.args.waiting.now) c.args.self.now c.if-self.true (λ file. refl) (λ is. let e : SealCall ≡ CancelCall = is in cc)
+    refused g.D.Disk.facts SealCall c.args.slot entries c.args.waiting.now c.args.self.now c.if-self.true (λ file. refl) (λ is. let e : SealCall ≡ CancelCall = is in cc)
 
 pub seal_with-requires-clause-ahead : goal.seal_with-requires-clause-ahead
 seal_with-requires-clause-ahead g c =
@@ -35,7 +36,7 @@ returns-then-is_err g c entries =
     seal_broken g.D.Disk.facts old _ file c.seal_with.new.self c.in-Some.is c.seal_with.ensures.later c.args.slot (omega (arith, c.ranges.slot.fits))
     (busy_in old file c.args.slot Prepared c.in-Some.is (c.requires.may c.if-self.false).sealable.prepared refl) (c.requires.may c.if-self.false).own c.if-self.false c.seal_with.result
     (subst (λ n. ChangeIsSealed g.D.Disk.facts file c.seal_with.new.self (writes_of_place (states_of file) n) c.seal_with.result) c.file_place-number.ensures c.seal_with.ensures.safe) entries
-    (length c.choose-chosen.result.changes.items) (length c.args.waiting.now) c.choose-chosen.ensures.waiting (sym c.is_err.ensures.value ∙ c.if-is_err.true)
+    (length c.choose-chosen.result.changes.items) c.args.waiting.now c.choose-chosen.ensures.waiting (sym c.is_err.ensures.value ∙ c.if-is_err.true)
     (subst (λ cs. Ends g.D.Disk.facts (length cs + 2) file c.seal_with.new.self c.seal_with.result) c.as_slice.ensures.value c.seal_with.ensures.ends)
     (record { is_held = refl; is_words = refl; is_places = refl; is_place_of = refl; is_table = refl; is_failed = refl })
 
@@ -47,9 +48,12 @@ returns g c entries =
     seal_made g.D.Disk.facts old _ file c.seal_with.new.self c.in-Some.is c.seal_with.ensures.later c.args.slot (omega (arith, c.ranges.slot.fits))
     (busy_in old file c.args.slot Prepared c.in-Some.is (c.requires.may c.if-self.false).sealable.prepared refl) (c.requires.may c.if-self.false).own c.if-self.false c.seal_with.result
     (subst (λ n. ChangeIsSealed g.D.Disk.facts file c.seal_with.new.self (writes_of_place (states_of file) n) c.seal_with.result) c.file_place-number.ensures c.seal_with.ensures.safe) entries
-    (length c.args.waiting.now) c.choose-chosen.result.table c.choose-chosen.result.changes.items 0 c.choose-chosen.result.top
+    c.args.waiting.now c.choose-chosen.result.table c.choose-chosen.result.changes.items c.choose-chosen.result.top
     (subst (λ states. AreChosen old.words states old.table old.places 0 c.choose-chosen.result.table c.choose-chosen.result.changes.items c.choose-chosen.result.top) c.states.ensures c.choose-chosen.ensures.chosen)
-    c.choose-chosen.ensures.waiting well
+    c.choose-chosen.ensures.waiting
+    (subst (λ states. AreAhead old.table c.choose-chosen.result.table old.places c.choose-chosen.result.changes.items (first_ready old.words states old.table old.places c.args.slot (free_within states old.table 0 old.places) c.args.waiting.now)) c.states.ensures
+    c.choose-chosen.ensures.ahead)
+    well
     (ended_well g.D.Disk.facts (length c.choose-chosen.result.changes.items + 2) file c.seal_with.new.self c.seal_with.result well
     (subst (λ cs. Ends g.D.Disk.facts (length cs + 2) file c.seal_with.new.self c.seal_with.result) c.as_slice.ensures.value c.seal_with.ensures.ends))
     (subst (λ held. stage_in_file (states_in held) old.table (place_at old c.args.slot) ≡ Prepared) c.in-Some.is (c.requires.may c.if-self.false).sealable.prepared)

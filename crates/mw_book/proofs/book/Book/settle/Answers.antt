@@ -5,7 +5,8 @@ use Rattle.mw_look.specs.declared.steps.Call.TheVariants.{Settle as SettleCall, 
 use Rattle.mw_file.specs.declared.place_states.Stage.TheVariants.{Sealed}
 use Rattle.mw_file.specs.File.{states_of, MetFault, WentWell}
 use Rattle.mw_file.specs.NewChanges.{AreSettledWith, MayPrepare}
-use Rattle.mw_book.specs.ChosenPlaces.{AreChosen}
+use Rattle.mw_book.specs.ChosenPlaces.{AreAhead, AreChosen, free_within}
+use Rattle.mw_book.specs.RecordsAhead.{first_ready}
 use Rattle.mw_file.specs.PlaceStates.{roll_calls}
 use Rattle.mw_file.proofs.Ended.{ended_well, went_well}
 use Rattle.mw_book.specs.SettledAhead.{is_sealed_stage}
@@ -18,7 +19,7 @@ use Rattle.mw_book.proofs.book.Book.settle.Goals as goal
 
 pub returns-then-self : goal.returns-then-self
 returns-then-self g c entries =
-    refused g.D.Disk.facts SettleCall c.args.slot entries (length c.args.waiting.now) c.args.self.now c.if-self.true (λ file. refl) (λ is. let e : SettleCall ≡ CancelCall = is in cc)
+    refused g.D.Disk.facts SettleCall c.args.slot entries c.args.waiting.now c.args.self.now c.if-self.true (λ file. refl) (λ is. let e : SettleCall ≡ CancelCall = is in cc)
 
 pub bounds-self-place : goal.bounds-self-place
 bounds-self-place g c =
@@ -30,7 +31,7 @@ returns-then-self-place g c entries =
     let old = c.args.self.now in
     let place = place_at old c.args.slot in
     let within = settles_within old.held old.table place (omega arith) (omega arith) (c.requires.may c.if-self.false) in
-    settle_ahead g.D.Disk.facts old _ c.args.slot entries (length c.args.waiting.now) (slice_set old.table.settled place false) (omega (arith, c.ranges.slot.fits)) c.if-self.false c.if-self-place.true
+    settle_ahead g.D.Disk.facts old _ c.args.slot entries c.args.waiting.now (slice_set old.table.settled place false) (omega (arith, c.ranges.slot.fits)) c.if-self.false c.if-self-place.true
     (record { is_held = refl; is_words = refl; is_places = refl; is_place_of = refl; is_table = refl; is_failed = refl })
     (let_go_ahead (states_in old.held) old.table place (omega (arith, within)) c.if-self-place.true)
 
@@ -49,7 +50,7 @@ returns-then-is_err g c entries =
     let bad = sym c.is_err.ensures.value ∙ c.if-is_err.true in
     settle_broken g.D.Disk.facts old _ file c.settle_all.new.self c.in-Some.is c.settle_all.ensures.later c.settle_all.ensures.safe c.args.slot (omega (arith, c.ranges.slot.fits))
     (subst (λ held. stage_in_file (states_in held) old.table (place_at old c.args.slot) ≡ Sealed) c.in-Some.is (c.requires.may c.if-self.false c.if-self-place.false)) c.if-self-place.false c.if-self.false entries
-    (length c.choose-chosen.result.changes.items) (length c.args.waiting.now) c.choose-chosen.ensures.waiting
+    (length c.choose-chosen.result.changes.items) c.args.waiting.now c.choose-chosen.ensures.waiting
     (record { is_held = refl; is_words = refl; is_places = refl; is_place_of = refl; is_table = refl; is_failed = refl })
     (subst (λ cs. MetFault g.D.Disk.facts (length cs + roll_calls (states_of file)) file c.settle_all.new.self) c.as_slice.ensures.value
     (met_fault g.D.Disk.facts (length c.as_slice.result.now + roll_calls (states_of file)) file c.settle_all.new.self c.settle_all.result bad (failed_as g.D.Disk.facts old file c.in-Some.is ∙ c.if-self.false) c.settle_all.ensures.ends))
@@ -64,9 +65,11 @@ returns g c entries =
     let within = settles_within old.held old.table place (omega arith) (omega arith) (c.requires.may c.if-self.false) in
     settle_made g.D.Disk.facts old _ file c.settle_all.new.self c.in-Some.is c.settle_all.ensures.later c.settle_all.ensures.safe c.args.slot (omega (arith, c.ranges.slot.fits))
     (subst (λ held. stage_in_file (states_in held) old.table place ≡ Sealed) c.in-Some.is (c.requires.may c.if-self.false c.if-self-place.false)) c.if-self-place.false c.if-self.false entries
-    (length c.args.waiting.now) (slice_set more place false) c.choose-chosen.result.table c.choose-chosen.result.changes.items 0 c.choose-chosen.result.top
+    c.args.waiting.now (slice_set more place false) c.choose-chosen.result.table c.choose-chosen.result.changes.items c.choose-chosen.result.top
     (subst (λ states. AreChosen old.words states old.table old.places 0 c.choose-chosen.result.table c.choose-chosen.result.changes.items c.choose-chosen.result.top) c.states-2.ensures c.choose-chosen.ensures.chosen)
     c.choose-chosen.ensures.waiting
+    (subst (λ states. AreAhead old.table c.choose-chosen.result.table old.places c.choose-chosen.result.changes.items (first_ready old.words states old.table old.places c.args.slot (free_within states old.table 0 old.places) c.args.waiting.now)) c.states-2.ensures
+    c.choose-chosen.ensures.ahead)
     (record { is_held = refl; is_words = refl; is_places = refl; is_place_of = refl; is_table = refl; is_failed = refl })
     (rolled_ahead (states_of file) old.table more place (omega (arith, within)) c.if-self-place.false
     (λ k. c.settled_with_sealed-settled.ensures k ∙ ap (λ states. is_settled old.table k || is_sealed_stage (stage_in_file states old.table k)) c.states.ensures))

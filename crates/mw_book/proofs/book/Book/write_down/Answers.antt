@@ -8,7 +8,7 @@ use Rattle.mw_file.specs.File.{states_of, words_of, MetFault}
 use Rattle.mw_file.specs.NewChanges.{ArePrepared, MayPrepare}
 use Rattle.mw_file.specs.PlaceStates.{stage_of}
 use Rattle.mw_file.proofs.Ended.{ended_well, went_well}
-use Rattle.mw_book.specs.ChosenPlaces.{AreChosen}
+use Rattle.mw_book.specs.ChosenPlaces.{AreAhead, AreChosen, free_within}
 use Rattle.mw_book.specs.OpenFile.{states_in}
 use Rattle.mw_book.specs.Permits.{HasPlace, vacant_place}
 use Rattle.mw_book.specs.Representation.{is_prepared_ahead, stage_in_file}
@@ -16,6 +16,8 @@ use Rattle.mw_book.proofs.FiledCalls.{met_fault, one_longer, prepare_broken, pre
 use Rattle.mw_words.specs.Change.{is_change}
 use Rattle.mw_book.proofs.PlacedAhead.{may_with_own}
 use Rattle.mw_book.proofs.FoundPlaces.{vacant_free}
+use Rattle.mw_book.specs.RecordsAhead.{first_ready}
+use Rattle.mw_book.proofs.RecordsAhead.{some_vacant}
 use Rattle.mw_book.proofs.RepresentedFiles.{failed_as, there_held, words_held}
 use Rattle.mw_book.proofs.book.Book.write_down.Goals as goal
 
@@ -37,7 +39,7 @@ returns-then-is_err-clause-filed g c =
     let old = c.args.self.now in
     let bad = sym c.is_err.ensures.value ∙ c.if-is_err.true in
     prepare_broken g.D.Disk.facts old _ c.in-Some.file c.prepare_all.new.self c.in-Some.is c.prepare_all.ensures.later c.prepare_all.ensures.safe c.args.slot c.args.entries.now.items
-    (length c.choose-chosen.result.changes.items) (length c.args.waiting.now) c.choose-chosen.ensures.waiting
+    (length c.choose-chosen.result.changes.items) c.args.waiting.now c.choose-chosen.ensures.waiting (some_vacant (states_in old.held) old.table old.places c.args.place c.requires.lowest c.requires.room.room c.requires.none_ahead)
     (record { is_held = refl; is_words = refl; is_places = refl; is_place_of = refl; is_table = refl; is_failed = refl }) c.requires.sound c.requires.none_written
     (subst (λ n. MetFault g.D.Disk.facts n c.in-Some.file c.prepare_all.new.self) (one_longer c.choose-chosen.result.changes.items c.as_slice.result.now _ (c.as_slice.ensures.value ∙ c.push.ensures.items))
     (met_fault g.D.Disk.facts (length c.as_slice.result.now + 1) c.in-Some.file c.prepare_all.new.self c.prepare_all.result bad (failed_as g.D.Disk.facts old c.in-Some.file c.in-Some.is ∙ c.requires.sound) c.prepare_all.ensures.ends))
@@ -48,10 +50,13 @@ returns-clause-filed g c =
     let file = c.in-Some.file in
     let well = sym c.is_err.ensures.value ∙ c.if-is_err.false in
     prepare_made g.D.Disk.facts old _ file c.prepare_all.new.self c.in-Some.is c.prepare_all.ensures.later c.prepare_all.ensures.safe c.args.slot c.args.place c.args.entries.now.items
-    (length c.args.waiting.now) c.choose-chosen.result.table c.choose-chosen.result.changes.items c.as_slice.result.now c.choose-chosen.result.top _ (c.as_slice.ensures.value ∙ c.push.ensures.items)
+    c.args.waiting.now c.choose-chosen.result.table c.choose-chosen.result.changes.items c.as_slice.result.now c.choose-chosen.result.top _ (c.as_slice.ensures.value ∙ c.push.ensures.items)
     (c.requires.lowest ∙ ap (λ held. vacant_place (states_in held) old.table old.places) c.in-Some.is) c.requires.none_ahead c.requires.none_written
     (subst (λ states. AreChosen old.words states old.table old.places (c.args.place + 1) c.choose-chosen.result.table c.choose-chosen.result.changes.items c.choose-chosen.result.top) c.states.ensures c.choose-chosen.ensures.chosen)
-    c.choose-chosen.ensures.waiting c.file_place-number.ensures (ap (λ es. es.items) c.copy_of.ensures)
+    c.choose-chosen.ensures.waiting
+    (subst (λ states. AreAhead old.table c.choose-chosen.result.table old.places c.choose-chosen.result.changes.items (first_ready old.words states old.table old.places c.args.slot (free_within states old.table (c.args.place + 1) old.places) c.args.waiting.now)) c.states.ensures
+    c.choose-chosen.ensures.ahead)
+    c.file_place-number.ensures (ap (λ es. es.items) c.copy_of.ensures)
     (record { is_held = refl; is_words = refl; is_places = refl; is_place_of = refl; is_table = refl; is_failed = refl }) c.requires.sound (omega (arith, c.ranges.slot.fits)) (omega arith)
     (ended_well g.D.Disk.facts (length c.as_slice.result.now + 1) file c.prepare_all.new.self c.prepare_all.result well c.prepare_all.ensures.ends)
     (went_well c.prepare_all.result _ well c.prepare_all.ensures.staged)
