@@ -1,8 +1,8 @@
 -- Which waiting changes are chosen: one more of them is looked at, and is left out, or gets the highest free place.
 -- Used by: RecordsAhead, the proofs of Chosen::add and choose. It may change freely as long as this crate checks.
-use Rattle.std.proofs.Common.{◌≡◌, ◌≢◌, ℕ, zero, suc, ◌+◌, ◌-◌, ◌==◌, ◌<◌, ◌≤◌, ◌&&◌, ◌||◌, not, Bool, true, false, List, [], ◌∷◌, ◌++◌, length, take, min, drop, Option, Some, None, is_some, get_or, slice_set, nat_lt, nat_le, All, IsTrue, if◌then◌else◌, refl, sym, ap, subst, ◌∙◌, inl, inr, arith}
-use Rattle.std.specs.List.{filter, list_any}
-use Rattle.std.proofs.lemmas.Bool.{and_parts, cases_Bool, cases_eq, cases_lt, cond-true, cond-false, eq-eqb, le-leb, leb-true, le-ltb, lt-ltb, ne_eqb, or_cases, or_left, or_right}
+use Rattle.std.proofs.Common.{◌≡◌, ◌≢◌, ℕ, zero, suc, ◌+◌, ◌-◌, ◌==◌, ◌<◌, ◌≤◌, ◌&&◌, ◌||◌, not, Bool, true, false, List, [], ◌∷◌, ◌++◌, length, take, min, drop, Option, Some, None, is_some, get_or, slice_set, nat_lt, nat_le, refl, sym, ap, subst, ◌∙◌, inl, inr, arith}
+use Rattle.std.specs.List.{filter}
+use Rattle.std.proofs.lemmas.Bool.{cases_eq, cases_lt, cond-true, cond-false, eq-eqb, le-leb, leb-true, le-ltb, lt-ltb, ne_eqb, or_cases, or_left, or_right}
 use Rattle.std.proofs.lemmas.List.{append-nil, append_assoc, drop_more, get_or-set_same, get_or-set_other, length-append}
 use Rattle.std.proofs.lemmas.List.Folds.{list_any-append}
 use Rattle.mw_words.specs.Change.{is_change}
@@ -17,7 +17,7 @@ use Rattle.mw_book.specs.declared.waiting.TheConstants.{MOST_AHEAD}
 use Rattle.mw_book.specs.ChosenPlaces.{AreAhead, IsThere, IsUnderWay, free_within, is_new_for}
 use Rattle.mw_book.specs.Permits.{is_left, is_vacant}
 use Rattle.mw_book.specs.PreparedAhead.{are_writes_of, is_for, is_written, written_place}
-use Rattle.mw_book.specs.RecordsAhead.{count_below, first_ready, is_among, is_free, is_one, is_ready}
+use Rattle.mw_book.specs.RecordsAhead.{first_ready, is_among, is_free, is_one, is_ready}
 use Rattle.mw_book.specs.Representation.{is_prepared_ahead, is_settled, place_in_file, stage_in_file, writes_in_file}
 use Rattle.mw_book.proofs.ChosenPlaces.{front_of, last_of}
 use Rattle.mw_book.proofs.CountedPlaces.{count_highest, count_none, count_same}

@@ -1,6 +1,6 @@
 -- Each call on a book ends as its contract says, whether the device fails in it or not.
 -- Used by: the proofs of all calls of Book. It may change freely as long as this crate checks.
-use Rattle.std.proofs.Common.{◌≡◌, ◌≢◌, ℕ, ◌+◌, ◌==◌, ◌-◌, ◌&&◌, ◌||◌, not, ◌∷◌, ◌++◌, ◌<◌, ◌≤◌, Bool, true, false, List, [], length, Some, None, get_or, Result, Ok, Err, is_err, slice_set, nat_le, IsTrue, refl, sym, ap, subst, ◌∙◌, inl, inr, arith}
+use Rattle.std.proofs.Common.{◌≡◌, ◌≢◌, ℕ, ◌+◌, ◌==◌, ◌-◌, ◌&&◌, not, ◌∷◌, ◌++◌, ◌<◌, ◌≤◌, Bool, true, false, List, [], length, Some, None, get_or, Result, Ok, Err, is_err, slice_set, nat_le, IsTrue, refl, sym, ap, subst, ◌∙◌, inl, inr, arith}
 use Rattle.std.proofs.lemmas.Bool.{and_from, cases_Bool, cases_eq, cases_lt, cond-true, cond-false, eq-eqb, le-leb, ne_eqb}
 use Rattle.std.proofs.lemmas.List.{length-append}
 use Rattle.std.proofs.lemmas.List.Elements.{All-push}
@@ -27,7 +27,7 @@ use Rattle.mw_file.specs.RecoveryInvariant.{RecoversTo, CrashSafe, ContentsStay,
 use Rattle.mw_file.specs.PlaceStates.{is_free_stage, roll_calls, stage_of, writes_of_place, IsStaged}
 use Rattle.mw_file.specs.declared.new_changes.NewChange.{NewChange}
 use Rattle.mw_file.specs.NewChanges.{ArePrepared, AreSettledWith, IsNoPlaceOf, IsSealedWith}
-use Rattle.mw_world_file.specs.Calls.{fails_on, filed, place_for, device_calls, is_made, doubt_of}
+use Rattle.mw_world_file.specs.Calls.{fails_on, place_for, device_calls, is_made, doubt_of}
 use Rattle.mw_world_file.specs.Crashes.{at_stake}
 use Rattle.mw_world_file.specs.Files.{File, Empty, Prepared, Sealed, entries_at, broken, prepared, sealed, emptied}
 use Rattle.mw_world_file.specs.Maps.{upd}
@@ -38,14 +38,13 @@ use Rattle.mw_book.specs.declared.book.Book.{Book}
 use Rattle.mw_book.specs.declared.place_table.PlaceTable.{PlaceTable}
 use Rattle.mw_book.specs.declared.waiting.Waiting.{Waiting}
 use Rattle.mw_book.specs.FilePlaces.{IsPermutation, flag_of}
-use Rattle.mw_book.specs.Answers.{Answers, is_refused, NoFault, OneFault}
+use Rattle.mw_book.specs.Answers.{is_refused, NoFault, OneFault}
 use Rattle.mw_book.specs.ChosenPlaces.{AreAhead, AreChosen, free_within}
-use Rattle.mw_book.specs.Crashes.{LeavesEither, stake_of}
-use Rattle.mw_book.specs.Ends.{Ends, FailedAt, calls_on, prepare_calls, settle_calls}
+use Rattle.mw_book.specs.Crashes.{LeavesEither}
+use Rattle.mw_book.specs.Ends.{FailedAt, calls_on, prepare_calls, settle_calls}
 use Rattle.mw_book.specs.CallOutcome.{IsFiled}
 use Rattle.mw_book.specs.PreparedAhead.{are_writes_of, has_written, is_for, is_written}
-use Rattle.mw_book.specs.RecordsAhead.{PreparesAhead, any_below, count_below, first_ready, free_places, has_but, is_among, is_free, makes_calls, place_lost, written_by}
-use Rattle.mw_book.specs.SameFiles.{HasMadeRoom, RepresentsSame}
+use Rattle.mw_book.specs.RecordsAhead.{any_below, count_below, first_ready, free_places, is_free, place_lost, written_by}
 use Rattle.mw_book.specs.SettledAhead.{ahead_after, ahead_by_settle}
 use Rattle.mw_book.specs.Permits.{HasPlace, is_vacant, vacant_place}
 use Rattle.mw_book.specs.OpenFile.{states_in, disk_in, OnDisk}
@@ -55,7 +54,7 @@ use Rattle.mw_book.proofs.FoundPlaces.{found_at, free_of, vacant_plain, vacant_s
 use Rattle.mw_book.proofs.PlacedAhead.{IsFresh, fresh_or_same, placed_beside, placed_settled}
 use Rattle.mw_book.proofs.PlacesAhead.{placed_let_go}
 use Rattle.mw_book.proofs.RepresentedFiles.{shows_parts, on_disk, on_same, leaves_either, untouched, failed_as, placed_in, keeps_in, certain, same_place, place_within, plain_at, writes_called}
-use Rattle.mw_book.proofs.RecordsAhead.{any_same, broken_records, free_from_first, free_past, has_any, has_parts, lost_needed, made_many, made_records, none_by, none_needed, not_written, nothing_lost, ready_same, same_records}
+use Rattle.mw_book.proofs.RecordsAhead.{any_same, broken_records, free_from_first, free_past, has_any, has_parts, lost_needed, made_many, made_records, none_by, none_needed, not_written, same_records}
 use Rattle.mw_book.proofs.StagedPlaces.{placed_on, placed_as, staged_by}
 
 -- the same fact, if the call is known by another name

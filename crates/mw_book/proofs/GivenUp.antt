@@ -1,7 +1,7 @@
 -- If a change that was prepared ahead is given up in the lowest vacant place, the book represents the same files, and that place is the
 -- lowest vacant one still.
 -- Used by: the proof of Book::make_room. It may change freely as long as this crate checks.
-use Rattle.std.proofs.Common.{◌≡◌, ◌≢◌, ℕ, ◌<◌, ◌≤◌, ◌-◌, ◌+◌, ◌==◌, ◌&&◌, not, Bool, true, false, List, length, Option, Some, None, is_some, get_or, slice_set, IsTrue, refl, sym, ap, subst, ◌∙◌, inl, inr, arith}
+use Rattle.std.proofs.Common.{◌≡◌, ◌≢◌, ℕ, ◌<◌, ◌≤◌, ◌+◌, ◌==◌, ◌&&◌, not, true, false, List, length, Some, None, is_some, get_or, slice_set, IsTrue, refl, sym, ap, subst, ◌∙◌, inl, inr, arith}
 use Rattle.std.proofs.lemmas.Bool.{cases_eq, cond-true, eq-eqb, ne_eqb}
 use Rattle.std.proofs.lemmas.List.{get_or-set_same, get_or-set_other}
 use Rattle.mw_words.specs.declared.limits.TheConstants.{MAX_PLACES}
@@ -9,22 +9,21 @@ use Rattle.mw_words.specs.declared.jobs.Entry.{Entry}
 use Rattle.mw_disk.specs.Facts.{Facts}
 use Rattle.mw_record.specs.Records.{Pairs}
 use Rattle.mw_record.specs.Layout.{pairs_of}
-use Rattle.mw_file.specs.declared.place_states.Stage.TheVariants.{Free as FreeStage, Prepared as PreparedStage}
+use Rattle.mw_file.specs.declared.place_states.Stage.TheVariants.{Free as FreeStage}
 use Rattle.mw_file.specs.declared.tenant_file.TenantFile.{TenantFile}
 use Rattle.mw_file.specs.File.{disk_of, states_of}
 use Rattle.mw_file.specs.PlaceStates.{stage_of, writes_of_place, IsStaged}
 use Rattle.mw_file.specs.RecoveryInvariant.{ContentsStay}
-use Rattle.mw_world_file.specs.Files.{File}
 use Rattle.mw_book.specs.declared.book.Book.{Book}
 use Rattle.mw_book.specs.declared.place_table.PlaceTable.{PlaceTable}
 use Rattle.mw_book.specs.OpenFile.{states_in, disk_in}
 use Rattle.mw_book.specs.Permits.{HasPlace, is_left, is_vacant, vacant_place}
 use Rattle.mw_book.specs.PreparedAhead.{are_writes_of, has_written, is_for, is_written}
 use Rattle.mw_book.specs.RecordsAhead.{any_below, count_below, free_places, has_but, is_free, place_needed}
-use Rattle.mw_book.specs.Representation.{HasParts, Represents, is_prepared_ahead, is_settled, place_in_file, stage_in_file, writes_in_file}
+use Rattle.mw_book.specs.Representation.{HasParts, is_prepared_ahead, is_settled, place_in_file, stage_in_file, writes_in_file}
 use Rattle.mw_book.specs.SameFiles.{HasMadeRoom, RepresentsSame}
 use Rattle.mw_book.proofs.CountedPlaces.{count_more, count_none}
-use Rattle.mw_book.proofs.FoundPlaces.{vacant_alike, vacant_plain, vacant_prepared, vacant_so}
+use Rattle.mw_book.proofs.FoundPlaces.{vacant_alike, vacant_plain, vacant_so}
 use Rattle.mw_book.proofs.RecordsAhead.{any_same, but_fewer, free_parts, has_parts, not_written}
 use Rattle.mw_book.proofs.RepresentedFiles.{keeps_in, placed_in, shows_parts, there_held}
 use Rattle.mw_book.proofs.StagedPlaces.{placed_without, staged_by}

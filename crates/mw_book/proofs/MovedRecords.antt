@@ -1,33 +1,31 @@
 -- If the change that is prepared ahead in the lowest vacant place moves to a free place, the book represents the same files, and the same
 -- changes are prepared ahead. What a change that is given up leaves is here too.
 -- Used by: the proof of Book::make_room. It may change freely as long as this crate checks.
-use Rattle.std.proofs.Common.{◌≡◌, ◌≢◌, ℕ, ◌+◌, ◌-◌, ◌==◌, ◌<◌, ◌≤◌, ◌&&◌, not, Bool, true, false, List, length, Option, Some, None, is_some, get_or, slice_set, nat_le, nat_lt, if◌then◌else◌, refl, sym, ap, subst, ◌∙◌, inl, inr, arith}
-use Rattle.std.proofs.lemmas.Bool.{and_parts, cases_Bool, cases_eq, cond-true, cond-false, eq-eqb, ne_eqb}
+use Rattle.std.proofs.Common.{◌≡◌, ◌≢◌, ℕ, ◌+◌, ◌-◌, ◌==◌, ◌<◌, ◌≤◌, ◌&&◌, not, Bool, true, false, List, length, if◌then◌else◌, refl, sym, ap, ◌∙◌, inl, inr, arith}
+use Rattle.std.proofs.lemmas.Bool.{cases_eq, cond-true, cond-false, eq-eqb, ne_eqb}
 use Rattle.mw_words.specs.declared.jobs.Entry.{Entry}
 use Rattle.mw_disk.specs.Facts.{Facts}
 use Rattle.mw_file.specs.declared.place_states.PlaceState.{PlaceState}
 use Rattle.mw_file.specs.declared.place_states.Stage.TheVariants.{Free as FreeStage, Prepared as PreparedStage}
 use Rattle.mw_file.specs.PlaceStates.{is_free_stage, stage_of, writes_of_place}
-use Rattle.mw_world_file.specs.Devices.{stage_told}
-use Rattle.mw_world_file.specs.Files.{File, Place, is_empty, is_sealed, entries_in}
-use Rattle.mw_record.specs.Layout.{pairs_of}
+use Rattle.mw_world_file.specs.Files.{Place, is_empty}
 use Rattle.mw_book.specs.declared.book.Book.{Book}
 use Rattle.mw_book.specs.declared.place_table.PlaceTable.{PlaceTable}
 use Rattle.mw_book.specs.FilePlaces.{IsPermutation}
 use Rattle.mw_book.specs.OpenFile.{states_in, disk_in}
-use Rattle.mw_book.specs.Permits.{HasPlace, is_left, is_vacant, vacant_place}
+use Rattle.mw_book.specs.Permits.{is_left, is_vacant, vacant_place}
 use Rattle.mw_book.specs.PreparedAhead.{has_written, is_written}
-use Rattle.mw_book.specs.RecordsAhead.{any_below, count_below, free_places, has_but, is_free, place_needed}
-use Rattle.mw_book.specs.Representation.{ArePlaced, HasParts, Represents, is_prepared_ahead, is_settled, place_in_file, stage_held, stage_in_file}
+use Rattle.mw_book.specs.RecordsAhead.{any_below, count_below, free_places, is_free, place_needed}
+use Rattle.mw_book.specs.Representation.{ArePlaced, HasParts, is_prepared_ahead, is_settled, stage_held, stage_in_file}
 use Rattle.mw_book.specs.SameFiles.{HasMadeRoom, RepresentsSame}
 use Rattle.mw_book.specs.TakenPlaces.{taken}
-use Rattle.mw_book.proofs.CountedPlaces.{count_more, count_none, count_same, count_some}
+use Rattle.mw_book.proofs.CountedPlaces.{count_more, count_some}
 use Rattle.mw_book.proofs.FoundPlaces.{free_of, plain_of, prepared_of, vacant_alike}
 use Rattle.mw_book.proofs.PlacedAhead.{empty_told}
 use Rattle.mw_book.proofs.PlacesAhead.{held_plain, told_empty}
 use Rattle.mw_book.proofs.RecordsAhead.{but_none, free_parts, has_any, has_parts, none_needed, not_written, nothing_lost}
 use Rattle.mw_book.proofs.RepresentedFiles.{shows_parts}
-use Rattle.mw_book.proofs.TakenPlaces.{ahead_now, aheads_now, others_now, own_now, place_now, taken_has, taken_permutes, written_now}
+use Rattle.mw_book.proofs.TakenPlaces.{ahead_now, aheads_now, others_now, own_now, place_now, taken_has, written_now}
 
 -- what an empty place without a change that is prepared ahead, and one with such a change, have in the file
 held_ahead : (flag ahead : Bool) (p : Place) → flag ≡ false → ahead ≡ true → stage_held flag ahead p ≡ PreparedStage

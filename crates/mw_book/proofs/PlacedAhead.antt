@@ -1,8 +1,7 @@
 -- If a call also prepares chosen changes in free places, all places match, as they would after the call alone.
 -- Used by: FiledCalls. It may change freely as long as this crate checks.
-use Rattle.std.proofs.Common.{◌≡◌, ◌≢◌, ◌⊎◌, ℕ, ◌<◌, ◌≤◌, ◌==◌, ◌||◌, not, ◌&&◌, Bool, true, false, List, [], ◌∷◌, ◌++◌, length, Option, None, is_some, get_or, if◌then◌else◌, All, IsTrue, refl, sym, ap, subst, ◌∙◌, inl, inr, arith}
+use Rattle.std.proofs.Common.{◌≡◌, ◌≢◌, ◌⊎◌, ℕ, ◌<◌, ◌≤◌, ◌==◌, ◌||◌, Bool, true, false, List, [], ◌∷◌, ◌++◌, length, Option, if◌then◌else◌, IsTrue, refl, sym, ap, subst, ◌∙◌, inl, inr, arith}
 use Rattle.std.proofs.lemmas.Bool.{cases_eq, cond-true, cond-false, eq-eqb, ne_eqb}
-use Rattle.std.proofs.lemmas.List.Elements.{All-push}
 use Rattle.mw_words.specs.Change.{is_change}
 use Rattle.mw_record.specs.Records.{Pairs}
 use Rattle.mw_record.specs.Layout.{pairs_of}
@@ -10,20 +9,20 @@ use Rattle.mw_file.specs.declared.new_changes.NewChange.{NewChange}
 use Rattle.mw_file.specs.declared.place_states.PlaceState.{PlaceState}
 use Rattle.mw_file.specs.declared.place_states.Stage.{Stage}
 use Rattle.mw_file.specs.declared.place_states.Stage.TheVariants.{Free, Prepared, Sealed}
-use Rattle.mw_file.specs.NewChanges.{ArePrepared, AreSettledWith, IsSealedWith, MayPrepare}
+use Rattle.mw_file.specs.NewChanges.{AreSettledWith, MayPrepare}
 use Rattle.mw_file.specs.PlaceStates.{stage_of, writes_of_place, freed}
 use Rattle.mw_world_file.specs.Devices.{stage_told}
 use Rattle.mw_world_file.specs.Files.{Place, Prepared as PreparedPlace, Sealed as SealedPlace, Empty, is_empty, entries_in}
 use Rattle.mw_world_file.specs.Maps.{upd}
 use Rattle.mw_book.specs.declared.place_table.PlaceTable.{PlaceTable}
 use Rattle.mw_book.specs.ChosenPlaces.{AreChosen, IsChosen}
-use Rattle.mw_book.specs.FilePlaces.{flag_of, place_in, IsPermutation}
-use Rattle.mw_book.specs.Representation.{ArePlaced, ArePlacedBy, is_prepared_ahead, is_settled, place_in_file, stage_held, stage_in_file, writes_in_file}
+use Rattle.mw_book.specs.FilePlaces.{flag_of, IsPermutation}
+use Rattle.mw_book.specs.Representation.{ArePlaced, ArePlacedBy, is_prepared_ahead, is_settled, place_in_file, stage_held, stage_in_file}
 use Rattle.mw_book.specs.SettledAhead.{ahead_by_settle, is_sealed_stage}
 use Rattle.mw_book.proofs.ChosenPlaces.{may_one_more}
 use Rattle.mw_book.proofs.FoundPlaces.{free_of, plain_of}
-use Rattle.mw_book.proofs.PlacesAhead.{by_settle_there, placed_rolled, told_empty}
-use Rattle.mw_book.proofs.StagedPlaces.{IsStagedBy, placed_on}
+use Rattle.mw_book.proofs.PlacesAhead.{by_settle_there, placed_rolled}
+use Rattle.mw_book.proofs.StagedPlaces.{placed_on}
 
 -- the same table with these slots of changes that are prepared ahead
 abbrev with_ahead : PlaceTable → List (Option ℕ) → PlaceTable

@@ -1,21 +1,21 @@
 -- What is prepared ahead after a call, by the changes that were chosen, by the places whose writes stay, and by the place that is lost.
 -- Used by: FiledCalls, TakenPlaces, GivenUp, MovedRecords, AloneChanges, the proofs of Book::write_down, seal, settle, take_written and
 -- make_room. It may change freely as long as this crate checks.
-use Rattle.std.proofs.Common.{◌≡◌, ◌≢◌, ℕ, zero, suc, ◌+◌, ◌-◌, ◌==◌, ◌<◌, ◌≤◌, ◌&&◌, ◌||◌, not, Bool, true, false, List, [], ◌∷◌, length, take, min, Option, Some, None, is_some, get_or, nat_lt, nat_le, All, if◌then◌else◌, refl, sym, ap, subst, ◌∙◌, inl, inr, arith}
+use Rattle.std.proofs.Common.{◌≡◌, ℕ, zero, suc, ◌+◌, ◌-◌, ◌==◌, ◌<◌, ◌≤◌, ◌&&◌, ◌||◌, not, Bool, true, false, List, [], length, take, min, Option, Some, None, get_or, nat_lt, nat_le, All, refl, sym, ap, ◌∙◌, inl, inr, arith}
 use Rattle.std.specs.Cmp.{both_ways}
-use Rattle.std.specs.List.{filter, list_any}
-use Rattle.std.proofs.lemmas.Bool.{and_parts, cases_Bool, cases_eq, cases_lt, cond-true, cond-false, eq-eqb, le-leb, leb-true, lt-ltb, ltb-true, ne_eqb, or_cases, or_left, or_right}
+use Rattle.std.specs.List.{filter}
+use Rattle.std.proofs.lemmas.Bool.{and_parts, cases_Bool, cases_eq, cases_lt, cond-true, cond-false, le-leb, leb-true, lt-ltb, ltb-true, ne_eqb, or_cases, or_left, or_right}
 use Rattle.mw_words.specs.Change.{is_change}
 use Rattle.mw_words.specs.declared.jobs.Entry.{Entry}
 use Rattle.mw_record.specs.Layout.{pairs_of}
 use Rattle.mw_look.specs.declared.steps.Call.{Call}
-use Rattle.mw_look.specs.declared.steps.Call.TheVariants.{Prepare as PrepareCall, Seal as SealCall, Settle as SettleCall, Cancel as CancelCall}
+use Rattle.mw_look.specs.declared.steps.Call.TheVariants.{Prepare as PrepareCall}
 use Rattle.mw_file.specs.declared.new_changes.NewChange.{NewChange}
 use Rattle.mw_file.specs.declared.place_states.PlaceState.{PlaceState}
 use Rattle.mw_file.specs.declared.tenant_file.TenantFile.{TenantFile}
 use Rattle.mw_file.specs.File.{states_of}
 use Rattle.mw_file.specs.PlaceStates.{writes_of_place}
-use Rattle.mw_book.specs.declared.answers.Filed.TheVariants.{Made, Broken, Untouched}
+use Rattle.mw_book.specs.declared.answers.Filed.TheVariants.{Made, Broken}
 use Rattle.mw_book.specs.declared.book.Book.{Book}
 use Rattle.mw_book.specs.declared.place_table.PlaceTable.{PlaceTable}
 use Rattle.mw_book.specs.declared.waiting.Waiting.{Waiting}
@@ -26,7 +26,7 @@ use Rattle.mw_book.specs.OpenFile.{states_in}
 use Rattle.mw_book.specs.Permits.{HasPlace, is_vacant, vacant_from, vacant_place}
 use Rattle.mw_book.specs.PreparedAhead.{are_writes_of, has_written, is_for, is_written, written_place}
 use Rattle.mw_book.specs.RecordsAhead.{PreparesAhead, any_below, count_below, first_ready, free_places, has_but, is_among, is_free, is_ready, makes_calls, place_lost, place_needed, places_left, written_by}
-use Rattle.mw_book.specs.Representation.{HasParts, is_prepared_ahead, is_settled, place_at, place_in_file, writes_in_file}
+use Rattle.mw_book.specs.Representation.{HasParts, is_prepared_ahead, place_in_file, writes_in_file}
 use Rattle.mw_book.proofs.CountedPlaces.{any_by, any_there, count_more, count_same, count_some}
 use Rattle.mw_book.proofs.FoundPlaces.{vacant_so}
 use Rattle.mw_book.proofs.WrittenPlaces.{written_ahead, written_found, written_there}

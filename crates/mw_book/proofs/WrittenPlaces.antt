@@ -1,14 +1,14 @@
 -- The lowest place in which a change is prepared ahead has just its writes. After one more place was looked at, the search goes on alike.
 -- Used by: TakenPlaces, GivenUp, AloneChanges, the proofs of are_writes_of, PlaceTable::written_place and Book::take_written. It may
 -- change freely as long as this crate checks.
-use Rattle.std.proofs.Common.{◌≡◌, ◌≢◌, ℕ, zero, suc, ◌+◌, ◌-◌, ◌==◌, ◌<◌, ◌≤◌, ◌&&◌, Bool, true, false, List, [], ◌∷◌, length, Option, Some, None, is_some, get_or, nat_lt, if◌then◌else◌, refl, sym, ap, ◌∙◌, inl, inr, arith}
-use Rattle.std.proofs.lemmas.Bool.{and_parts, cases_Bool, cond-true, cond-false, eqb-true, le-ltb}
+use Rattle.std.proofs.Common.{◌≡◌, ◌≢◌, ℕ, zero, suc, ◌+◌, ◌-◌, ◌==◌, ◌<◌, ◌≤◌, ◌&&◌, Bool, true, false, List, [], ◌∷◌, length, Option, Some, None, is_some, get_or, refl, sym, ap, ◌∙◌, inl, inr, arith}
+use Rattle.std.proofs.lemmas.Bool.{and_parts, cases_Bool, cond-true, cond-false, eqb-true}
 use Rattle.mw_words.specs.declared.jobs.Entry.{Entry}
 use Rattle.mw_record.specs.Layout.{pairs_of}
 use Rattle.mw_record.specs.Records.{Pairs}
 use Rattle.mw_file.specs.declared.place_states.PlaceState.{PlaceState}
 use Rattle.mw_book.specs.declared.place_table.PlaceTable.{PlaceTable}
-use Rattle.mw_book.specs.PreparedAhead.{are_writes_of, is_for, is_written, written_from, written_place}
+use Rattle.mw_book.specs.PreparedAhead.{are_writes_of, is_for, is_written, written_from}
 use Rattle.mw_book.specs.Representation.{is_prepared_ahead, writes_in_file}
 
 -- writes that are not as many as the entries are not theirs

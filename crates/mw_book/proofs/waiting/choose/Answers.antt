@@ -1,10 +1,7 @@
 -- Proves a goal of `choose` (src/waiting.rt) that the check does not prove by itself. Used by: the proof of that function alone. It may
 -- change freely as long as this crate checks.
-use Rattle.std.proofs.Common.{◌≡◌, ◌≤◌, ◌<◌, ◌+◌, ◌∷◌, ◌∙◌, List, drop, length, sym, ap, subst, arith}
-use Rattle.mw_words.specs.declared.limits.TheConstants.{MAX_PLACES}
+use Rattle.std.proofs.Common.{◌+◌, ◌∷◌, ◌∙◌, drop, length, sym, ap, subst, arith}
 use Rattle.mw_book.specs.declared.waiting.Chosen.{Chosen}
-use Rattle.mw_book.specs.declared.waiting.Waiting.{Waiting}
-use Rattle.mw_book.specs.declared.waiting.TheConstants.{MOST_AHEAD}
 use Rattle.mw_book.specs.ChosenPlaces.{AreChosen, IsUnderWay, free_within}
 use Rattle.mw_book.specs.RecordsAhead.{first_ready}
 use Rattle.mw_book.proofs.ChosenChanges.{full_passes, next_of, old_passes}

@@ -1,12 +1,11 @@
 -- Proves goals of `Book::seal` (src/calls.rt) that the check does not prove by itself. Used by: the proof of that function
 -- alone. It may change freely as long as this crate checks.
-use Rattle.std.proofs.Common.{◌≡◌, length, refl, sym, ap, subst, ◌∙◌, ◌+◌, ◌≤◌, arith}
+use Rattle.std.proofs.Common.{◌≡◌, length, refl, sym, subst, ◌∙◌, ◌+◌, arith}
 use Rattle.mw_look.specs.declared.steps.Call.TheVariants.{Seal as SealCall, Cancel as CancelCall}
-use Rattle.mw_file.specs.declared.place_states.Stage.TheVariants.{Prepared, Sealed}
-use Rattle.mw_file.specs.declared.place_states.PlaceState.{PlaceState}
+use Rattle.mw_file.specs.declared.place_states.Stage.TheVariants.{Prepared}
 use Rattle.mw_file.specs.File.{states_of, Ends}
 use Rattle.mw_file.specs.NewChanges.{IsSealedWith, MayPrepare}
-use Rattle.mw_file.specs.PlaceStates.{stage_of, writes_of_place, MaySeal}
+use Rattle.mw_file.specs.PlaceStates.{writes_of_place}
 use Rattle.mw_file.specs.RecoveryInvariant.{ChangeIsSealed}
 use Rattle.mw_file.proofs.Ended.{ended_well, went_well}
 use Rattle.mw_book.specs.ChosenPlaces.{AreAhead, AreChosen, free_within}

@@ -1,9 +1,6 @@
 -- Proves goals of `Book::take_written` (src/calls.rt) that the check does not prove by itself. Used by: the proof of that function
 -- alone. It may change freely as long as this crate checks.
-use Rattle.std.proofs.Common.{◌≡◌, ◌<◌, nat_lt, refl, sym, ap, subst, ◌∙◌, arith}
-use Rattle.std.proofs.lemmas.Bool.{le-ltb}
-use Rattle.mw_words.specs.declared.limits.TheConstants.{MAX_PLACES}
-use Rattle.mw_file.specs.File.{states_of}
+use Rattle.std.proofs.Common.{◌<◌, refl, sym, ap, subst, ◌∙◌, arith}
 use Rattle.mw_book.specs.declared.place_table.PlaceTable.{PlaceTable}
 use Rattle.mw_book.specs.FilePlaces.{IsPermutation}
 use Rattle.mw_book.specs.OpenFile.{states_in}

@@ -1,12 +1,8 @@
 -- Proves goals of `Book::write_down` (src/calls.rt) that the check does not prove by itself. Used by: the proof of that function
 -- alone. It may change freely as long as this crate checks.
-use Rattle.std.proofs.Common.{◌≡◌, ◌∷◌, [], ◌++◌, ◌+◌, ◌≤◌, length, refl, sym, ap, subst, ◌∙◌, arith}
-use Rattle.mw_file.specs.declared.place_states.Stage.TheVariants.{Prepared}
-use Rattle.mw_file.specs.declared.place_states.PlaceState.{PlaceState}
-use Rattle.mw_record.specs.Layout.{pairs_of}
-use Rattle.mw_file.specs.File.{states_of, words_of, MetFault}
-use Rattle.mw_file.specs.NewChanges.{ArePrepared, MayPrepare}
-use Rattle.mw_file.specs.PlaceStates.{stage_of}
+use Rattle.std.proofs.Common.{◌+◌, length, refl, sym, ap, subst, ◌∙◌, arith}
+use Rattle.mw_file.specs.File.{states_of, MetFault}
+use Rattle.mw_file.specs.NewChanges.{MayPrepare}
 use Rattle.mw_file.proofs.Ended.{ended_well, went_well}
 use Rattle.mw_book.specs.ChosenPlaces.{AreAhead, AreChosen, free_within}
 use Rattle.mw_book.specs.OpenFile.{states_in}

@@ -1,9 +1,9 @@
 -- Proves goals of `Chosen::add` (src/waiting.rt) that the check does not prove by itself. Used by: the proof of that function alone. It
 -- may change freely as long as this crate checks.
-use Rattle.std.proofs.Common.{Some, refl, slice_set, sym, subst, ap, ◌∙◌, ◌∷◌, [], ◌++◌, ◌&&◌, arith}
+use Rattle.std.proofs.Common.{Some, refl, slice_set, sym, subst, ap, ◌∙◌, ◌&&◌, arith}
 use Rattle.mw_words.specs.Change.{is_change}
 use Rattle.mw_book.specs.ChosenPlaces.{AreChosen, IsUnderWay}
-use Rattle.mw_book.proofs.ChosenChanges.{left_out, none_free, one_chosen, ready_is}
+use Rattle.mw_book.proofs.ChosenChanges.{none_free, one_chosen, ready_is}
 use Rattle.mw_book.proofs.ChosenPlaces.{one_more}
 use Rattle.mw_book.proofs.waiting.Chosen.add.Goals as goal
 
