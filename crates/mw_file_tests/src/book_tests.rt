@@ -63,6 +63,26 @@ fn prepares_beside(alloc: Global, disk: MemDisk, value: u64) -> Option<[Option<F
     Some([first, second, prepare(&mut book, 5, &[])])
 }
 
+/// Makes the change of word 1 of a slot that waits.
+fn waiting_change(slot: u8) -> Waiting {
+    Waiting {
+        slot,
+        entries: change(&[(1, 5)]),
+    }
+}
+
+/// Tells how the prepares of slots 3, 4, 6 and 5 end, if changes of slots 4 and 5 wait during the first. The change of
+/// slot 5 is prepared ahead in the place that slot 6 gets, and one more place is free. Gives None if the file doesn't
+/// open.
+fn prepares_in_its_place(alloc: Global, disk: MemDisk) -> Option<[Option<Filed>; 4]> {
+    let mut book = book_on(alloc, disk, 4)?;
+    let waiting = [waiting_change(4), waiting_change(5)];
+    let first = prepare(&mut book, 3, &waiting);
+    let second = prepare(&mut book, 4, &[]);
+    let third = prepare(&mut book, 6, &[]);
+    Some([first, second, third, prepare(&mut book, 5, &[])])
+}
+
 #[test]
 fn a_place_is_used_up_and_a_device_fails(rt: HostRuntime) {
     let used_up = two_prepares(rt.alloc(), failing_disk(&rt, 14));
@@ -84,4 +104,18 @@ fn a_change_that_waited_is_prepared_by_no_device_call_of_its_own(rt: HostRuntime
         Some(Filed::Untouched),
     ];
     same(&rt, &another, &Some(second_fails));
+}
+
+#[test]
+fn a_record_moves_if_its_place_is_needed_and_another_is_free(rt: HostRuntime) {
+    let stays = prepares_in_its_place(rt.alloc(), failing_disk(&rt, 14));
+    same(&rt, &stays, &Some([Some(Filed::Made); 4]));
+    let third_fails = prepares_in_its_place(rt.alloc(), failing_disk(&rt, 13));
+    let wanted = [
+        Some(Filed::Made),
+        Some(Filed::Made),
+        Some(Filed::Broken),
+        Some(Filed::Untouched),
+    ];
+    same(&rt, &third_fails, &Some(wanted));
 }
