@@ -1,6 +1,6 @@
 -- A call for a change that is alone makes just the device calls that the world lists, and leaves no change settled or prepared ahead.
 -- Used by: the law a_change_alone_makes_the_listed_calls. It may change freely as long as this crate checks.
-use Rattle.std.proofs.Common.{◌≡◌, ◌≢◌, ℕ, ◌+◌, ◌<◌, zero, suc, ◌||◌, ◌&&◌, not, Bool, true, false, List, [], length, nat_lt, take, min, if◌then◌else◌, refl, sym, ap, ◌∙◌, inl, inr, arith}
+use Rattle.std.proofs.Common.{◌≡◌, ◌≢◌, ℕ, ◌+◌, ◌<◌, zero, suc, ◌||◌, ◌&&◌, not, Bool, true, false, List, [], ◌∷◌, length, nat_lt, take, min, if◌then◌else◌, refl, sym, ap, ◌∙◌, inl, inr, arith}
 use Rattle.std.specs.List.{filter}
 use Rattle.std.proofs.lemmas.Bool.{and_parts, cases_eq, cases_lt, cond-true, cond-false, eq-eqb, ne_eqb, ltb-true}
 use Rattle.std.proofs.lemmas.List.{length-map}
@@ -17,7 +17,7 @@ use Rattle.mw_book.specs.declared.answers.Filed.{Filed}
 use Rattle.mw_book.specs.declared.answers.Filed.TheVariants.{Made, Broken, Untouched}
 use Rattle.mw_book.specs.declared.book.Book.{Book}
 use Rattle.mw_book.specs.declared.waiting.TheConstants.{MOST_AHEAD}
-use Rattle.mw_book.specs.Alone.{AloneLeavesNoneAhead, AloneLeavesNonePrepared, AloneMakesListedCalls, FindsAlone}
+use Rattle.mw_book.specs.Alone.{AloneLeavesNoneAhead, AloneLeavesNonePrepared, AloneMakesListedCalls, AloneRunsMakeListedCalls, FindsAlone}
 use Rattle.mw_book.specs.Ends.{calls_on, prepare_calls, settle_calls}
 use Rattle.mw_book.specs.RecordsAhead.{is_among, is_ready, makes_calls, place_lost, places_left, prepared_after, written_by}
 use Rattle.mw_book.specs.SettledAhead.{is_sealed_stage, ahead_after, ahead_by_settle}
@@ -134,3 +134,13 @@ leaves_none_prepared facts old new file call slot entries answer finds filed oth
   by Made = ap (λ b. b || is_among (written_by old call slot entries []) other those) (but_fewer old (place_lost old call slot entries) other those (finds.none_prepared other those)) ∙ ap (λ ws. is_among ws other those) (none_waits old call slot entries)
   by Broken = but_fewer old (place_lost old call slot entries) other those (finds.none_prepared other those)
   by Untouched = finds.none_prepared other those
+
+pub runs_listed : {D : Type 0} (facts : D → Facts) → AloneRunsMakeListedCalls facts
+runs_listed facts book [] none_ahead none_prepared run = tt
+runs_listed facts book (c ∷ calls) none_ahead none_prepared run =
+    let finds : FindsAlone facts book c.file c.call c.slot =
+    record { within = run.0.within; shows = run.0.shows; suited = run.0.suited; alone = run.0.alone; none_ahead = none_ahead; none_prepared = none_prepared } in (
+      own_listed facts book c.file c.call c.slot c.entries finds,
+      runs_listed facts c.after calls (leaves_none_ahead facts book c.after c.file c.call c.slot c.entries [] c.answer finds run.1.0)
+          (leaves_none_prepared facts book c.after c.file c.call c.slot c.entries c.answer finds run.1.0) run.1.1,
+    )

@@ -1,7 +1,7 @@
 -- Defines that a change is alone: no other change is sealed, and none is settled or prepared ahead, as with one client. Then each call
 -- makes just the device calls that the world lists, and leaves no change settled or prepared ahead.
 -- Used by: the contracts of laws.rt. A change here changes the law a_change_alone_makes_the_listed_calls.
-use Rattle.std.specs.Prelude.{◌≡◌, ◌≢◌, ◌<◌, ◌≤◌, ◌+◌, ℕ, true, false, List, []}
+use Rattle.std.specs.Prelude.{◌≡◌, ◌≢◌, ◌<◌, ◌≤◌, ◌+◌, ℕ, true, false, List, [], ◌∷◌}
 use Rattle.mw_words.specs.declared.limits.TheConstants.{MAX_POOL}
 use Rattle.mw_words.specs.declared.jobs.Entry.{Entry}
 use Rattle.mw_look.specs.declared.steps.Call.{Call}
@@ -20,6 +20,15 @@ use Rattle.mw_book.specs.Representation.{Represents}
 -- no used place but this one has a sealed change
 abbrev pub IsAlone : File → ℕ → ℕ → Type 0
 IsAlone file places place = (other : ℕ) → other < places → other ≢ place → is_sealed (file.places other) ≡ false
+
+-- A call of a run: the file that the book represents before it, the call with its slot and its entries, its answer, and the book after it.
+pub record AloneCall (D : Type 0) : Type 0 where
+  pub file : File
+  pub call : Call
+  pub slot : ℕ
+  pub entries : List Entry
+  pub answer : Filed
+  pub after : Book D
 
 module _ {D : Type 0} (facts : D → Facts) where
   -- The call suits the place that it is for. No other change is sealed, none is settled ahead, and none is prepared ahead.
@@ -45,3 +54,25 @@ module _ {D : Type 0} (facts : D → Facts) where
   abbrev pub AloneLeavesNonePrepared : Type 0
   AloneLeavesNonePrepared = (old new : Book D) (file : File) (call : Call) (slot : ℕ) (entries : List Entry) (answer : Filed) → FindsAlone old file call slot
       → IsFiled facts call slot entries [] old new answer → HasNonePrepared new
+
+  -- A call suits the file that the book represents, and no other change is sealed. Nothing is said of what was done ahead.
+  pub record SuitsAlone (book : Book D) (file : File) (call : Call) (slot : ℕ) : Type 0 where
+    pub within : slot < MAX_POOL
+    pub shows : Represents facts book file
+    pub suited : suits call file book.places (place_for call file book.places slot) ≡ true
+    pub alone : IsAlone file book.places (place_for call file book.places slot)
+
+  -- these calls were made on the book one after the other, each for a change that is alone, while no change waited
+  abbrev pub IsAloneRun : Book D → List (AloneCall D) → Type 0
+  IsAloneRun book [] = Unit {0}
+  IsAloneRun book (c ∷ calls) = SuitsAlone book c.file c.call c.slot × (IsFiled facts c.call c.slot c.entries [] book c.after c.answer × IsAloneRun c.after calls)
+
+  -- each of them makes as many device calls for its own change as the world lists
+  abbrev pub AreListed : Book D → List (AloneCall D) → Type 0
+  AreListed book [] = Unit {0}
+  AreListed book (c ∷ calls) =
+      (calls_on book c.call c.slot c.entries (entries_at c.file (place_for c.call c.file book.places c.slot)) ≡ device_calls c.call (entries_at c.file (place_for c.call c.file book.places c.slot))) × AreListed c.after calls
+
+  -- this is so of each such run from a book on for which nothing was done ahead, as for a new one
+  abbrev pub AloneRunsMakeListedCalls : Type 0
+  AloneRunsMakeListedCalls = (book : Book D) (calls : List (AloneCall D)) → HasNoneAhead book → HasNonePrepared book → IsAloneRun book calls → AreListed book calls

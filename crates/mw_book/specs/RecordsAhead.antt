@@ -36,8 +36,8 @@ count_below passes (suc n) = if passes n then count_below passes n + 1 else coun
 abbrev pub is_free : List PlaceState → PlaceTable → ℕ → Bool
 is_free states table place = is_vacant states table place && not (is_prepared_ahead table place)
 
--- A waiting change is ready to be written ahead by a call for the change of this slot: it is another slot's, it is not prepared ahead yet,
--- and it is well formed for so many words.
+-- A waiting change is ready to be written ahead by a call for this slot: it is another slot's, is not prepared ahead yet, and is well formed
+-- for so many words.
 abbrev pub is_ready : (words : ℕ) → List PlaceState → PlaceTable → (places slot : ℕ) → Waiting → Bool
 is_ready words states table places slot waiting =
     not (waiting.slot == slot) && not (nat_lt (written_place states table waiting.slot waiting.entries.items places) places) && is_change words waiting.entries.items

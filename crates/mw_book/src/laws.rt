@@ -3,7 +3,7 @@
 //!
 //! No code calls them. Proofs of mw_core cite the lemmas behind them: a statement may change with mw_core.
 ghost use Rattle.mw_book.specs.Alike.{RepresentsAlike};
-ghost use Rattle.mw_book.specs.Alone.{AloneLeavesNoneAhead, AloneLeavesNonePrepared, AloneMakesListedCalls};
+ghost use Rattle.mw_book.specs.Alone.{AloneLeavesNoneAhead, AloneLeavesNonePrepared, AloneMakesListedCalls, AloneRunsMakeListedCalls};
 ghost use Rattle.mw_book.specs.Crashes.{LeavesWords};
 ghost use Rattle.mw_book.specs.Permits.{PermitsCalls};
 
@@ -27,9 +27,11 @@ pub fn files_that_are_alike<D: Disk>()
 
 /// If no other change is sealed, and none is settled ahead, prepared ahead or waits, as with one client, a call makes
 /// as many device calls as the world lists. Then the number that is told of a device call that failed is that call's
-/// own. Such a call leaves no change settled ahead or prepared ahead.
+/// own. Such a call leaves no change settled ahead or prepared ahead. So in a run of such calls from a new book on, each
+/// makes just the listed device calls.
 pub fn a_change_alone_makes_the_listed_calls<D: Disk>()
     ensures listed { AloneMakesListedCalls D.facts }
     ensures none_ahead { AloneLeavesNoneAhead D.facts }
     ensures none_prepared { AloneLeavesNonePrepared D.facts }
+    ensures runs { AloneRunsMakeListedCalls D.facts }
 {}
