@@ -1,1 +1,5 @@
+pub mod AnswerMomentLaws
+pub mod ArrivalsInRuns
+pub mod HandOuts
 pub mod OneHistoryLaws
+pub mod OwnHandOuts

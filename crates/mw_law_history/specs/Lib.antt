@@ -1,1 +1,2 @@
+pub mod AnswerMoments
 pub mod OneHistory

@@ -1,6 +1,8 @@
-//! States that the replies of all passes are right in one history. The function does nothing; its contract is the fact.
+//! States that the replies of all passes are right in one history, and when each of them was. The functions do nothing; their contracts
+//! are the facts.
 //!
-//! No code calls it. A change of the contract here changes a theorem.
+//! No code calls them. A change of a contract here changes a theorem.
+ghost use Rattle.mw_law_history.specs.AnswerMoments.{AnswersHaveMoments, AnswersHaveMomentsInOneRun, AnswersKeepTheOrderOfTime};
 ghost use Rattle.mw_law_history.specs.OneHistory.{MomentsHaveOneHistory};
 
 use mw_rule::Begins;
@@ -13,7 +15,29 @@ use mw_rule::Begins;
 /// a pass has seen are the first of these changes. None of them is of a request that was answered VAL, NO or BUSY; nor
 /// is the change in doubt in the tenant's file.
 ///
-/// Not said: the order in time of replies that two passes have given.
+/// The order in time of replies that two passes have given: [`answers_have_moments`].
 pub fn every_moment_has_one_history<B: Begins>()
     ensures history { (key : B) → MomentsHaveOneHistory (B.config key) (B.begun key) }
+{}
+
+/// Each VAL, NO and YES that a pass gives was true at a moment of its own call. The call is what happens in the run behind
+/// the pass from the arrival of this very request until its worker hands out its reply, under its number. The arrival
+/// comes after all that the pass knew before.
+///
+/// - VAL: at that moment the word had that value in the tenant's file.
+/// - NO: at that moment the word had that value, which is not the expected one.
+/// - YES: by one event of the call the words that the request expects became the words that it wants.
+///
+/// `own`: the run is the one behind what the pass knows at the reply. `one_run`: at each later moment of the shared words it
+/// is the one behind what all passes know. So the moments of all replies are in one order.
+///
+/// `time`: this order keeps that of time, also between passes that never meet. A request of a pass that was idle at some
+/// moment of the shared words comes after all that had happened by then, so also after each reply that any pass had by
+/// then.
+///
+/// The premise is `Answered` of mw_rule. It is a part of what `Engine::serve` of mw_engine ensures (`answered`).
+pub fn answers_have_moments<B: Begins>()
+    ensures own { AnswersHaveMoments }
+    ensures one_run { (key : B) → AnswersHaveMomentsInOneRun (B.config key) (B.begun key) }
+    ensures time { (key : B) → AnswersKeepTheOrderOfTime (B.config key) (B.begun key) }
 {}

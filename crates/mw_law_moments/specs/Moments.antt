@@ -1,6 +1,6 @@
 -- Defines the moment of a VAL, a NO or a YES: between the arrival of the request and its reply, the tenant's words were as the reply
 -- says. A mark of the request, which is an entry of the tenant's history, stands where as many changes are sealed as at this moment.
--- Used by: the law of src/laws.rt. A change here changes what this law says.
+-- Used by: the law of src/laws.rt, mw_law_history. A change here changes what their laws say.
 use Rattle.std.specs.Prelude.{ℕ, ◌≡◌, ◌≢◌, ◌<◌, ◌++◌, true, List, [], ◌∷◌, slice_get, Some}
 use Rattle.mw_words.specs.declared.jobs.Entry.{Entry}
 use Rattle.mw_words.specs.declared.jobs.Job.{Job}

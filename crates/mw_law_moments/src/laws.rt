@@ -1,6 +1,6 @@
 //! States that each reply has a moment. The function does nothing; its contract is the fact.
 //!
-//! No code calls it. A change of the contract here changes a theorem.
+//! No code calls it. mw_law_history cites its proof. A change of the contract here changes a theorem.
 ghost use Rattle.mw_law_moments.specs.Moments.{RepliesHaveMoments, SharedWordsAreTheFiles};
 
 /// Each VAL, NO and YES was true at a moment of its call, in every run, also when a number was used up. The call is what

@@ -3,7 +3,7 @@
 //! So the moments keep the order of real time: if a request comes after another's reply, its moment is later. `specs/Moments`
 //! defines such a moment, and where the mark of the request stands.
 //!
-//! Nothing uses it: its law is a theorem about the core.
+//! Used by: mw_law_history, which says the same of running threads.
 #![tactic(auto)]
 
 mod laws;
