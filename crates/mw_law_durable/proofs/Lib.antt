@@ -1,3 +1,4 @@
 pub mod AskedRequests
 pub mod DurableLaws
+pub mod FoundChanges
 pub mod Stakes

@@ -3,6 +3,7 @@
 //!
 //! No code calls them. A change of a contract here changes a theorem.
 ghost use Rattle.mw_law_durable.specs.Durable.{CallsKeepChanges, CallsLeaveWholeChanges, CallsLeaveWhollyOrNot, MomentsKeepChanges, MomentsLeaveWholeChanges, MomentsLeaveWholeChangesInACall, MomentsLeaveWhollyOrNot};
+ghost use Rattle.mw_law_durable.specs.Starts.{StartsFindChanges};
 
 use mw_disk::Disk;
 use mw_rule::Begins;
@@ -39,4 +40,14 @@ pub fn every_moment_keeps_changes<B: Begins, D: Disk>()
     ensures in_a_call { (key : B) → MomentsLeaveWholeChangesInACall D.facts (B.config key) (B.begun key) }
     ensures kept { (key : B) → MomentsKeepChanges D.facts (B.config key) (B.begun key) }
     ensures wholly { (key : B) → MomentsLeaveWhollyOrNot D.facts (B.config key) (B.begun key) }
+{}
+
+/// A start finds what a crash left. It opens these bytes on a disk that is honest and synced.
+///
+/// The crash came at a moment at which it leaves whole changes, by [`calls_keep_changes`] or
+/// [`every_moment_keeps_changes`]. If the opening goes well, it finds the words of the start before with all changes put
+/// over them that were sealed since, or these with the one at stake. So a change that was answered YES is among the
+/// changes that the start finds. If the opening fails, it found no damage.
+pub fn starts_find_changes<D: Disk, E: Disk>()
+    ensures { StartsFindChanges D.facts E.facts }
 {}

@@ -10,6 +10,7 @@
 //! - [`every_moment_keeps_changes`]: all passes. It is the same at each moment at which the shared words are under their
 //!   rule, and during the next call on that file, whoever makes it. The changes are those of the one run of the world that
 //!   ties the shared words to the model. It is the run in which mw_law_history finds all replies.
+//! - [`starts_find_changes`]: a start that opens what such a crash left finds these changes. `specs/Starts` defines that.
 //!
 //! Not said:
 //!
@@ -21,7 +22,7 @@
 //!   call is under way.
 //! - The change that a call seals fits the words before it. This is said of the change in doubt between calls
 //!   (mw_law_whole), and of each sealed change.
-//! - A later start is the theorem's matter (docs/THEOREM.md).
+//! - What is sealed after the next start. The theorem speaks of many starts (docs/THEOREM.md).
 //!
 //! Nothing uses it: its laws are theorems about mw_engine.
 //!
@@ -30,4 +31,4 @@
 
 mod laws;
 
-pub use laws::{calls_keep_changes, every_moment_keeps_changes};
+pub use laws::{calls_keep_changes, every_moment_keeps_changes, starts_find_changes};
