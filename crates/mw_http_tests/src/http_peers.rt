@@ -4,6 +4,8 @@
 
 use mw_http::{ContentType, Route, Status};
 use mw_http_server::{Date, Page, Pages};
+use mw_server_pages::{FileCopies, NoCopy};
+use mw_words::Name;
 use std::alloc::Global;
 use std::io::{self, ErrorKind, Read, Write};
 
@@ -50,6 +52,30 @@ impl Pages for CountedPages {
         let mut date = Date::new();
         let _ = date.try_extend_from_slice(b"then");
         date
+    }
+}
+
+/// The file of one tenant, `t`, or why there is no copy of it; and how many copies were asked for.
+#[derive(Drop)]
+pub struct OneFile {
+    pub alloc: Global,
+    pub file: Result<&'static [u8], NoCopy>,
+    pub asked: u32,
+}
+
+impl FileCopies for OneFile {
+    ghost copied = { λ _ _ _ _. Unit {0} };
+
+    fn copy(&mut self, name: &Name) -> Result<Vec<u8>, NoCopy> {
+        self.asked = self.asked.saturating_add(1);
+        if name.as_slice() != b"t".as_slice() {
+            return Err(NoCopy::NoTenant);
+        }
+        let mut bytes = Vec::new(self.alloc);
+        match bytes.extend_from_slice(self.file?) {
+            Ok(()) => Ok(bytes),
+            Err(_) => Err(NoCopy::Memory),
+        }
     }
 }
 

@@ -1,12 +1,13 @@
 //! Tests what a server shows: its pages by a service, and each text by hand.
 //!
 //! Nothing else uses it: it may change with what it tests.
+use crate::http_peers::OneFile;
 use mw_http::{ContentType, Route, Status};
 use mw_http_server::Pages;
 use mw_meters::Meters;
 use mw_pages::{health_text, status_page};
 use mw_report::TenantFigures;
-use mw_server_pages::{ServerPages, Version};
+use mw_server_pages::{NoCopy, ServerPages, Version};
 use mw_test_server::Shelf;
 use mw_words::Name;
 use std::time::Clock;
@@ -19,6 +20,9 @@ fn is_in(part: &[u8], text: &[u8]) -> bool {
     part.is_empty() || text.windows(part.len()).any(|window| window == part)
 }
 
+/// The bytes of a tenant's file, some of which are no text.
+const FILE: &[u8] = b"MWCASF1\n\0\xff\r\n\r\nend";
+
 /// Tells whether the pages of a tenant that is up have these parts, at this place, with this status and type.
 fn shows(
     rt: &(impl AllocGlobal + Clock),
@@ -28,9 +32,36 @@ fn shows(
 ) -> bool {
     let meters = Meters::new(rt);
     let version = Version::try_from(b"1.2".as_slice()).unwrap_or_default();
-    let mut pages = ServerPages::new(Shelf::new(2), &meters, rt, version);
+    let files = one_file(rt, Ok(FILE));
+    let mut pages = ServerPages::new(Shelf::new(2), files, &meters, rt, version);
     let page = pages.page(route);
     (page.status, page.kind) == wanted && is_in(part, &page.body)
+}
+
+/// Gives the file of the tenant `t`, or why it isn't copied.
+fn one_file(rt: &impl AllocGlobal, file: Result<&'static [u8], NoCopy>) -> OneFile {
+    OneFile {
+        alloc: rt.alloc(),
+        file,
+        asked: 0,
+    }
+}
+
+/// Tells whether the file of the tenant with this name is answered so, with just this body, by pages that can or can't copy
+/// that of `t`.
+fn gives_file(
+    rt: &(impl AllocGlobal + Clock),
+    name: &[u8],
+    file: Result<&'static [u8], NoCopy>,
+    wanted: (Status, ContentType),
+    body: &[u8],
+) -> bool {
+    let meters = Meters::new(rt);
+    let files = one_file(rt, file);
+    let mut pages = ServerPages::new(Shelf::new(2), files, &meters, rt, Version::new());
+    let route = Route::File(Name::try_from(name).unwrap_or_default());
+    let page = pages.page(&route);
+    (page.status, page.kind) == wanted && page.body.as_slice() == body
 }
 
 #[test]
@@ -63,9 +94,27 @@ fn each_place_shows_its_page(rt: HostRuntime) {
             b"mondlexi_up{tenant=\"t\"} 1\n"
         )
     );
-    let name = Name::try_from(b"t".as_slice()).unwrap_or_default();
-    let nothing = (Status::NotFound, ContentType::Text);
-    assert!(rt; shows(&rt, &Route::File(name), nothing, b""));
+}
+
+#[test]
+fn files_are_given_byte_for_byte(rt: HostRuntime) {
+    let copy = (Status::Ok, ContentType::Bytes);
+    assert!(rt; gives_file(&rt, b"t", Ok(FILE), copy, FILE));
+    assert!(rt; gives_file(&rt, b"t", Ok(b""), copy, b""));
+}
+
+#[test]
+fn a_status_says_why_there_is_no_copy(rt: HostRuntime) {
+    for (name, file, status) in [
+        (b"u", Ok(FILE), Status::NotFound),
+        (b"t", Err(NoCopy::NoTenant), Status::NotFound),
+        (b"t", Err(NoCopy::Failed), Status::Unavailable),
+        (b"t", Err(NoCopy::Disk), Status::InternalError),
+        (b"t", Err(NoCopy::Memory), Status::InternalError),
+    ] {
+        let wanted = (status, ContentType::Text);
+        assert!(rt; gives_file(&rt, name, file, wanted, b""));
+    }
 }
 
 /// The figures of a tenant of this name, whose other figures are 0.

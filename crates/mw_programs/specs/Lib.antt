@@ -1,3 +1,4 @@
+pub mod Copies
 pub mod Descriptors
 pub mod Replaced
 pub mod WorkerCount

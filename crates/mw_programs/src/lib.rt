@@ -4,6 +4,7 @@
 #![tactic(auto)]
 
 mod clients;
+mod copies;
 mod descriptors;
 mod pages;
 mod replaced;

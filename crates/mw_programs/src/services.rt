@@ -7,6 +7,7 @@ ghost use Rattle.std.specs.Prelude.{ℕ, ◌≡◌, ◌≤◌, ◌<◌, ◌+◌,
 ghost use Rattle.mw_engine.specs.Passes.{IsNew};
 
 use crate::clients::serve_clients;
+use crate::copies::EngineFiles;
 use crate::pages::version;
 use crate::replaced::FileLook;
 use crate::serving::ServeFault;
@@ -130,7 +131,8 @@ where
     serve_clients(rt, borrowers, pages, listening, out, notes, watch, counters)
 }
 
-/// Makes the pages if they have an address. A worker with the last of these passes gives their figures.
+/// Makes the pages if they have an address. A worker with the last of these passes gives their figures, and the engine gives
+/// copies of its files.
 ///
 /// # Errors
 ///
@@ -142,7 +144,10 @@ fn pages_for<'a, J: EngineBrand, D: Disk, H, R: AllocGlobal + Clock, T>(
     listening: &Listening,
     watch: &'a T,
     meters: &'a Meters,
-) -> Result<Option<ServerPages<'a, Worker<'a, J, D, H, R, T>, R>>, AllocError>
+) -> Result<
+    Option<ServerPages<'a, Worker<'a, J, D, H, R, T>, EngineFiles<'a, J, D, H, R>, R>>,
+    AllocError,
+>
     requires { All (IsNew J.identity) passes.old.items }
     ensures left { All (IsNew J.identity) passes.new.items }
 {
@@ -154,7 +159,8 @@ fn pages_for<'a, J: EngineBrand, D: Disk, H, R: AllocGlobal + Clock, T>(
         return Err(AllocError);
     };
     let worker = Worker::new(engine, pass, rt, watch);
-    Ok(Some(ServerPages::new(worker, meters, rt, version())))
+    let files = EngineFiles { engine, rt };
+    Ok(Some(ServerPages::new(worker, files, meters, rt, version())))
 }
 
 /// Makes a worker for each pass. The meters, if there are any, count their requests.

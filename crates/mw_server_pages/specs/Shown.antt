@@ -1,4 +1,4 @@
--- Defines what a server shows at each place, by the figures that its service gives then.
+-- Defines what a server shows at each place, by the figures that its service gives then, or by the copy of a tenant's file.
 -- Used by: the contracts of server_pages.rt. A change here changes what operators see: docs/HTTP changes with it.
 use Rattle.std.specs.Prelude.{◌≡◌, ℕ, ◌⊎◌, List, [], Vec, Result, Ok, Err, if◌then◌else◌}
 use Rattle.std.specs.declared.alloc.Global.{Global}
@@ -14,6 +14,8 @@ use Rattle.mw_http_server.specs.Calls.{Call, Dates, Shows}
 use Rattle.mw_meters.specs.Counted.{IsTextOf}
 use Rattle.mw_pages.specs.Health.{health, is_up}
 use Rattle.mw_pages.specs.StatusPage as status_page
+use Rattle.mw_server_pages.specs.declared.file_copies.NoCopy.TheVariants as no_copy
+use Rattle.mw_server_pages.specs.Copies.{Copy}
 use Rattle.mw_report.specs.declared.figures.Figures.{Figures}
 use Rattle.mw_session.specs.Talk as talk
 
@@ -23,13 +25,13 @@ pub record IsPage (wanted : Status) (content : ContentType) (Says : List ℕ →
   pub kind : page.kind ≡ content
   pub says : Says page.body.items
 
+-- an answer of this status, without a body
+abbrev pub IsBare : Status → Page → Type 0
+IsBare wanted page = IsPage wanted kind.Text (λ body. body ≡ []) page
+
 -- there was no memory for the page: an error without a body
 abbrev pub IsError : Page → Type 0
-IsError page = IsPage status.InternalError kind.Text (λ body. body ≡ []) page
-
--- nothing is there
-abbrev pub IsNowhere : Page → Type 0
-IsNowhere page = IsPage status.NotFound kind.Text (λ body. body ≡ []) page
+IsError page = IsBare status.InternalError page
 
 -- the page, or an error if there was no memory for it
 abbrev pub IsPageOrError : Status → ContentType → (List ℕ → Type 0) → Page → Type 0
@@ -54,12 +56,21 @@ abbrev pub IsStatus : List ℕ → Figures → Page → Type 0
 IsStatus version figures page =
     IsPageOrError status.Ok kind.Html (λ body. (seconds : ℕ) × (body ≡ status_page.page version seconds figures.tenants.items figures.pool_free)) page
 
--- what is shown at a place, by these figures
+-- The file of a tenant, byte for byte. If there is no copy: the tenant is not known (404), its file has failed or didn't open
+-- (503), the device failed or memory was out (500), each without a body.
+abbrev pub IsFile : Copy → Page → Type 0
+IsFile (Ok copy) page = IsPage status.Ok kind.Bytes (λ body. body ≡ copy.items) page
+IsFile (Err no_copy.NoTenant) page = IsBare status.NotFound page
+IsFile (Err no_copy.Failed) page = IsBare status.Unavailable page
+IsFile (Err no_copy.Disk) page = IsBare status.InternalError page
+IsFile (Err no_copy.Memory) page = IsBare status.InternalError page
+
+-- what is shown at a place by these figures; a file is shown by none
 abbrev pub IsShown : target.Place → List ℕ → Figures → Page → Type 0
 IsShown target.page version figures page = IsStatus version figures page
 IsShown target.metrics version figures page = IsMetrics version figures page
 IsShown target.health version figures page = IsHealth figures page
-IsShown (target.file tenant) version figures page = IsNowhere page
+IsShown (target.file tenant) version figures page = ⊥
 
 -- The service was asked for its figures once, and these are shown.
 pub record Counts {S : Type 0} (answered : S → talk.Call → S → Type 0) (version : List ℕ) (old new : S) (place : target.Place) (page : Page) : Type 0 where
@@ -67,10 +78,17 @@ pub record Counts {S : Type 0} (answered : S → talk.Call → S → Type 0) (ve
   pub asked : answered old (talk.Counts figures) new
   pub shown : IsShown place version figures page
 
--- What the pages answer. The service is asked for nothing if there is nothing at the place, nor for the date.
-abbrev pub Gives : {S : Type 0} → (S → talk.Call → S → Type 0) → List ℕ → S → Call → S → Type 0
-Gives answered version old (Shows (target.file tenant) page) new = (new ≡ old) × IsNowhere page
-Gives answered version old (Shows target.page page) new = Counts answered version old new target.page page
-Gives answered version old (Shows target.metrics page) new = Counts answered version old new target.metrics page
-Gives answered version old (Shows target.health page) new = Counts answered version old new target.health page
-Gives answered version old (Dates date) new = new ≡ old
+-- The file of this tenant was copied once, and the copy is shown, or why there is none.
+pub record Copies {F : Type 0} (copied : F → List ℕ → Copy → F → Type 0) (old new : F) (tenant : List ℕ) (page : Page) : Type 0 where
+  pub copy : Copy
+  pub asked : copied old tenant copy new
+  pub shown : IsFile copy page
+
+-- What the pages answer, of a service and of files. For a file the service is asked for nothing. For all else no file is copied, and
+-- for the date the service is asked for nothing either.
+abbrev pub Gives : {S F : Type 0} → (S → talk.Call → S → Type 0) → (F → List ℕ → Copy → F → Type 0) → List ℕ → S → F → Call → S → F → Type 0
+Gives answered copied version old files (Shows (target.file tenant) page) new new_files = (new ≡ old) × Copies copied files new_files tenant page
+Gives answered copied version old files (Shows target.page page) new new_files = (new_files ≡ files) × Counts answered version old new target.page page
+Gives answered copied version old files (Shows target.metrics page) new new_files = (new_files ≡ files) × Counts answered version old new target.metrics page
+Gives answered copied version old files (Shows target.health page) new new_files = (new_files ≡ files) × Counts answered version old new target.health page
+Gives answered copied version old files (Dates date) new new_files = (new ≡ old) × (new_files ≡ files)

@@ -5,9 +5,10 @@ ghost use Rattle.std.specs.Prelude.{◌≡◌, [], IfOk};
 ghost use Rattle.mw_http.specs.Targets.{place_of};
 ghost use Rattle.mw_http_server.specs.Calls.{Call};
 ghost use Rattle.mw_report.specs.Table.{AreWithinLimits};
-ghost use Rattle.mw_server_pages.specs.Shown.{Gives, IsHealth, IsMetrics, IsNowhere, IsPageOf, IsStatus};
+ghost use Rattle.mw_server_pages.specs.Shown.{Gives, IsBare, IsFile, IsHealth, IsMetrics, IsPageOf, IsStatus};
 
 use crate::date::date_now;
+use crate::file_copies::{FileCopies, NoCopy};
 use arrayvec::ArrayVec;
 use mw_http::{ContentType, Route, Status};
 use mw_http_server::{Date, Page, Pages};
@@ -24,23 +25,33 @@ pub type Version = ArrayVec<u8, MAX_VERSION>;
 /// How many nanoseconds a second has.
 const SECOND: u64 = 1_000_000_000;
 
-/// What a server shows: the figures that a service gives at the moment, and what its meters have counted.
+/// What a server shows: the figures that a service gives at the moment, what its meters have counted, and copies of its
+/// tenants' files.
 #[derive(Drop)]
-pub struct ServerPages<'a, S, R> {
+pub struct ServerPages<'a, S, F, R> {
     service: S,
+    files: F,
     meters: &'a Meters,
     rt: &'a R,
     version: Version,
     started: Stopwatch,
 }
 
-impl<'a, S, R: Clock> ServerPages<'a, S, R> {
+impl<'a, S, F, R: Clock> ServerPages<'a, S, F, R> {
     /// Makes the pages of a server of this version that starts now.
-    pub fn new(service: S, meters: &'a Meters, rt: &'a R, version: Version) -> Self
-        ensures { result.service ≡ service }
+    pub fn new(
+        service: S,
+        files: F,
+        meters: &'a Meters,
+        rt: &'a R,
+        version: Version,
+    ) -> Self
+        ensures service { result.service ≡ service }
+        ensures files { result.files ≡ files }
     {
         ServerPages {
             service,
+            files,
             meters,
             rt,
             version,
@@ -49,12 +60,12 @@ impl<'a, S, R: Clock> ServerPages<'a, S, R> {
     }
 }
 
-impl<S: Service, R: AllocGlobal + Clock> Pages for ServerPages<'_, S, R> {
-    ghost answered = { λ old call new. Gives S.answered old.version.items old.service call new.service };
+impl<S: Service, F: FileCopies, R: AllocGlobal + Clock> Pages for ServerPages<'_, S, F, R> {
+    ghost answered = { λ old call new. Gives S.answered F.copied old.version.items old.service old.files call new.service new.files };
 
     fn page(&mut self, route: &Route) -> Page {
         match route {
-            Route::File(_) => nowhere(self.rt.alloc()),
+            Route::File(name) => file(self.rt.alloc(), self.files.copy(name)),
             Route::Health => health(self.rt.alloc(), &self.service.figures()),
             Route::Metrics => {
                 let figures = self.service.figures();
@@ -73,12 +84,28 @@ impl<S: Service, R: AllocGlobal + Clock> Pages for ServerPages<'_, S, R> {
     }
 }
 
-/// Gives the answer where nothing is.
-fn nowhere(alloc: Global) -> Page
-    ensures { IsNowhere result }
+/// Gives the copy of a tenant's file, or tells by a status why there is none.
+fn file(alloc: Global, copy: Result<Vec<u8>, NoCopy>) -> Page
+    ensures { IsFile copy result }
+{
+    match copy {
+        Ok(body) => Page {
+            status: Status::Ok,
+            kind: ContentType::Bytes,
+            body,
+        },
+        Err(NoCopy::NoTenant) => bare(alloc, Status::NotFound),
+        Err(NoCopy::Failed) => bare(alloc, Status::Unavailable),
+        Err(NoCopy::Disk | NoCopy::Memory) => bare(alloc, Status::InternalError),
+    }
+}
+
+/// Gives an answer of this status, without a body.
+fn bare(alloc: Global, status: Status) -> Page
+    ensures { IsBare status result }
 {
     Page {
-        status: Status::NotFound,
+        status,
         kind: ContentType::Text,
         body: Vec::new(alloc),
     }
@@ -95,11 +122,7 @@ fn page_of(
 {
     match body {
         Ok(body) => Page { status, kind, body },
-        Err(_) => Page {
-            status: Status::InternalError,
-            kind: ContentType::Text,
-            body: Vec::new(alloc),
-        },
+        Err(_) => bare(alloc, Status::InternalError),
     }
 }
 
