@@ -12,12 +12,13 @@ from .server import PATIENCE, TYPES, Server, Wrong, answer_of, connected, figure
 END = b" HTTP/1.1\r\nHost: a\r\n\r\n"
 LONGEST = 8192
 """The most bytes of a head."""
+FILE = "/tenants/a/file"
 REQUEST_SECONDS, WHOLE_SECONDS = 2, 10
 """How long a client may take for its request, and for all."""
 WRONG = [
     (b"POST /" + END, 405), (b"DELETE /metrics" + END, 405), (b"POST /nothing" + END, 404), (b"BREW /" + END, 501),
     (b"get /" + END, 501), (b"GET /nothing" + END, 404), (b"GET /healthz/" + END, 404), (b"GET //" + END, 404),
-    (b"GET /tenants/a/file" + END, 404), (b"GET /tenants/../file" + END, 404), (b"GET nothing" + END, 400),
+    (b"GET /tenants/c/file" + END, 404), (b"POST /tenants/a/file" + END, 405), (b"GET /tenants/../file" + END, 404), (b"GET nothing" + END, 400),
     (b"GET / HTTP/1.1\r\n\r\n", 400), (b"GET / HTTP/1.1\r\nHost: a\r\nHost: b\r\n\r\n", 400), (b"GET / HTTP/2.0\r\nHost: a\r\n\r\n", 400),
     (b"GET / HTTP/1.1\r\nHost : a\r\n\r\n", 400), (b"GET / HTTP/1.1\r\nHost: a\r\n b\r\n\r\n", 400), (b"\0\1\2\r\n\r\n", 400),
     (b"GET / HTTP/1.1\r\nHost: a\r\nContent-Length: 1\r\nContent-Length: 2\r\n\r\n", 400),
@@ -29,7 +30,8 @@ SILENT = [b"", b"GET / HTTP/1.1\r\n", b"GET /"]
 
 
 def right(server: Server) -> None:
-    """Each page to GET and to HEAD, by each form of its address."""
+    """Each page to GET and to HEAD, by each form of its address, and a tenant's file."""
+    right_file(server)
     for path, kind in TYPES.items():
         for target in (path, f"{path}?x=1", f"http://localhost{path}"):
             answer, head = get(server.pages, target), get(server.pages, target, "HEAD")
@@ -45,11 +47,21 @@ def right(server: Server) -> None:
             raise Wrong(f"the status page has {part!r}")
 
 
+def right_file(server: Server) -> None:
+    """A tenant's file, byte for byte, while nobody changes it."""
+    answer, head = get(server.pages, FILE), get(server.pages, FILE, "HEAD")
+    same((answer.status, head.status), (200, 200), FILE)
+    for fields in (answer.fields, head.fields):
+        same((fields["Content-Type"], int(fields["Content-Length"])), ("application/octet-stream", len(answer.body)), FILE)
+    same(answer.body, (server.folder / "a.mw").read_bytes(), FILE)
+
+
 def by_curl(server: Server) -> None:
-    """The pages by curl, if it is there."""
+    """A page and a file by curl, if it is there."""
     if shutil.which("curl"):
-        words = ["curl", "-sf", "--unix-socket", str(server.pages), "http://localhost/healthz"]
-        same(subprocess.run(words, stdout=subprocess.PIPE, timeout=PATIENCE, check=True).stdout, b"ok\n", "curl")
+        for path, wanted in (("/healthz", b"ok\n"), (FILE, (server.folder / "a.mw").read_bytes())):
+            words = ["curl", "-sf", "--unix-socket", str(server.pages), f"http://localhost{path}"]
+            same(subprocess.run(words, stdout=subprocess.PIPE, timeout=PATIENCE, check=True).stdout, wanted, f"{path} by curl")
 
 
 def wrong(server: Server) -> None:
@@ -111,7 +123,7 @@ def mutated(text: bytes, others: List[bytes], rng: random.Random) -> bytes:
 def fuzz(server: Server, count: int, seed: int) -> Dict[int, int]:
     """Many mutated requests: each has an answer or none, and nothing else is touched. Gives how many had which status, 0 for none."""
     rng, found = random.Random(seed), {}
-    bases = [text for text, _ in WRONG if len(text) < 1000] + [f"{method} {path}".encode() + END for method in ("GET", "HEAD") for path in TYPES]
+    bases = [text for text, _ in WRONG if len(text) < 1000] + [f"{method} {path}".encode() + END for method in ("GET", "HEAD") for path in (*TYPES, FILE)]
     bases += [b"GET /metrics HTTP/1.1\r\nHost: localhost:9\r\nUser-Agent: curl/7.88\r\nAccept: */*\r\nConnection: close\r\n\r\n"]
     before = untouched(server)
     for number in range(count):
@@ -127,7 +139,7 @@ def fuzz(server: Server, count: int, seed: int) -> Dict[int, int]:
 
 
 def untouched(server: Server) -> Dict:
-    """The figures, without the time since the start."""
+    """The figures, without the time since the start, and without reads: a copy of a file is one."""
     found = figures(server.pages)
     del found["mondlexi_uptime_seconds", ""]
-    return dict(found)
+    return {key: value for key, value in found.items() if 'call="read"' not in key[1]}

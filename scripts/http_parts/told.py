@@ -114,7 +114,7 @@ def closed_for(server: Server) -> None:
 
 
 def failing_disk(server: Server) -> None:
-    """A write that fails: the tenant is down, and each page says so. The others are up."""
+    """A write that fails: the tenant is down, each page says so, and there is no copy of its file. The others are up."""
     client = Client(server.port, "a")
     same(client.ask("CAS 0:0:1"), "FAULT", "a change on a disk that fails")
     same(client.ask("CAS 0:0:1"), "FAULT", "a change after that")
@@ -123,6 +123,7 @@ def failing_disk(server: Server) -> None:
     same([now.of("mondlexi_up", tenant=name) for name in "ab"], [0, 1], "the tenants that are up")
     same(now.of("mondlexi_device_failures_total", tenant="a", call="write"), 1, "failed writes")
     same(now.of("mondlexi_requests_total", tenant="a", kind="CAS", reply="FAULT"), 2, "requests answered FAULT")
+    same([get(server.pages, f"/tenants/{name}/file").status for name in "ab"], [503, 200], "the files")
     health = get(server.pages, "/healthz")
     same((health.status, health.body), (503, b"down a\n"), "/healthz")
     page = get(server.pages, "/").body.decode()
