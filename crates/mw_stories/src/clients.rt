@@ -2,6 +2,7 @@
 //! comes within a limit.
 //!
 //! Used by: `outputs`, `servers`, mw_examples, mw_fault_examples. It may change freely as long as these check and their tests pass.
+use std::alloc::Global;
 use std::io::{ErrorKind, Read, Write};
 use std::net::{Net, TcpListener, TcpStream};
 use std::sync::atomic::{AtomicU16, Ordering};
@@ -21,6 +22,8 @@ const PAUSE: u64 = 10;
 pub struct Ports {
     /// The administrator's port.
     pub admin: AtomicU16,
+    /// The port of the pages.
+    pub http: AtomicU16,
     /// The clients' port. It is told last.
     pub ready: AtomicU16,
 }
@@ -30,6 +33,7 @@ impl Ports {
     pub fn new() -> Self {
         Ports {
             admin: AtomicU16::new(0),
+            http: AtomicU16::new(0),
             ready: AtomicU16::new(0),
         }
     }
@@ -37,8 +41,10 @@ impl Ports {
     /// Learns the ports from what a server has written.
     pub(crate) fn learn(&self, text: &[u8]) {
         let admin = port_in(text, "admin ").unwrap_or(0);
+        let http = port_in(text, "http ").unwrap_or(0);
         let ready = port_in(text, "ready ").unwrap_or(0);
         self.admin.store(admin, Ordering::SeqCst);
+        self.http.store(http, Ordering::SeqCst);
         self.ready.store(ready, Ordering::SeqCst);
     }
 }
@@ -102,6 +108,14 @@ impl Caller {
             }
             None => false,
         }
+    }
+
+    /// Says `text`, and gives all that comes until the server closes the connection.
+    pub fn hears_all(&mut self, alloc: Global, text: &[u8]) -> io::Result<Vec<u8>> {
+        self.stream.write_all(text)?;
+        let mut heard = Vec::new(alloc);
+        self.stream.read_to_end(&mut heard)?;
+        Ok(heard)
     }
 
     /// Gives true if the server closes the connection and says no more.

@@ -8,7 +8,7 @@ use mw_stories::folders::{command_line, new_folder, path_in, remove_folder};
 use mw_stories::outputs::{LockWatch, Output};
 use mw_stories::servers::serve_loopback;
 use mw_stories::stories::{play, play_in};
-use std::fs::File;
+use std::fs::{self, File};
 use std::net::{Net, TcpListener, TcpStream};
 use std::rt::Files;
 use std::sync::Wait;
@@ -143,7 +143,7 @@ fn call_both<R: Net<Listener = TcpListener, Stream = TcpStream> + Clock>(
     Ok(bound && report && ended && client.hears_the_end())
 }
 
-/// A file for a silent client and the administrator.
+/// A file of one tenant.
 const BEFORE_BOTH: &str = "\
 mwinit DIR/t.mw 2 1
 write tenants t 2 1 DIR/t.mw;";
@@ -166,4 +166,63 @@ fn the_administrator_waits_for_nobody(rt: HostRuntime) -> Result<(), Fail> {
     assert!(rt; heard?, "a client heard something else");
     assert_eq!(rt; status?, 0);
     remove_folder(&rt, folder.as_str())
+}
+
+/// A request for the file of the tenant t.
+const FILE_REQUEST: &[u8] = b"GET /tenants/t/file HTTP/1.1\r\nHost: a\r\n\r\n";
+
+/// Gives the content of an answer with status 200, if it is one.
+fn content_of(answer: &[u8]) -> Option<&[u8]> {
+    if !answer.starts_with(b"HTTP/1.1 200 OK\r\n") {
+        return None;
+    }
+    let head = answer
+        .windows(4)
+        .position(|end| end == b"\r\n\r\n".as_slice())?;
+    answer.get(head + 4..)
+}
+
+/// Changes a word, takes a copy of the file over HTTP, which is written to this path, and changes the word again. Gives true
+/// if both clients hear what they must.
+fn copy_between_changes<R>(rt: &R, ports: &Ports, path: &str) -> io::Result<bool>
+where
+    R: Files<File = File> + AllocGlobal + Net<Listener = TcpListener, Stream = TcpStream> + Clock,
+{
+    let mut client = Caller::new(rt, port_of_server(rt, &ports.ready)?)?;
+    let before = client.asks(b"TENANT t\nCAS 0:0:1\n", b"OK 2\nYES\n");
+    let mut copier = Caller::new(rt, port_of_server(rt, &ports.http)?)?;
+    let answer = copier.hears_all(rt.alloc(), FILE_REQUEST)?;
+    let content = content_of(&answer).unwrap_or(b"");
+    fs::write(rt, path, content)?;
+    let after = client.asks(b"CAS 0:1:2\nQUIT\n", b"YES\nBYE\n");
+    Ok(before && after && client.hears_the_end())
+}
+
+/// What the next sessions find in the file and in its copy.
+const AFTER_A_COPY: &str = "\
+write script TENANT t;GET 0;
+serve
+gives 0 OK 2;VAL 2;|
+write tenants t 2 1 DIR/copy.mw;
+serve
+gives 0 OK 2;VAL 1;|";
+
+/// How it is served.
+const WITH_PAGES: &str = "--listen 127.0.0.1:0 --http 127.0.0.1:0 --workers 1 --connections 1";
+
+#[test]
+fn a_copy_of_a_served_file(rt: HostRuntime) -> Result<(), Fail> {
+    let folder = new_folder(&rt, "copied")?;
+    play_in(&rt, folder.as_str(), BEFORE_BOTH)?;
+    let copy = path_in(rt.alloc(), folder.as_str(), "copy.mw")?;
+    let ports = Ports::new();
+    let mut err = Output::new(rt.alloc());
+    let (heard, status) = thread::join(
+        &rt,
+        || copy_between_changes(&rt, &ports, copy.as_str()),
+        || serve_loopback(&rt, folder.as_str(), WITH_PAGES, &ports, &mut err),
+    );
+    assert!(rt; heard?, "a client heard something else");
+    assert_eq!(rt; status?, 0);
+    play(&rt, folder.as_str(), AFTER_A_COPY)
 }
