@@ -89,10 +89,10 @@ fn file(alloc: Global, copy: Result<Vec<u8>, NoCopy>) -> Page
     ensures { IsFile copy result }
 {
     match copy {
-        Ok(body) => Page {
+        Ok(bytes) => Page {
             status: Status::Ok,
             kind: ContentType::Bytes,
-            body,
+            body: bytes,
         },
         Err(NoCopy::NoTenant) => bare(alloc, Status::NotFound),
         Err(NoCopy::Failed) => bare(alloc, Status::Unavailable),
