@@ -39,13 +39,7 @@ pub struct ServerPages<'a, S, F, R> {
 
 impl<'a, S, F, R: Clock> ServerPages<'a, S, F, R> {
     /// Makes the pages of a server of this version that starts now.
-    pub fn new(
-        service: S,
-        files: F,
-        meters: &'a Meters,
-        rt: &'a R,
-        version: Version,
-    ) -> Self
+    pub fn new(service: S, files: F, meters: &'a Meters, rt: &'a R, version: Version) -> Self
         ensures service { result.service ≡ service }
         ensures files { result.files ≡ files }
     {
