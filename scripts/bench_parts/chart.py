@@ -1,5 +1,5 @@
-"""A chart of what scripts/bench-server measured, as SVG: changes a second of each store, and how long a GET takes beside each load;
-or, of one tenant with several clients, changes a second, how long one takes, and the syncs of one.
+"""A chart of what scripts/bench-server measured, as SVG: changes a second of each store, how long one takes, and how long a GET takes
+beside each load; or, of one tenant with several clients, changes a second, how long one takes, and the syncs of one.
 
 Used by: scripts/bench-server --chart; scripts/check-programs draws one of figures that are made up.
 """
@@ -69,12 +69,15 @@ class Chart:
 
     def __init__(self) -> None:
         self.stores = Panel("Changes a second", ("one client", "sixteen clients"))
+        self.times = Panel("A change, microseconds: half of them, or 99 of 100, take less (logarithmic)",
+                           ("one client, half", "99 of 100", "sixteen, half", "99 of 100"), True)
         self.gets = Panel("A GET, microseconds (the scale is logarithmic)", ("half of them take less", "99 of 100 take less"), True)
         self.one_tenant: List[Panel] = []
 
-    def add_store(self, name: str, rates: Sequence[float]) -> None:
-        """A store's changes a second: of one client, and of sixteen."""
-        self.stores.rows.append((name, rates))
+    def add_store(self, name: str, both: Sequence[Tuple[float, float, float]]) -> None:
+        """A store's changes, of one client, and of sixteen: a second, and microseconds that half and 99 of 100 took at most."""
+        self.stores.rows.append((name, [rate for rate, *_ in both]))
+        self.times.rows.append((name, [it for _, *times in both for it in times]))
 
     def add_gets(self, name: str, microseconds: Sequence[float]) -> None:
         """How long GETs took beside a load: half of them less, and 99 of 100."""
@@ -93,7 +96,7 @@ class Chart:
         """The chart, of the panels that have rows."""
         out: List[str] = []
         y = 0.0
-        for panel in (self.stores, self.gets, *self.one_tenant):
+        for panel in (self.stores, self.times, self.gets, *self.one_tenant):
             if panel.rows:
                 elements, y = panel.draw(y)
                 out += elements

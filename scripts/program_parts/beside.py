@@ -209,15 +209,16 @@ def try_versions():
 def try_chart(folder):
     """The chart of bench-server is SVG, with a bar for each figure, and its names in it."""
     chart = Chart()
-    chart.add_store("a <store>", [10, 2000])
+    chart.add_store("a <store>", [(10, 90.5, 400), (2000, 300, 7000)])
     chart.add_gets("alone", [25.5, 0])
     chart.write(folder / "chart.svg")
     root = ElementTree.parse(folder / "chart.svg").getroot()
     said = [it.text for it in root.iter() if it.tag.endswith("text")]
     bars = [it for it in root.iter() if it.tag.endswith("rect") and it.get("height") == str(chart_module.BAR)]
-    same((len(bars), [it for it in ("a <store>", "alone", "2,000", "10", "26", "0.00") if it not in said]), (4, []), "a chart")
+    wanted = ("a <store>", "alone", "2,000", "10", "90", "400", "300", "7,000", "26", "0.00")
+    same((len(bars), [it for it in wanted if it not in said]), (8, []), "a chart")
     longest = float(bars[1].get("width"))
-    same((float(bars[0].get("width")), float(bars[3].get("width"))), (round(longest / 200, 1), 0.0), "the bars of a chart")
+    same((float(bars[0].get("width")), float(bars[7].get("width"))), (round(longest / 200, 1), 0.0), "the bars of a chart")
     try_chart_of_one_tenant(folder)
     print("the chart of bench-server has a bar for each figure")
 
