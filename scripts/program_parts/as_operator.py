@@ -1,8 +1,8 @@
 """Does by docs/OPERATING.md what an operator does, as root of a Debian that systemd has booted: it installs the package, starts both
-units, looks at their processes, talks to them, kills and stops them, runs the page's commands as they stand there, puts a proxy in front
-by those of docs/MANY-MACHINES.md, and removes the package.
+units, looks at their processes, talks to them, kills and stops them, runs the page's commands as they stand there, moves a tenant and
+puts a proxy in front by those of docs/MANY-MACHINES.md, and removes the package. Then it installs the archive without dpkg, if one is given.
 
-usage: as_operator.py PACKAGE BOOT
+usage: as_operator.py PACKAGE BOOT [ARCHIVE]
 
 BOOT is 1 in the first boot and 2 in the next one, where the unit that was enabled must run. Each thing that was tried is a line on
 standard output, the last one is `all well`. Used by: booted.py, which runs it in a container. It needs the package's client, Python
@@ -345,6 +345,46 @@ def try_own_administrators(unit: Unit) -> None:
     print("the administrator's socket for a group of its own")
 
 
+def try_without_systemd(unit: Unit) -> None:
+    """The page's lines that start a server at a local socket without systemd, while the unit doesn't run."""
+    lines = re.findall(r"^ {6}(install -d .*|nohup .*)$", section_of(PAGE, "Local sockets"), re.MULTILINE)
+    same(len(lines), 2, "the lines of OPERATING without systemd")
+    server = int(run("bash", "-c", "\n".join([*lines, "echo $!"])))
+    log = Path("/var/log/mwserve.log")
+    wait_until("a server without systemd", lambda: f"ready {unit.listen}\n" in ended("cat", log).stdout)
+    made = run("stat", "-c", "%U %G %a", "/run/mondlexi", "/run/mondlexi/socket")
+    same((made, field(server, "Uid").split()[0]), ("mw mwclients 2755\nmw mwclients 660\n", str(pwd.getpwnam("mw").pw_uid)), "folder, socket and user")
+    with client(unit) as at:
+        same(at.words, 1000, "what a client hears without systemd")
+    run("kill", server)
+    wait_until("the end of a server without systemd", lambda: str(server) not in servers())
+    run("rm", "-r", "/run/mondlexi", log)
+    print("without systemd: a server at a local socket, by the page's lines")
+
+
+def try_move(unit: Unit) -> None:
+    """The commands of MANY-MACHINES that move a tenant. This machine is the first server, and then the second one with a folder of its own."""
+    begin(unit)
+    value = try_to_talk(unit)
+    commands = re.findall(r"^ {4}([ab])# (.*)$", section_of(PROXY_PAGE, "Move a tenant"), re.MULTILINE)
+    same([it for it, _ in commands], ["a", "b", "b"], "the commands that move a tenant")
+    type_block([(command, "") for where, command in commands if where == "a"], Path("/root"))
+    line, first = (ROOM / "tenants").read_text(), ROOM.with_name("mw-of-a")
+    ROOM.rename(first)
+    run("install", "-d", "-o", "mw", "-g", "mw", "-m", "700", ROOM)
+    run("runuser", "-u", "mw", "--", "sh", "-c", "umask 077; cd /srv/mw && mwinit u.mw 2 1 && echo 'u 2 1 u.mw' > tenants")
+    begin(unit)
+    type_block([(command, "") for where, command in commands if where == "b"], Path("/root"))
+    with open(ROOM / "tenants", "a") as tenants:
+        tenants.write(line)
+    begin(unit)
+    same(try_to_talk(unit), value + 1, "the word of a tenant that was moved")
+    end(unit)
+    run("rm", "-r", ROOM, "/mnt/t.mw")
+    first.rename(ROOM)
+    print("a tenant moved to another server, by the page's commands")
+
+
 def try_page(unit: Unit) -> None:
     """The page's commands for a backup, to restore it, when a tenant is down, and for more words."""
     begin(unit)
@@ -444,6 +484,8 @@ def first_boot(deb: str) -> None:
     try_restart_on_abnormal(port)
     try_strict(local)
     try_own_administrators(local)
+    try_without_systemd(local)
+    try_move(port)
     try_page(local)
     try_proxy(local)
 
@@ -469,12 +511,39 @@ def second_boot(deb: str) -> None:
     print("removed and purged while it ran: stopped first; the user and the tenant's file stay")
 
 
+def try_archive(archive: str) -> None:
+    """The archive without dpkg, where nothing of the package is left: its files are put where OPERATING says, by hand."""
+    local = UNITS[0]
+    run("userdel", "mw")
+    run("groupdel", "mwclients")
+    ROOM.rename("/srv/mw-before")
+    run("tar", "-xzf", archive, "-C", "/root")
+    top = next(Path("/root").glob("mondlexi-*/"))
+    modules = run("python3", "-c", "import site; print(site.getsitepackages()[0])").strip()
+    run("sh", "-c", f"cp {top}/bin/* /usr/local/bin && mkdir -p {modules} && cp -r {top}/python/mondlexi {modules} && cp {top}/contrib/*.service /etc/systemd/system")
+    package, users, *_ = blocks("As a service", top / "docs/OPERATING.md")
+    type_block(users, Path("/root"))
+    starts = ready_lines(local)
+    type_block(package[1:-1], Path("/root"))
+    wait_until("the server of the archive", lambda: ready_lines(local) > starts)
+    type_block(package[-1:], Path("/root"))
+    same(run("readlink", f"/proc/{main_process(LOCAL)}/exe"), "/usr/local/bin/mwserve\n", "the program of the archive")
+    try_to_talk(local)
+    end(local)
+    print("the archive without dpkg, by the page's commands: its unit was started, and talked to")
+
+
 def main() -> None:
     """Does what the head says."""
-    _, deb, boot = sys.argv
+    _, deb, boot, *archive = sys.argv
     os.umask(0o022)
     sys.path.append("/usr/lib/python3/dist-packages")
-    first_boot(deb) if boot == "1" else second_boot(deb)
+    if boot == "1":
+        first_boot(deb)
+    else:
+        second_boot(deb)
+        for it in archive:
+            try_archive(it)
     print("all well")
 
 

@@ -26,7 +26,7 @@ Description=What scripts/check-package tries
 SuccessAction=poweroff
 FailureAction=poweroff
 [Service]
-ExecStart=/usr/bin/python3 -u /{place}/as_operator.py /{place}/{deb} {boot}
+ExecStart=/usr/bin/python3 -u /{place}/as_operator.py /{place}/{deb} {boot} {archive}
 StandardOutput=file:/{place}/told
 StandardError=file:/{place}/errors
 ExecStopPost=sh -c 'journalctl --boot --no-pager > /{place}/journal'
@@ -56,16 +56,17 @@ def begin_in(groups: List[Path]) -> Callable[[], None]:
     return begin
 
 
-def prepare(root: Path, deb: Path, boot: int) -> None:
-    """Puts the package and what is done with it into the folder, and has the boot start it."""
+def prepare(root: Path, deb: Path, boot: int, archive: List[Path]) -> None:
+    """Puts the packages and what is done with them into the folder, and has the boot start it."""
     place = root / PLACE
     place.mkdir(exist_ok=True)
     for it in ("told", "errors", "journal", "console"):
         (place / it).unlink(missing_ok=True)
-    shutil.copy(STEPS, place)
-    shutil.copy(deb, place)
+    for it in (STEPS, deb, *archive):
+        shutil.copy(it, place)
     name, units = "tried.service", root / "etc/systemd/system"
-    (units / name).write_text(UNIT.format(place=PLACE, deb=deb.name, boot=boot, limit=LIMIT))
+    there = " ".join(f"/{PLACE}/{it.name}" for it in archive)
+    (units / name).write_text(UNIT.format(place=PLACE, deb=deb.name, boot=boot, archive=there, limit=LIMIT))
     (units / "multi-user.target.wants").mkdir(exist_ok=True)
     if not (units / "multi-user.target.wants" / name).is_symlink():
         (units / "multi-user.target.wants" / name).symlink_to(f"../{name}")
@@ -110,11 +111,11 @@ def told(root: Path, name: str) -> str:
     return path.read_text(errors="replace") if path.exists() else ""
 
 
-def try_booted(root: Path, deb: Path) -> List[str]:
-    """Boots the folder twice, and does there what an operator does. Gives what was tried."""
+def try_booted(root: Path, deb: Path, archive: List[Path]) -> List[str]:
+    """Boots the folder twice, and does there what an operator does with a .deb, and with an archive if there is one. Gives what was tried."""
     lines = []
     for boot in (1, 2):
-        prepare(root, deb, boot)
+        prepare(root, deb, boot, archive)
         boot_once(root)
         found = told(root, "told").splitlines()
         if found[-1:] != ["all well"]:
