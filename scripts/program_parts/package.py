@@ -1,8 +1,10 @@
-"""The client in Python as a package: that pip installs it without a network, and that its types are right.
+"""The client in Python as a package: that pip installs it without a network, by the commands of docs/CLIENTS.md, and that its types
+are right.
 
 Used by: scripts/check-programs, but for --gate: this takes half a minute, and needs more than the machine surely has.
 """
 import functools
+import re
 import shutil
 import subprocess
 import sys
@@ -12,6 +14,9 @@ from .common import TOP, has, same, wrong
 import mondlexi  # noqa: E402
 
 SOURCE = TOP / "clients/python"
+PAGE = TOP / "docs/CLIENTS.md"
+OFFLINE = ("--no-index", "--no-build-isolation")
+"""What pip needs without a network."""
 NEEDED = """
 import setuptools, ensurepip, pip, sys
 major, minor = (int(part) for part in setuptools.__version__.split(".")[:2])
@@ -42,13 +47,15 @@ def ran(*words, folder):
 def try_package(folder):
     """pip installs it, and makes a wheel that has all of its files."""
     folder.mkdir()
-    source, pip = folder / "python", folder / "venv/bin/pip"
+    source = folder / "clients/python"
     shutil.copytree(SOURCE, source, ignore=shutil.ignore_patterns("__pycache__", "build", "*.egg-info"))
-    ran(builder(), "-m", "venv", "--system-site-packages", folder / "venv", folder=folder)
-    ran(pip, "install", "--no-index", "--no-build-isolation", source, folder=folder)
-    told = ran(folder / "venv/bin/python3", "-W", "error", "-m", "mondlexi", "--version", folder=folder)
+    typed = [line.split() for line in re.findall(r"^ {4}\$ ([^#\n]*)", PAGE.read_text(), re.MULTILINE)]
+    same([words[:2] for words in typed], [["python3", "-m"], ["env/bin/pip", "install"]], f"the commands of {PAGE.name}")
+    ran(builder(), *typed[0][1:], folder=folder)
+    ran(*typed[1], *OFFLINE, folder=folder)
+    told = ran("env/bin/python3", "-W", "error", "-m", "mondlexi", "--version", folder=folder)
     same(told, f"mondlexi {mondlexi.__version__}\n", "the version of the package that was installed")
-    ran(pip, "wheel", "--no-index", "--no-build-isolation", "-w", "wheels", source, folder=folder)
+    ran("env/bin/pip", "wheel", *OFFLINE, "-w", "wheels", source, folder=folder)
     wheel = folder / f"wheels/mondlexi-{mondlexi.__version__}-py3-none-any.whl"
     listed = ran(builder(), "-m", "zipfile", "-l", wheel, folder=folder)
     found = sorted(line.split()[0] for line in listed.splitlines() if line.startswith("mondlexi/"))
