@@ -1,7 +1,7 @@
-"""Eight processes run each example of the client in Python against a server that is killed, started again and held up.
+"""Eight processes run each example of the client in Python against a server that is killed, started again and held up. They go on
+until they got enough done.
 
-Used by: scripts/check-programs. How much they get done depends on the machine, and less than a little is told as wrong, so
-that these are no part of `--gate`.
+Used by: scripts/check-programs, but for `--gate`: how long they take depends on the machine.
 """
 import json
 import multiprocessing
@@ -23,6 +23,10 @@ BETWEEN = 1.0
 TIMEOUT = 0.3
 LOCKS = 3
 BLOCKS = 20
+ENOUGH = 50
+"""So many leases, or blocks given out, are made at least."""
+LONGEST = 120
+"""For how many seconds more than the kills take these are waited for."""
 
 
 def count_doubts():
@@ -50,7 +54,13 @@ def begun(server, tenant):
             time.sleep(0.05)
 
 
-def take_locks(number, server, stop, folder):
+def count(done):
+    """One more was made, by any process."""
+    with done.get_lock():
+        done.value += 1
+
+
+def take_locks(number, server, stop, done, folder):
     """Tells the file of this number which lock it had, under which token, from when to when, in milliseconds."""
     doubts, held, dice = count_doubts(), [], random.Random(number)
     client = begun(server, "locks")
@@ -70,11 +80,12 @@ def take_locks(number, server, stop, folder):
             table.release(lease)
         if since < until:
             held.append((lease.lock, lease.token, since, until))
+            count(done)
     client.close()
     (folder / f"{number}.json").write_text(json.dumps([len(doubts), held]))
 
 
-def use_blocks(number, server, stop, folder):
+def use_blocks(number, server, stop, done, folder):
     """Holds up to four blocks, each with a file of its name that nobody else may have; at last tells which it holds."""
     doubts, held, used, dice = count_doubts(), [], 0, random.Random(number)
     client = begun(server, "blocks")
@@ -92,6 +103,7 @@ def use_blocks(number, server, stop, folder):
             os.close(os.open(folder / f"block-{block}", os.O_CREAT | os.O_EXCL))
             held.append(block)
             used += 1
+            count(done)
         if dice.random() < 0.05:
             client.close()
             client = begun(server, "blocks")
@@ -105,8 +117,8 @@ def run_eight(server, work, folder):
     """What eight processes tell that do this work, while the server is killed, started again and held up."""
     folder.mkdir()
     context = multiprocessing.get_context("fork")
-    stop = context.Event()
-    processes = [context.Process(target=work, args=(k, server.at, stop, folder), daemon=True) for k in range(PROCESSES)]
+    stop, done = context.Event(), context.Value("i", 0)
+    processes = [context.Process(target=work, args=(k, server.at, stop, done, folder), daemon=True) for k in range(PROCESSES)]
     for process in processes:
         process.start()
     for _ in range(KILLS):
@@ -117,7 +129,10 @@ def run_eight(server, work, folder):
             time.sleep(0.05)
         time.sleep(BETWEEN * random.uniform(0.5, 1.5))
         server.hold_up()
+    end = time.monotonic() + LONGEST
     time.sleep(BETWEEN)
+    while done.value < ENOUGH and time.monotonic() < end:
+        time.sleep(0.05)
     stop.set()
     for process in processes:
         process.join(60)
@@ -136,7 +151,7 @@ def check_locks(server, folder):
         for lock in range(LOCKS):
             tokens = [lease[1] for lease in leases if lease[0] == lock]
             same(bool(tokens) and max(tokens) <= client.get(3 * lock + 2), True, f"tokens of lock {lock}")
-    same(len(leases) >= 50, True, "enough leases")
+    same(len(leases) >= ENOUGH, True, "enough leases")
     print(f"lock table: {len(leases)} leases, {KILLS} kills, {doubts} changes in doubt; no lock held twice at once")
 
 
@@ -153,5 +168,5 @@ def check_blocks(server, folder):
         found = [b for b in range(1, BLOCKS + 1) if words[b - 1] == allocator.USED + number]
         same(found, sorted(held), f"blocks of owner {number}")
     same(sorted(free + [b for one in told for b in one[2]]), list(range(1, BLOCKS + 1)), "free blocks and held ones")
-    same(used >= 50, True, "enough blocks")
+    same(used >= ENOUGH, True, "enough blocks")
     print(f"allocator: {used} blocks given out, {KILLS} kills, {doubts} changes in doubt; none given twice, none lost")
