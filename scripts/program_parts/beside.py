@@ -1,4 +1,4 @@
-"""mwbench, the units and the check for cron of contrib, and what each program says of its version.
+"""mwbench, bench-server's chart, the units and the check for cron of contrib, and what each program says of its version.
 
 Used by: scripts/check-programs. The loads take two seconds each; how much is served in them is not looked at.
 """
@@ -221,6 +221,19 @@ def try_chart(folder):
     same((float(bars[0].get("width")), float(bars[7].get("width"))), (round(longest / 200, 1), 0.0), "the bars of a chart")
     try_chart_of_one_tenant(folder)
     print("the chart of bench-server has a bar for each figure")
+
+
+def try_bench(folder):
+    """A short run of bench-server draws this server beside other stores. What it measured is not looked at."""
+    room, chart = folder / "bench", folder / "measured.svg"
+    room.mkdir()
+    ran = subprocess.run([TOP / "scripts/bench-server", "--seconds", "0.2", "--turns", "1", "--folder", room, "--chart", chart],
+                         stdin=subprocess.DEVNULL, stdout=subprocess.PIPE, stderr=subprocess.STDOUT)
+    same((ran.returncode, ran.stdout.decode() if ran.returncode else ""), (0, ""), "bench-server")
+    said = " ".join(it.text for it in ElementTree.parse(chart).getroot().iter() if it.tag.endswith("text"))
+    parts = ("Changes a second", "A change, microseconds", "A GET, microseconds", "Mondlexi (mwserve)", "SQLite")
+    same(([it for it in parts if it not in said], list(room.iterdir())), ([], []), "the chart of a short run of bench-server, and what it leaves")
+    print("bench-server: a short run is drawn beside other stores")
 
 
 def try_chart_of_one_tenant(folder):
