@@ -1,16 +1,17 @@
 //! Tests what a server shows: its pages by a service, and each text by hand.
 //!
 //! Nothing else uses it: it may change with what it tests.
-use crate::http_peers::OneFile;
+use crate::http_peers::{HandClock, OneFile};
 use mw_http::{ContentType, Route, Status};
 use mw_http_server::Pages;
 use mw_meters::Meters;
-use mw_pages::{health_text, status_page};
+use mw_pages::{Curve, LimitKind, NearLimit, Point, Recent, health_text, status_page};
 use mw_report::TenantFigures;
-use mw_server_pages::{NoCopy, ServerPages, Version};
+use mw_server_pages::{Capacity, NoCopy, ServerPages, Version};
 use mw_test_server::Shelf;
-use mw_words::Name;
-use std::time::Clock;
+use mw_words::{Entries, Job, Name, Reply};
+use std::thread;
+use std::time::{Clock, Duration};
 
 /// Memory is out.
 const MEMORY: &str = "memory";
@@ -19,6 +20,12 @@ const MEMORY: &str = "memory";
 fn is_in(part: &[u8], text: &[u8]) -> bool {
     part.is_empty() || text.windows(part.len()).any(|window| window == part)
 }
+
+/// What the server can do at once.
+const CAPACITY: Capacity = Capacity {
+    workers: 4,
+    sessions: 4,
+};
 
 /// The bytes of a tenant's file, some of which are no text.
 const FILE: &[u8] = b"MWCASF1\n\0\xff\r\n\r\nend";
@@ -33,7 +40,10 @@ fn shows(
     let meters = Meters::new(rt);
     let version = Version::try_from(b"1.2".as_slice()).unwrap_or_default();
     let files = one_file(rt, Ok(FILE));
-    let mut pages = ServerPages::new(Shelf::new(2), files, &meters, rt, version);
+    let Ok(mut pages) = ServerPages::new(Shelf::new(2), files, &meters, rt, version, CAPACITY)
+    else {
+        return false;
+    };
     let page = pages.page(route);
     (page.status, page.kind) == wanted && is_in(part, &page.body)
 }
@@ -58,7 +68,11 @@ fn gives_file(
 ) -> bool {
     let meters = Meters::new(rt);
     let files = one_file(rt, file);
-    let mut pages = ServerPages::new(Shelf::new(2), files, &meters, rt, Version::new());
+    let version = Version::new();
+    let Ok(mut pages) = ServerPages::new(Shelf::new(2), files, &meters, rt, version, CAPACITY)
+    else {
+        return false;
+    };
     let route = Route::File(Name::try_from(name).unwrap_or_default());
     let page = pages.page(&route);
     (page.status, page.kind) == wanted && page.body.as_slice() == body
@@ -137,7 +151,7 @@ fn health_names_those_that_are_down(rt: HostRuntime) {
 #[test]
 fn names_are_escaped(rt: HostRuntime) {
     let tenants = [tenant(b"<a&\">", false)];
-    let page = status_page(rt.alloc(), b"<", 90061, &tenants, 7).expect(&rt, MEMORY);
+    let page = status_page(rt.alloc(), b"<", 90061, &tenants, &[], &[], 7).expect(&rt, MEMORY);
     for part in [
         b"<p>Version &lt;, up for 1 d 1 h 1 min 1 s.</p>\n".as_slice(),
         b"<p><strong>Down: &lt;a&amp;&quot;&gt;.</strong></p>\n",
@@ -146,4 +160,101 @@ fn names_are_escaped(rt: HostRuntime) {
     ] {
         assert!(rt; is_in(part, &page));
     }
+}
+
+/// Gives a curve of two points, from below to the top.
+fn rising() -> Curve {
+    let mut curve = Curve {
+        last: 3,
+        most: 12,
+        ..Curve::default()
+    };
+    for point in [
+        Point { right: 0, down: 30 },
+        Point {
+            right: 180,
+            down: 0,
+        },
+    ] {
+        let _ = curve.points.try_push(point);
+    }
+    curve
+}
+
+#[test]
+fn limits_and_curves_are_drawn(rt: HostRuntime) {
+    let recents = [Recent {
+        name: Name::try_from(b"a".as_slice()).unwrap_or_default(),
+        down: Some(61),
+        change: rising(),
+        ..Recent::default()
+    }];
+    let near = [
+        NearLimit {
+            kind: LimitKind::Quota,
+            tenant: Name::try_from(b"a".as_slice()).unwrap_or_default(),
+            used: 3,
+            most: 4,
+        },
+        NearLimit {
+            kind: LimitKind::Sessions,
+            used: 5,
+            most: 5,
+            ..NearLimit::default()
+        },
+    ];
+    let page = status_page(rt.alloc(), b"1", 0, &[], &near, &recents, 0).expect(&rt, MEMORY);
+    for part in [
+        b"<p>Near a limit:</p>\n<ul>\n<li>quota of a: 3 of 4</li>\n<li>sessions: 5 of 5</li>\n</ul>\n".as_slice(),
+        b"<tr><td>a</td><td>down for 0 d 0 h 1 min 1 s</td><td>0 (most 0) <svg",
+        b"<td>3 (most 12) <svg width=\"180\" height=\"30\"><polyline points=\"0,30 180,0 \"/></svg></td><td>",
+    ] {
+        assert!(rt; is_in(part, &page));
+    }
+}
+
+/// Thirty changes of two milliseconds each in 15 seconds, and then none.
+#[test]
+fn curves_show_what_was_counted(rt: HostRuntime) {
+    let clock = HandClock::new(rt.alloc());
+    let meters = Meters::new(&clock);
+    let files = one_file(&rt, Ok(FILE));
+    let version = Version::new();
+    let made = ServerPages::new(Shelf::new(2), files, &meters, &clock, version, CAPACITY);
+    let mut pages = made.expect(&rt, MEMORY);
+    let job = Job::Cas(Entries::new());
+    for _ in 0..30 {
+        meters.record_request(0, &job, &Reply::Yes, 2_000_000);
+    }
+    for (row, wanted) in [
+        (
+            2,
+            b"<td>2 (most 2) <svg width=\"180\" height=\"30\"><polyline points=\"180,0 \"/></svg></td>".as_slice(),
+        ),
+        (
+            0,
+            b"<td>0 (most 2) <svg width=\"180\" height=\"30\"><polyline points=\"177,0 180,30 \"/></svg></td><td>0 (most 2000) <svg",
+        ),
+    ] {
+        thread::sleep(&clock, Duration::from_secs(15));
+        let page = pages.page(&Route::Page);
+        assert!(rt; is_in(wanted, &page.body), "{row}");
+    }
+}
+
+/// Two of four sessions serve, and then three.
+#[test]
+fn a_limit_is_near_from_three_quarters_on(rt: HostRuntime) {
+    let meters = Meters::new(&rt);
+    let files = one_file(&rt, Ok(FILE));
+    let version = Version::new();
+    let made = ServerPages::new(Shelf::new(2), files, &meters, &rt, version, CAPACITY);
+    let mut pages = made.expect(&rt, MEMORY);
+    meters.server().record_served();
+    meters.server().record_served();
+    let far = b"<p>No limit is near.</p>\n";
+    assert!(rt; is_in(far, &pages.page(&Route::Page).body));
+    meters.server().record_served();
+    let near = b"<p>Near a limit:</p>\n<ul>\n<li>sessions: 3 of 4</li>\n</ul>\n";
+    assert!(rt; is_in(near, &pages.page(&Route::Page).body));
 }

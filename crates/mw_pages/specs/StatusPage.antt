@@ -1,41 +1,28 @@
 -- Defines the status page: HTML, with a bar in SVG for each tenant.
--- Used by: the contracts of status.rt, tenant_rows.rt and text.rt. A change here changes what the browser shows.
-use Rattle.std.specs.Prelude.{ℕ, ◌+◌, ◌/◌, ◌%◌, ◌==◌, ◌++◌, Bool, List, [], ◌∷◌, flat_map, codes, decimal, if◌then◌else◌}
+-- Used by: the contracts of status.rt and tenant_rows.rt. A change here changes what the browser shows.
+use Rattle.std.specs.Prelude.{ℕ, ◌++◌, List, [], flat_map, codes, decimal, if◌then◌else◌}
 use Rattle.std.specs.List.{list_all}
 use Rattle.mw_report.specs.declared.figures.TenantFigures.{TenantFigures}
 use Rattle.mw_report.specs.Table.{state}
+use Rattle.mw_pages.specs.declared.limits.NearLimit.{NearLimit}
+use Rattle.mw_pages.specs.declared.recents.Recent.{Recent}
+use Rattle.mw_pages.specs.Escapes.{escaped}
 use Rattle.mw_pages.specs.Health.{is_up}
-
--- a byte of a text in HTML: what would begin a tag, a reference or end a value is written as a reference
-abbrev pub escape : ℕ → List ℕ
-escape byte =
-    if byte == 38 then codes "&amp;"
-    else if byte == 60 then codes "&lt;"
-    else if byte == 62 then codes "&gt;"
-    else if byte == 34 then codes "&quot;"
-    else byte ∷ []
-
--- a text in HTML
-unfoldable pub escaped : List ℕ → List ℕ
-escaped bytes = flat_map escape bytes
+use Rattle.mw_pages.specs.Limits.{limits}
+use Rattle.mw_pages.specs.Recents.{recents}
+use Rattle.mw_pages.specs.Spans.{span}
 
 -- how the page looks: a tenant that is down has a row of its own colour
 unfoldable pub style : List ℕ
 style =
     codes "<style>\nbody{font-family:sans-serif;margin:2em}\ntd,th{padding:.2em .8em;text-align:left}\n.down{background:#fcc}\n"
-    ++ codes "rect{fill:#ccc}\nrect+rect{fill:#396}\n</style>\n"
+    ++ codes "rect{fill:#ccc}\nrect+rect{fill:#396}\npolyline{fill:none;stroke:#369}\n</style>\n"
 
 -- what comes before the body; a browser asks again every ten seconds
 unfoldable pub front : List ℕ
 front =
     codes "<!DOCTYPE html>\n<html lang=\"en\">\n<head>\n<meta charset=\"utf-8\">\n<meta http-equiv=\"refresh\" content=\"10\">\n<title>Mondlexi</title>\n"
     ++ style ++ codes "</head>\n<body>\n<h1>Mondlexi</h1>\n"
-
--- a time of so many seconds in days, hours, minutes and seconds
-unfoldable pub span : ℕ → List ℕ
-span seconds =
-    decimal (seconds / 86400) ++ codes " d " ++ decimal (seconds / 3600 % 24) ++ codes " h " ++ decimal (seconds / 60 % 60) ++ codes " min "
-    ++ decimal (seconds % 60) ++ codes " s"
 
 -- the version, and how long the server is up
 unfoldable pub about : List ℕ → ℕ → List ℕ
@@ -84,5 +71,6 @@ end pool_free =
     ++ codes ".</p>\n<p><a href=\"metrics\">Figures for Prometheus</a>, <a href=\"healthz\">health</a></p>\n</body>\n</html>\n"
 
 -- the page
-unfoldable pub page : List ℕ → ℕ → List TenantFigures → ℕ → List ℕ
-page version seconds tenants pool_free = front ++ about version seconds ++ summary tenants ++ table tenants ++ end pool_free
+unfoldable pub page : List ℕ → ℕ → List TenantFigures → List NearLimit → List Recent → ℕ → List ℕ
+page version seconds tenants near recent pool_free =
+    front ++ about version seconds ++ summary tenants ++ limits near ++ table tenants ++ recents recent ++ end pool_free

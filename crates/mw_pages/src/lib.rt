@@ -6,10 +6,15 @@
 #![tactic(auto)]
 
 mod health;
+mod limits;
+mod recents;
+mod spans;
 mod status;
 mod tenant_rows;
 mod text;
 
 pub use health::{MAX_HEALTH, are_up, health_text};
+pub use limits::{LimitKind, MAX_LIMITS, NearLimit};
+pub use recents::{CURVE_HEIGHT, CURVE_WIDTH, Curve, MAX_POINTS, Point, Recent};
 pub use status::status_page;
 pub use text::{MAX_PAGE, MAX_VERSION};

@@ -4,10 +4,15 @@
 ghost use Rattle.std.specs.Prelude.{◌≡◌, ◌+◌, ◌*◌, ◌≤◌, ◌++◌, length, IfOk};
 ghost use Rattle.mw_words.specs.declared.limits.TheConstants.{MAX_TENANTS};
 ghost use Rattle.mw_pages.specs.declared.text.TheConstants.{MAX_PAGE, MAX_VERSION};
+ghost use Rattle.mw_pages.specs.declared.limits.TheConstants.{MAX_LIMIT, MAX_LIMITS};
+ghost use Rattle.mw_pages.specs.declared.recents.TheConstants.{MAX_RECENT};
 ghost use Rattle.mw_pages.specs.declared.tenant_rows.TheConstants.{MAX_ROW, MAX_DOWN_NAME};
 ghost use Rattle.mw_pages.specs.StatusPage as spec;
 
 use crate::health::are_up;
+use crate::limits::{MAX_LIMITS, NearLimit, put_limits};
+use crate::recents::{MAX_RECENT, Recent, put_recents};
+use crate::spans::put_span;
 use crate::tenant_rows::{MAX_DOWN_NAME, MAX_ROW, put_down_names, put_rows};
 use crate::text::{MAX_PAGE, MAX_VERSION, Text};
 use mw_report::TenantFigures;
@@ -15,7 +20,8 @@ use mw_words::MAX_TENANTS;
 use std::alloc::{AllocError, Global};
 
 /// Gives the status page of a server of this version that is up for so many seconds: with a row for each of these tenants,
-/// at most [`MAX_TENANTS`], and the free slots of the pool. The version has at most [`MAX_VERSION`] bytes. It asks for
+/// at most [`MAX_TENANTS`], with these limits that are near, with a row of curves for each of these, at most as many, and the
+/// free slots of the pool. The version has at most [`MAX_VERSION`] bytes. It asks for
 /// memory once, for [`MAX_PAGE`] bytes.
 ///
 /// # Errors
@@ -27,17 +33,23 @@ pub fn status_page(
     version: &[u8],
     seconds: u64,
     tenants: &[TenantFigures],
+    limits: &[NearLimit],
+    recents: &[Recent],
     pool_free: u16,
 ) -> Result<Vec<u8>, AllocError>
     requires version { length version.now ≤ MAX_VERSION }
     requires few { length tenants.now ≤ MAX_TENANTS }
-    ensures page { IfOk result (λ page. page.items ≡ spec.page version.now seconds tenants.now pool_free) }
+    requires few_limits { length limits.now ≤ MAX_LIMITS }
+    requires few_recents { length recents.now ≤ MAX_TENANTS }
+    ensures page { IfOk result (λ page. page.items ≡ spec.page version.now seconds tenants.now limits.now recents.now pool_free) }
 {
     let mut text = Text::new(alloc)?;
     put_front(&mut text);
     put_about(&mut text, version, seconds);
     put_summary(&mut text, tenants);
+    put_limits(&mut text, limits);
     put_table(&mut text, tenants);
+    put_recents(&mut text, recents);
     put_end(&mut text, pool_free);
     Ok(text.bytes)
 }
@@ -64,7 +76,7 @@ fn put_style(text: &mut Text)
     text.put(
         b"<style>\nbody{font-family:sans-serif;margin:2em}\ntd,th{padding:.2em .8em;text-align:left}\n.down{background:#fcc}\n",
     );
-    text.put(b"rect{fill:#ccc}\nrect+rect{fill:#396}\n</style>\n");
+    text.put(b"rect{fill:#ccc}\nrect+rect{fill:#396}\npolyline{fill:none;stroke:#369}\n</style>\n");
 }
 
 #[tactic(auto, unfolding(crate::specs::StatusPage::about))]
@@ -79,22 +91,6 @@ fn put_about(text: &mut Text, version: &[u8], seconds: u64)
     text.put(b", up for ");
     put_span(text, seconds);
     text.put(b".</p>\n");
-}
-
-#[tactic(auto, unfolding(crate::specs::StatusPage::span))]
-fn put_span(text: &mut Text, seconds: u64)
-    requires { length text.old.bytes.items + 100 ≤ MAX_PAGE }
-    ensures span { text.new.bytes.items ≡ text.old.bytes.items ++ spec.span seconds }
-    ensures room { length text.new.bytes.items ≤ length text.old.bytes.items + 100 }
-{
-    text.put_number(seconds / 86400);
-    text.put(b" d ");
-    text.put_number(seconds / 3600 % 24);
-    text.put(b" h ");
-    text.put_number(seconds / 60 % 60);
-    text.put(b" min ");
-    text.put_number(seconds % 60);
-    text.put(b" s");
 }
 
 #[tactic(auto, unfolding(crate::specs::StatusPage::summary))]

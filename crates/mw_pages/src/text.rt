@@ -2,13 +2,13 @@
 ghost use Rattle.std.specs.Prelude.{◌≡◌, ◌+◌, ◌*◌, ◌≤◌, [], ◌++◌, length, decimal, IfOk};
 ghost use Rattle.std.specs.Vec.{vec_capacity};
 ghost use Rattle.mw_pages.specs.declared.text.TheConstants.{MAX_PAGE};
-ghost use Rattle.mw_pages.specs.StatusPage.{escape, escaped};
+ghost use Rattle.mw_pages.specs.Escapes.{escape, escaped};
 
 use itoa::Buffer;
 use std::alloc::{AllocError, Global};
 
 /// The most bytes of a page.
-pub const MAX_PAGE: usize = 16_384;
+pub const MAX_PAGE: usize = 65_536;
 
 /// The most bytes of the version.
 pub const MAX_VERSION: usize = 16;
@@ -18,6 +18,9 @@ pub(crate) const MAX_ESCAPE: usize = 6;
 
 /// The most digits of a number.
 pub(crate) const MAX_DIGITS: usize = 20;
+
+/// The most digits of a number of one byte.
+pub(crate) const MAX_SMALL: usize = 3;
 
 /// A page under way.
 #[derive(Drop)]
@@ -59,8 +62,19 @@ impl Text {
         self.put(buffer.format(number).as_bytes());
     }
 
+    /// Puts a number of one byte.
+    #[tactic(auto, using(crate::proofs::Widths::widths))]
+    pub(crate) fn put_small(&mut self, number: u8)
+        requires { length self.old.bytes.items + MAX_SMALL ≤ MAX_PAGE }
+        ensures number { self.new.bytes.items ≡ self.old.bytes.items ++ decimal number }
+        ensures room { length self.new.bytes.items ≤ length self.old.bytes.items + MAX_SMALL }
+    {
+        let mut buffer = Buffer::new();
+        self.put(buffer.format(number).as_bytes());
+    }
+
     /// Puts a text that is escaped.
-    #[tactic(auto, unfolding(crate::specs::StatusPage::escaped))]
+    #[tactic(auto, unfolding(crate::specs::Escapes::escaped))]
     pub(crate) fn put_escaped(&mut self, bytes: &[u8])
         requires { length self.old.bytes.items + length bytes.now * MAX_ESCAPE ≤ MAX_PAGE }
         ensures escaped { self.new.bytes.items ≡ self.old.bytes.items ++ escaped bytes.now }

@@ -18,7 +18,7 @@ use mw_engine::{Engine, EngineBrand, NoHold, Pass};
 use mw_http_server::Pages;
 use mw_meters::Meters;
 use mw_metrics::ServerCounters;
-use mw_server_pages::ServerPages;
+use mw_server_pages::{Capacity, ServerPages};
 use mw_service::{Borrower, FaultWatch, MeteredService, PassPool, ReadPool, Worker};
 use std::alloc::AllocError;
 use std::fs::File;
@@ -160,7 +160,26 @@ fn pages_for<'a, J: EngineBrand, D: Disk, H, R: AllocGlobal + Clock, T>(
     };
     let worker = Worker::new(engine, pass, rt, watch);
     let files = EngineFiles { engine, rt };
-    Ok(Some(ServerPages::new(worker, files, meters, rt, version())))
+    let capacity = capacity(listening, passes.len());
+    let pages = ServerPages::new(worker, files, meters, rt, version(), capacity)?;
+    Ok(Some(pages))
+}
+
+/// Gives how much a server can do at once that has so many passes beside that of the pages. As [`Pools`] does it deals these out.
+fn capacity(listening: &Listening, passes: usize) -> Capacity {
+    let Some(shared) = &listening.shared else {
+        return Capacity {
+            workers: 0,
+            sessions: passes as u64,
+        };
+    };
+    let admin = usize::from(listening.admin.is_some());
+    let left = passes.saturating_sub(admin);
+    let reads = left.saturating_sub(1).min(usize::from(shared.readers));
+    Capacity {
+        workers: left.saturating_sub(reads) as u64,
+        sessions: u64::from(shared.clients) + admin as u64,
+    }
 }
 
 /// Makes a worker for each pass. The meters, if there are any, count their requests.

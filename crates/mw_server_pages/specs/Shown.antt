@@ -13,6 +13,8 @@ use Rattle.mw_http_server.specs.declared.pages.Page.{Page}
 use Rattle.mw_http_server.specs.Calls.{Call, Dates, Shows}
 use Rattle.mw_meters.specs.Counted.{IsTextOf}
 use Rattle.mw_pages.specs.Health.{health, is_up}
+use Rattle.mw_pages.specs.declared.limits.NearLimit.{NearLimit}
+use Rattle.mw_pages.specs.declared.recents.Recent.{Recent}
 use Rattle.mw_pages.specs.StatusPage as status_page
 use Rattle.mw_server_pages.specs.declared.file_copies.NoCopy.TheVariants as no_copy
 use Rattle.mw_server_pages.specs.Copies.{Copy}
@@ -51,10 +53,16 @@ IsHealth figures page =
 abbrev pub IsMetrics : List ℕ → Figures → Page → Type 0
 IsMetrics version figures page = IsPageOrError status.Ok kind.Metrics (λ body. IsTextOf version figures body) page
 
--- the status page, of a server that is up for some seconds
+-- the status page, of a server that is up for some seconds, with some limits and some curves
+pub record IsStatusText (version : List ℕ) (figures : Figures) (body : List ℕ) : Type 0 where
+  pub seconds : ℕ
+  pub limits : List NearLimit
+  pub recents : List Recent
+  pub is : body ≡ status_page.page version seconds figures.tenants.items limits recents figures.pool_free
+
+-- the status page, or an error if there was no memory for it
 abbrev pub IsStatus : List ℕ → Figures → Page → Type 0
-IsStatus version figures page =
-    IsPageOrError status.Ok kind.Html (λ body. (seconds : ℕ) × (body ≡ status_page.page version seconds figures.tenants.items figures.pool_free)) page
+IsStatus version figures page = IsPageOrError status.Ok kind.Html (λ body. IsStatusText version figures body) page
 
 -- The file of a tenant, byte for byte. If there is no copy: the tenant is not known (404), its file has failed or didn't open
 -- (503), the device failed or memory was out (500), each without a body.

@@ -7,7 +7,10 @@
 
 mod date;
 mod file_copies;
+mod near;
+mod samples;
 mod server_pages;
 
 pub use file_copies::{FileCopies, NoCopy};
+pub use near::Capacity;
 pub use server_pages::{ServerPages, Version};

@@ -1,7 +1,9 @@
 //! Implements the pages of a server.
 //!
 //! mw_programs makes them. `specs/Shown` says what is shown: change both together, and docs/HTTP.
-ghost use Rattle.std.specs.Prelude.{◌≡◌, [], IfOk};
+ghost use Rattle.std.specs.Prelude.{◌≡◌, ◌≤◌, [], length, IfOk};
+ghost use Rattle.mw_pages.specs.declared.limits.TheConstants.{MAX_LIMITS};
+ghost use Rattle.mw_words.specs.declared.limits.TheConstants.{MAX_TENANTS};
 ghost use Rattle.mw_http.specs.Targets.{place_of};
 ghost use Rattle.mw_http_server.specs.Calls.{Call};
 ghost use Rattle.mw_report.specs.Table.{AreWithinLimits};
@@ -9,11 +11,13 @@ ghost use Rattle.mw_server_pages.specs.Shown.{Gives, IsBare, IsFile, IsHealth, I
 
 use crate::date::date_now;
 use crate::file_copies::{FileCopies, NoCopy};
+use crate::near::{Capacity, near_limits};
+use crate::samples::Samples;
 use arrayvec::ArrayVec;
 use mw_http::{ContentType, Route, Status};
 use mw_http_server::{Date, Page, Pages};
 use mw_meters::{Meters, Stopwatch};
-use mw_pages::{MAX_VERSION, are_up, health_text, status_page};
+use mw_pages::{MAX_LIMITS, MAX_VERSION, NearLimit, Recent, are_up, health_text, status_page};
 use mw_report::Figures;
 use mw_session::Service;
 use std::alloc::{AllocError, Global};
@@ -34,23 +38,46 @@ pub struct ServerPages<'a, S, F, R> {
     meters: &'a Meters,
     rt: &'a R,
     version: Version,
+    capacity: Capacity,
     started: Stopwatch,
+    samples: Samples,
 }
 
-impl<'a, S, F, R: Clock> ServerPages<'a, S, F, R> {
-    /// Makes the pages of a server of this version that starts now.
-    pub fn new(service: S, files: F, meters: &'a Meters, rt: &'a R, version: Version) -> Self
-        ensures service { result.service ≡ service }
-        ensures files { result.files ≡ files }
+impl<'a, S: Drop, F: Drop, R: AllocGlobal + Clock> ServerPages<'a, S, F, R> {
+    /// Makes the pages of a server of this version that starts now, and can do so much at once.
+    ///
+    /// # Errors
+    ///
+    /// The memory for samples of what is counted is out.
+    pub fn new(
+        service: S,
+        files: F,
+        meters: &'a Meters,
+        rt: &'a R,
+        version: Version,
+        capacity: Capacity,
+    ) -> Result<Self, AllocError>
+        ensures service { IfOk result (λ pages. pages.service ≡ service) }
+        ensures files { IfOk result (λ pages. pages.files ≡ files) }
     {
-        ServerPages {
+        let samples = Samples::new(rt.alloc())?;
+        Ok(ServerPages {
             service,
             files,
             meters,
             rt,
             version,
+            capacity,
             started: Stopwatch::start(rt),
-        }
+            samples,
+        })
+    }
+}
+
+impl<S, F, R: Clock> ServerPages<'_, S, F, R> {
+    /// Gives how many seconds ago it started.
+    fn seconds(&self) -> u64 {
+        self.started.nanos(self.rt) / SECOND
     }
 }
 
@@ -58,17 +85,33 @@ impl<S: Service, F: FileCopies, R: AllocGlobal + Clock> Pages for ServerPages<'_
     ghost answered = { λ old call new. Gives S.answered F.copied old.version.items old.service old.files call new.service new.files };
 
     fn page(&mut self, route: &Route) -> Page {
+        let seconds = self.seconds();
         match route {
             Route::File(name) => file(self.rt.alloc(), self.files.copy(name)),
-            Route::Health => health(self.rt.alloc(), &self.service.figures()),
+            Route::Health => {
+                let figures = self.service.figures();
+                self.samples.look(seconds, &figures, self.meters);
+                health(self.rt.alloc(), &figures)
+            }
             Route::Metrics => {
                 let figures = self.service.figures();
+                self.samples.look(seconds, &figures, self.meters);
                 metrics(self.meters, self.rt, &self.version, figures)
             }
             Route::Page => {
                 let figures = self.service.figures();
-                let seconds = self.started.nanos(self.rt) / SECOND;
-                status(self.rt.alloc(), &self.version, seconds, &figures)
+                self.samples.look(seconds, &figures, self.meters);
+                let recents = self.samples.recents(seconds, &figures);
+                let limits = near_limits(&figures, self.meters, self.capacity);
+                let version = &self.version;
+                status(
+                    self.rt.alloc(),
+                    version,
+                    seconds,
+                    &figures,
+                    &limits,
+                    &recents,
+                )
             }
         }
     }
@@ -161,10 +204,20 @@ fn metrics<R: AllocGlobal + Clock>(
 }
 
 /// Gives the status page.
-fn status(alloc: Global, version: &Version, seconds: u64, figures: &Figures) -> Page
-    requires { AreWithinLimits figures.now.tenants.items figures.now.pool_free }
+fn status(
+    alloc: Global,
+    version: &Version,
+    seconds: u64,
+    figures: &Figures,
+    limits: &[NearLimit],
+    recents: &[Recent],
+) -> Page
+    requires limits { AreWithinLimits figures.now.tenants.items figures.now.pool_free }
+    requires few_limits { length limits.now ≤ MAX_LIMITS }
+    requires few_recents { length recents.now ≤ MAX_TENANTS }
     ensures { IsStatus version.now.items figures.now result }
 {
-    let text = status_page(alloc, version, seconds, &figures.tenants, figures.pool_free);
+    let (tenants, free) = (&figures.tenants, figures.pool_free);
+    let text = status_page(alloc, version, seconds, tenants, limits, recents, free);
     page_of(alloc, Status::Ok, ContentType::Html, text)
 }

@@ -1,6 +1,8 @@
 -- The parts are put one after the other.
 use Rattle.std.proofs.Common.{codes, ◌++◌}
-use Rattle.mw_pages.specs.StatusPage.{about, escaped, span}
+use Rattle.mw_pages.specs.Escapes.{escaped}
+use Rattle.mw_pages.specs.Spans.{span}
+use Rattle.mw_pages.specs.StatusPage.{about}
 use Rattle.mw_pages.proofs.Parts.{before}
 use Rattle.mw_pages.proofs.status.put_about.Goals as goal
 

@@ -1,7 +1,7 @@
 -- States what stays true from turn to turn in the loop of `put_escaped` (src/text.rt). Used by: the proof of that function alone.
 -- It may change freely as long as this crate checks.
 use Rattle.std.proofs.Common.{◌≡◌, ◌+◌, ◌*◌, ◌≤◌, ◌++◌, length, take, flat_map}
-use Rattle.mw_pages.specs.StatusPage.{escape}
+use Rattle.mw_pages.specs.Escapes.{escape}
 use Rattle.mw_pages.proofs.text.Text.put_escaped.Given as goal
 
 -- the bytes so far are put
