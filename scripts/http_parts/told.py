@@ -1,17 +1,26 @@
 """What a server's figures tell of its clients and its disk."""
-import os
-import socket
+import re
 import threading
 import time
 from collections import Counter
-from pathlib import Path
-from typing import Callable, List
+from typing import Callable, List, NamedTuple
 
-from .server import PATIENCE, Client, Server, Wrong, connected, figures, get, heard, room_for, same
+from .server import PATIENCE, Client, Server, Wrong, connected, figures, get, heard, same
 
 YES_CALLS = {"write": 4, "sync": 4}
 """The calls on its file of a change of one entry that is answered YES, alone."""
 CROWD = 1000
+SAMPLE_SECONDS = 15
+"""How many seconds lie between two samples of the curves, at least."""
+SOME_CHANGES = 100
+CURVE = re.compile(r'<td>(\d+) \(most (\d+)\) <svg width="180" height="30"><polyline points="([0-9, ]*)"/></svg></td>')
+
+
+class Curve(NamedTuple):
+    """A curve of the status page: its figure now, its highest one, and how many points it has."""
+    last: int
+    most: int
+    points: int
 
 
 def until(holds: Callable[[], bool], what: str) -> None:
@@ -49,6 +58,32 @@ def of_one_client(server: Server) -> None:
     same((grew("mondlexi_received_bytes_total"), grew("mondlexi_sent_bytes_total")), (client.sent, client.received), "bytes")
     same(grew("mondlexi_connections_total"), 1, "connections")
     same((after.of("mondlexi_connections_served"), after.of("mondlexi_connections_waiting")), (0, 0), "connections that are left")
+
+
+def curves(server: Server) -> None:
+    """The curves of the status page: after changes and a sample, and after another one without changes."""
+    page = get(server.pages, "/").body.decode()
+    same(page.count("<svg width=\"180\""), 3 * 2, "the curves of two tenants")
+    client = Client(server.port, "a")
+    for turn in range(SOME_CHANGES):
+        same(client.ask(f"CAS 5:{turn}:{turn + 1}"), "YES", "a change")
+    found = []
+    for _ in range(2):
+        time.sleep(SAMPLE_SECONDS + 1)
+        found.append(rows_of(get(server.pages, "/").body.decode(), "a"))
+    client.close()
+    (made, change, sync), later = found
+    if not (made.most > 0 and change.most > 0 and sync.most > 0):
+        raise Wrong(f"curves after {SOME_CHANGES} changes: {found}")
+    same((later[0].last, later[0].most >= made.last, later[0].points > made.points), (0, True, True), "a curve after no change")
+
+
+def rows_of(page: str, tenant: str) -> List[Curve]:
+    """The curves of a tenant on the status page."""
+    row = page.partition("<h2>")[2].partition(f"<tr><td>{tenant}</td>")[2].partition("</tr>")[0]
+    found = CURVE.findall(row)
+    same(len(found), 3, f"curves of {tenant}")
+    return [Curve(int(last), int(most), len(points.split())) for last, most, points in found]
 
 
 def full_quota(server: Server) -> None:
