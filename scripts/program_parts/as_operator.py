@@ -386,11 +386,11 @@ def try_move(unit: Unit) -> None:
 
 
 def try_page(unit: Unit) -> None:
-    """The page's commands for a backup, to restore it, when a tenant is down, and for more words."""
+    """The page's commands for a backup of a stopped server, to restore it, when a tenant is down, and for more words."""
     begin(unit)
     try_to_talk(unit)
     value = word(unit)
-    backup, restore = blocks("Backup")
+    backup, restore = (it for it in blocks("Backup") if any("systemctl stop" in command for command, _ in it))
     type_block(backup, ROOM)
     wait_until("the server after a backup", lambda: ended("mondlexi-check", unit.admin).returncode == 0)
     try_to_talk(unit)
@@ -403,7 +403,7 @@ def try_page(unit: Unit) -> None:
     wait_until("the server after the tenant has grown", lambda: ended("mondlexi-check", unit.admin).returncode == 0)
     with client(unit) as at:
         same((at.words, at.get(0)), (2000, value), "the tenant that has grown")
-    print("the page's commands for a backup, to restore it, when a tenant is down, and for more words")
+    print("the page's commands for a backup of a stopped server, to restore it, when a tenant is down, and for more words")
 
 
 def restart_elsewhere(unit: Unit) -> None:
