@@ -44,8 +44,8 @@ abbrev pub AnswersHaveMoments : Type 0
 AnswersHaveMoments = (first now : View) (token : WorkerToken) (tenant : ℕ) (job : Job) (reply : Reply) (answered : Answered first now token tenant job reply) (whole : token.is_whole ≡ true)
     → HasMomentInRun now.config (answered.run whole).behind.openings (answered.run whole).behind.before (answered.run whole).behind.events first token.worker tenant token.request job reply
 
--- At each moment at which the table is under the rule, by whatever run, and of any thread: if the thread knows at least what it knew
--- at the reply, and still has the request among its finished ones, the request has its moment in this one run.
+-- The table is under the rule, by whatever run. A thread knows at least what was known at the reply, and has the request among its
+-- finished ones. Then the request has its moment in this one run.
 abbrev pub AnswersHaveMomentsInOneRun : Config → ((ℕ → TenantStart) → List WorldEvent → Type 0) → Type 0
 AnswersHaveMomentsInOneRun config begun = (s : Table ActorState View) (tied : TableInvariant config begun s) (id index : ℕ) (first now view : View) (token : WorkerToken) (tenant : ℕ) (job : Job) (reply : Reply)
     → get_elem? s.views id ≡ some view → (answered : Answered first now token tenant job reply) → token.is_whole ≡ true → ExtendsKnownRun now.known_run view.known_run
