@@ -31,11 +31,12 @@ pub fn every_moment_has_one_history<B: Begins>()
 /// `own`: the run is the one behind what the pass knows at the reply. `one_run`: at each later moment of the shared words it
 /// is the one behind what all passes know. So the moments of all replies are in one order.
 ///
-/// `time`: this order keeps that of time, also between passes that never meet. A request of a pass that was idle at some
-/// moment of the shared words comes after all that had happened by then, so also after each reply that any pass had by
-/// then.
+/// `time`: this order keeps that of time, also between passes that never meet. Take a pass that was idle at some moment of
+/// the shared words, and learned nothing until its next request came. That request comes after all that had happened by
+/// then, so also after each reply that any pass had by then.
 ///
-/// The premise is `Answered` of mw_rule. It is a part of what `Engine::serve` of mw_engine ensures (`answered`).
+/// The premises are `Answered` of mw_rule and `is_whole`: the pass saw the request come. `Engine::serve` of mw_engine
+/// ensures both (`answered`).
 pub fn answers_have_moments<B: Begins>()
     ensures own { AnswersHaveMoments }
     ensures one_run { (key : B) → AnswersHaveMomentsInOneRun (B.config key) (B.begun key) }
