@@ -17,6 +17,10 @@ pub enum Point {
 
 /// Is told of each [`Point`] that a worker comes to, and may hold the worker there.
 pub trait Hold {
+    /// Whether it may hold a worker. If not, a worker may keep the lock of a file from one call to the next, and isn't
+    /// told of points in between.
+    fn may_hold(&self) -> bool;
+
     /// The worker of this number is at this point. It goes on when the call returns.
     fn at(&self, worker: u8, point: Point);
 }
@@ -26,5 +30,9 @@ pub trait Hold {
 pub struct NoHold;
 
 impl Hold for NoHold {
+    fn may_hold(&self) -> bool {
+        false
+    }
+
     fn at(&self, _worker: u8, _point: Point) {}
 }

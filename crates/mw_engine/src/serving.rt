@@ -2,7 +2,7 @@
 //!
 //! mw_programs answers each request of a session by `Engine::serve`. docs/PROMISES.md cites its contract: a
 //! change of it, or of `specs/History` or `specs/Replies`, changes what clients are promised.
-ghost use Rattle.std.specs.Prelude.{◌≡◌, ◌≢◌, true, None};
+ghost use Rattle.std.specs.Prelude.{◌≡◌, ◌≢◌, true, false, None};
 ghost use Rattle.mw_actor.specs.Program.{replied};
 ghost use Rattle.mw_core.specs.FromTable.{IsCarried, IsOfSameWorker, IsSamePass, View as Knowledge};
 ghost use Rattle.mw_world.specs.Definition.Calls.{called_at};
@@ -66,10 +66,15 @@ impl<J: EngineBrand, D: Disk + Drop, H: Hold + Drop> Engine<J, D, H> {
         let was_planting = is_planting(actor);
         if let Some(call) = self.words.core.step(pass, actor) {
             self.hold_before(pass, call);
-            self.file(rt, pass, actor);
+            self.file_then(rt, pass, actor, self.keeps_lock(call));
         } else if was_planting && has_planted(actor) {
             self.hold.at(pass.worker(), Point::Planted);
         }
+    }
+
+    /// Whether a request keeps the lock of its file after this call, to seal its change in the same turn.
+    fn keeps_lock(&self, call: Call) -> bool {
+        matches!(call, Call::Prepare) && !self.hold.may_hold()
     }
 
     /// Tells the hold that a seal or a settle is next.
@@ -94,6 +99,24 @@ impl<J: EngineBrand, D: Disk + Drop, H: Hold + Drop> Engine<J, D, H> {
         ensures way { IsOnItsWay actor.old.job actor.old.point → IsOnItsWay actor.new.job actor.new.point }
         ensures call { (first : Knowledge) → IsInProgress first pass.old.seat.me.0 actor.old → IsInProgress first pass.new.seat.me.0 actor.new }
     {
+        self.file_then(rt, pass, actor, false);
+    }
+
+    /// Makes the call as [`Engine::file`] does. If a seal may follow, goes on under the same lock to the request's next
+    /// call, and makes that if it is a seal: so no other thread has to wake in between.
+    fn file_then(&self, rt: &impl Wait, pass: &mut Pass, actor: &mut Actor, seals: bool)
+        requires own { IsPassOf J.identity pass.old }
+        requires carried { IsCarried pass.old actor.old }
+        requires call { called_at actor.old.point ≢ None }
+        ensures own { IsPassOf J.identity pass.new }
+        ensures worker { IsOfSameWorker pass.old pass.new }
+        ensures carried { IsCarried pass.new actor.new }
+        ensures request { IsSameRequest actor.old actor.new }
+        ensures way { IsOnItsWay actor.old.job actor.old.point → IsOnItsWay actor.new.job actor.new.point }
+        ensures call { (first : Knowledge) → IsInProgress first pass.old.seat.me.0 actor.old → IsInProgress first pass.new.seat.me.0 actor.new }
+        ensures same { seals ≡ false → IsSamePass pass.old pass.new }
+        ensures files { seals ≡ false → FilesOne D.facts J.identity pass.old pass.new actor.old actor.new }
+    {
         // The first lock that is taken is the tenant's own. The loop is needed because no type of an index can say
         // so: all locks of a list have one type, and it says the same of what each of them guards.
         let mut index = usize::from(actor.tenant());
@@ -104,6 +127,10 @@ impl<J: EngineBrand, D: Disk + Drop, H: Hold + Drop> Engine<J, D, H> {
             let mut guard = self.books[index].lock(rt, actor);
             if guard.value.is_of(actor) {
                 guard.value.file(&self.words.core, pass, actor);
+                if !seals {
+                    return;
+                }
+                guard.value.seal_next(&self.words.core, pass, actor);
                 return;
             }
             index += 1;

@@ -142,6 +142,10 @@ pub(crate) struct ByLatch<'l> {
 }
 
 impl Hold for ByLatch<'_> {
+    fn may_hold(&self) -> bool {
+        true
+    }
+
     fn at(&self, worker: u8, point: Point) {
         self.latch.meet(Place::Anyone(point));
         if worker == 0 {

@@ -66,10 +66,9 @@ impl<T> FairLock<T> {
         None
     }
 
-    /// Takes the lock as [`FairLock::try_lock`] does. Gives up at once if others wait, and such waits have been long
-    /// lately.
+    /// Takes the lock as [`FairLock::try_lock`] does. Gives up at once if others wait.
     pub fn try_lock_after_others(&self) -> Option<FairGuard<'_, T>> {
-        if self.queue.is_long() {
+        if self.queue.has_waiters() {
             None
         } else {
             self.try_lock()
@@ -91,22 +90,21 @@ impl<T> FairLock<T> {
         }
     }
 
-    /// Takes the lock as the first of the queue. Also tells whether this wait was long.
+    /// Takes the lock as the first of the queue. Also tells whether this took longer than the first has patience.
     fn lock_as_first(&self, rt: &impl Wait, ticket: Ticket) -> (MutexGuard<'_, T>, bool) {
-        let mut vain_wakes: u32 = 0;
-        let mut vain_sleeps: u32 = 0;
+        let mut vain_wakes = 0;
+        let mut waits_are_long = false;
         for _ in rt.forever() {
-            let waits_are_long = vain_sleeps > 0;
             let seen = self.queue.want_wake(ticket);
             if let Some(value) = self.value.try_lock() {
                 return (value, waits_are_long);
             }
-            if vain_sleeps > 1 || vain_wakes >= VAIN_WAKES {
+            if waits_are_long || vain_wakes >= VAIN_WAKES {
                 self.queue.starve();
             }
-            match self.queue.sleep_as_first(rt, ticket, seen, waits_are_long) {
+            match self.queue.sleep_as_first(rt, ticket, seen) {
                 SleepEnd::Woken => vain_wakes = vain_wakes.saturating_add(1),
-                SleepEnd::TimeUp => vain_sleeps = vain_sleeps.saturating_add(1),
+                SleepEnd::TimeUp => waits_are_long = true,
             }
         }
         unreachable!()

@@ -10,7 +10,7 @@
 //! for a thread to wake.
 //!
 //! Some threads gain by waiting, because others do their work along with their own. These take the lock by
-//! [`FairLock::try_lock_after_others`], or queue: while waits are long, they don't go before those that wait.
+//! [`FairLock::try_lock_after_others`], or queue: they don't go before those that wait.
 //!
 //! The value is in the `Mutex`, and what is known of it rests on that lock alone. No contract speaks of the queue, says
 //! that a wait ends, or says who is next: `tests` try the last two. A mistake in the queue can make a wait long, and no

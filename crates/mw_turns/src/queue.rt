@@ -23,15 +23,8 @@ use std::time::Duration;
 /// How many wake words there are. Threads share one if more than this wait.
 const WAKE_WORDS: usize = 64;
 
-/// How many microseconds the first of the queue sleeps before waits count as long.
-const SHORT_WAIT: u64 = 100;
-
-/// How many microseconds the first then sleeps before the lock is starving.
-const PATIENCE: u64 = 1000;
-
-/// How many short waits in a row there must be before waits no longer count as long. Two long holds may have short
-/// ones of all threads between them: in mw_engine two of each of up to 64 threads.
-const SHORT_WAITS: u64 = 256;
+/// How many milliseconds the first of the queue sleeps before the lock is starving.
+const PATIENCE: u64 = 1;
 
 /// How many milliseconds any other thread of the queue sleeps before it looks again.
 const LONGEST_SLEEP: u64 = 100;
@@ -45,9 +38,6 @@ pub(crate) struct Queue {
     first: AtomicU64,
     /// Whether the first has waited for long. Then no other thread takes the lock.
     is_starving: AtomicBool,
-    /// How many more short waits there must be before waits no longer count as long. Whoever leaves the queue changes
-    /// it, and holds the lock.
-    until_short: AtomicU64,
     /// Whether the next release must wake the first.
     wants_wake: AtomicBool,
     /// How often threads were woken, by their tickets modulo `WAKE_WORDS`. They sleep on these words.
@@ -74,7 +64,6 @@ impl Queue {
             next: AtomicU64::new(0),
             first: AtomicU64::new(0),
             is_starving: AtomicBool::new(false),
-            until_short: AtomicU64::new(0),
             wants_wake: AtomicBool::new(false),
             wakes: array::from_fn(|_| AtomicU64::new(0)),
         }
@@ -90,10 +79,9 @@ impl Queue {
         self.is_starving.store(true, Ordering::SeqCst);
     }
 
-    /// Whether threads wait, and such waits have been long lately.
-    pub(crate) fn is_long(&self) -> bool {
-        self.until_short.load(Ordering::SeqCst) > 0
-            && self.first.load(Ordering::SeqCst) != self.next.load(Ordering::SeqCst)
+    /// Whether threads wait.
+    pub(crate) fn has_waiters(&self) -> bool {
+        self.first.load(Ordering::SeqCst) != self.next.load(Ordering::SeqCst)
     }
 
     /// Joins the queue at its end, and waits until all before have left it.
@@ -118,18 +106,10 @@ impl Queue {
         seen
     }
 
-    /// Sleeps as the first until a release, at first for up to `SHORT_WAIT`, and once waits are long for up to
-    /// `PATIENCE`.
-    pub(crate) fn sleep_as_first(
-        &self,
-        rt: &impl Wait,
-        ticket: Ticket,
-        seen: u64,
-        waits_are_long: bool,
-    ) -> SleepEnd {
-        let longest = if waits_are_long { PATIENCE } else { SHORT_WAIT };
+    /// Sleeps as the first until a release or `PATIENCE` is over.
+    pub(crate) fn sleep_as_first(&self, rt: &impl Wait, ticket: Ticket, seen: u64) -> SleepEnd {
         let wakes = self.wakes_of(ticket);
-        wakes.park_timeout(rt, low_half(seen), Duration::from_micros(longest));
+        wakes.park_timeout(rt, low_half(seen), Duration::from_millis(PATIENCE));
         if wakes.load(Ordering::SeqCst) == seen {
             SleepEnd::TimeUp
         } else {
@@ -145,7 +125,6 @@ impl Queue {
         self.wants_wake.store(false, Ordering::SeqCst);
         self.is_starving.store(false, Ordering::SeqCst);
         self.first.store(next.0, Ordering::SeqCst);
-        self.count_wait(waits_are_long);
         if self.next.load(Ordering::SeqCst) == next.0 {
             return;
         }
@@ -153,17 +132,6 @@ impl Queue {
             self.wake(next);
         } else {
             self.wants_wake.store(true, Ordering::SeqCst);
-        }
-    }
-
-    /// Counts the wait of a first, which holds the lock.
-    fn count_wait(&self, is_long: bool) {
-        if is_long {
-            self.until_short.store(SHORT_WAITS, Ordering::SeqCst);
-        } else {
-            let until_short = self.until_short.load(Ordering::SeqCst);
-            self.until_short
-                .store(until_short.saturating_sub(1), Ordering::SeqCst);
         }
     }
 

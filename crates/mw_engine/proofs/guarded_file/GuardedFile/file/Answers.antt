@@ -2,6 +2,7 @@
 -- function alone. It may change freely as long as this crate checks.
 use Rattle.std.proofs.Common.{sym, ◌∙◌}
 use Rattle.mw_engine.proofs.GuardedFileLaws.{keeps_some, kept_over, file_pass_of, there_of}
+use Rattle.mw_engine.proofs.RequestAfterFileCall.{file_same}
 use Rattle.mw_engine.proofs.guarded_file.GuardedFile.file.Goals as goal
 
 pub file-file_pass-requires-clause-file_pass : goal.file-file_pass-requires-clause-file_pass
@@ -56,3 +57,8 @@ returns-clause-files g c =
       waiting = _;
       once = made.ensures.files;
     }
+
+pub returns-clause-whose : goal.returns-clause-whose
+returns-clause-whose g c =
+    let made = c.file-file_pass in
+    c.requires.whose ∙ sym (file_same g.D.Disk.facts g.J.EngineBrand.identity c.args.pass.now made.new.pass c.args.actor.now made.new.actor (returns-clause-files g c)).same_tenant
