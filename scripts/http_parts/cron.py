@@ -1,0 +1,141 @@
+"""contrib's backup for cron, at a server with pages: what it keeps, what it leaves, and what it says if it fails.
+
+Used by: scripts/check-backup.
+"""
+import os
+import signal
+import socket
+import subprocess
+import time
+from pathlib import Path
+from typing import Dict, List
+
+from .server import PATIENCE, Client, Server, Wrong, same
+
+SCRIPT = Path(__file__).resolve().parent.parent.parent / "contrib/mondlexi-backup"
+TENANTS = (("a", 3, 1), ("b", 5, 2))
+OLD, YOUNG = "2026-01-01T000000Z.part", "2026-01-01T000001Z.part"
+"""What runs that were cut off have left."""
+HOURS = 7200
+"""After so many seconds it is old."""
+Copies = Dict[str, Dict[str, bytes]]
+"""The folders that are kept, by name: of each its files, by name, with their bytes."""
+
+
+class Backup:
+    """The script, with paths of a trial in place of its own, and the programs of a trial before all others."""
+
+    def __init__(self, folder: Path, mwshow: Path):
+        self.folder, self.mwshow, self.programs = folder, mwshow, mwshow.parent
+        self.served, self.kept = folder / "served", folder / "kept"
+        self.served.mkdir()
+        self.kept.mkdir()
+
+    def words(self, pages: Path) -> List[str]:
+        """The command that runs it, with the pages at this socket."""
+        text = SCRIPT.read_text()
+        for old, new in (("served=/srv/mw\n", self.served), ("pages=/run/mondlexi/pages\n", pages), ("kept=/backup\n", self.kept)):
+            same(text.count(old), 1, f"{SCRIPT.name}: how often it has {old!r}")
+            text = text.replace(old, f"{old.partition('=')[0]}='{new}'\n")
+        path = self.folder / SCRIPT.name
+        path.write_text(text)
+        return ["sh", str(path)]
+
+    def start(self, pages: Path) -> "subprocess.Popen[str]":
+        """Starts it in a session of its own."""
+        environment = {**os.environ, "PATH": f"{self.programs}:{os.environ['PATH']}"}
+        return subprocess.Popen(self.words(pages), env=environment, stdin=subprocess.DEVNULL, stdout=subprocess.PIPE, stderr=subprocess.STDOUT,
+                                text=True, start_new_session=True)
+
+    def run(self) -> "subprocess.CompletedProcess[str]":
+        """Runs it to its end."""
+        started = self.start(self.served / "pages")
+        told, _ = started.communicate(timeout=PATIENCE)
+        return subprocess.CompletedProcess(started.args, started.returncode, told)
+
+    def copies(self) -> Copies:
+        """What is kept."""
+        return {it.name: {file.name: file.read_bytes() for file in it.iterdir()} for it in self.kept.iterdir()}
+
+    def words_of(self, file: Path) -> List[int]:
+        """The words of a copy, as mwshow tells them."""
+        told = subprocess.run([self.mwshow, "--words", file], stdout=subprocess.PIPE, text=True, timeout=PATIENCE).stdout
+        return [int(line.split()[2]) for line in told.splitlines() if line.startswith("word ")]
+
+    def keeps_one_more(self, word: int, what: str) -> None:
+        """A run that goes well: one more folder has all files, with this word 0 of the tenant a, and no other one has changed."""
+        before, ended = self.copies(), self.run()
+        same((ended.returncode, ended.stdout), (0, ""), f"{SCRIPT.name}, {what}")
+        after = self.copies()
+        new = [it for it in after if it not in before]
+        same((len(new), {it: after.get(it) for it in before}), (1, before), f"the copies that are kept, {what}")
+        same(sorted(after[new[0]]), ["a.mw", "b.mw", "tenants"], f"the files of the new copy, {what}")
+        same(after[new[0]]["tenants"], (self.served / "tenants").read_bytes(), f"its tenants file, {what}")
+        same([self.words_of(self.kept / new[0] / f"{name}.mw") for name, _, _ in TENANTS], [[word, 0, 0], [0] * 5], f"its words, {what}")
+
+    def keeps_nothing(self, step: str, what: str) -> None:
+        """A run that fails: its status, its last line, and all that is kept is as it was."""
+        before, ended = self.copies(), self.run()
+        last = f"mondlexi-backup: failed at {step}; earlier copies are as they were\n"
+        same((ended.returncode != 0, ended.stdout.endswith(last)), (True, True), f"{SCRIPT.name}, {what}, which says {ended.stdout!r}")
+        same(self.copies(), before, f"what is kept, {what}")
+
+
+def try_leftovers(backup: Backup) -> None:
+    """What runs that were cut off have left stops no other, and goes once it is old."""
+    for name in (OLD, YOUNG):
+        (backup.kept / name).mkdir()
+    (backup.kept / OLD / "a.mw").write_bytes(b"a part")
+    os.utime(backup.kept / OLD, times=2 * (time.time() - HOURS,))
+    ended = backup.run()
+    same((ended.returncode, ended.stdout, (backup.kept / OLD).exists(), (backup.kept / YOUNG).exists()), (0, "", False, True),
+         "a run after runs that were cut off")
+    silent = backup.folder / "silent"
+    with socket.socket(socket.AF_UNIX) as listener:
+        listener.bind(str(silent))
+        listener.listen()
+        started = backup.start(silent)
+        client, _ = listener.accept()
+        os.killpg(started.pid, signal.SIGKILL)
+        started.communicate(timeout=PATIENCE)
+        client.close()
+    same(len(list(backup.kept.glob("*.part"))), 2, "what is left of a run that is killed")
+    backup.keeps_one_more(1, "after one that was killed")
+
+
+def try_failures(backup: Backup, server: Server) -> None:
+    """No tenant of a name, a copy with damage, no tenants file, and no server."""
+    pages, tenants = backup.served / "pages", backup.served / "tenants"
+    text = tenants.read_text()
+    tenants.write_text(f"{text}none 1 1 none.mw\n")
+    backup.keeps_nothing(f"tenant none, asked for at {pages}", "with a tenant that the server doesn't have")
+    tenants.unlink()
+    backup.keeps_nothing("the tenants file", "without a tenants file")
+    tenants.write_text(text)
+    programs, backup.programs = backup.programs, backup.folder / "wrong"
+    backup.programs.mkdir()
+    (backup.programs / "mwshow").write_text("#!/bin/sh\necho damage 1 byte 0\nexit 1\n")
+    (backup.programs / "mwshow").chmod(0o755)
+    backup.keeps_nothing("tenant a, by what mwshow says of its copy", "with a copy that has damage")
+    backup.programs = programs
+    server.end()
+    backup.keeps_nothing(f"tenant a, asked for at {pages}", "without a server")
+
+
+def try_backup_for_cron(mwserve: Path, mwshow: Path, folder: Path) -> str:
+    """Does what the head says. What was tried."""
+    backup = Backup(folder, mwshow)
+    with Server(mwserve, backup.served, TENANTS).start() as server:
+        backup.keeps_one_more(0, "as the first run")
+        client = Client(server.port, "a")
+        same(client.ask("CAS 0:0:1"), "YES", "a change between two runs")
+        client.close()
+        backup.keeps_one_more(1, "as the second run of a day")
+        try_leftovers(backup)
+        try_failures(backup, server)
+    backup.kept.rename(backup.folder / "away")
+    ended = backup.run()
+    last = f"mondlexi-backup: failed at a new folder in {backup.kept}; earlier copies are as they were\n"
+    if ended.returncode == 0 or not ended.stdout.endswith(last):
+        raise Wrong(f"{SCRIPT.name}, without the folder of copies: status {ended.returncode}, {ended.stdout!r}")
+    return f"contrib/{SCRIPT.name}: each run keeps a copy of its own; a run that fails or is cut off leaves the earlier ones, and stops no other"
