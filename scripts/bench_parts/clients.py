@@ -52,12 +52,17 @@ class Line:
         return reply
 
 
-def changes(port, tenant, word=0):
-    """Counts a word of a tenant up, from what it is. A change that is answered BUSY is asked for again."""
+def line_and_value(port, tenant, word):
+    """A connection for a tenant, and what a word of it is."""
     line = Line(port)
     if not line.ask(b"TENANT t%d\n" % tenant).startswith(b"OK "):
         wrong("no such tenant")
-    value = int(line.ask(b"GET %d\n" % word).split()[1])
+    return line, int(line.ask(b"GET %d\n" % word).split()[1])
+
+
+def changes(port, tenant, word=0):
+    """Counts a word of a tenant up, from what it is. A change that is answered BUSY is asked for again."""
+    line, value = line_and_value(port, tenant, word)
     while True:
         reply = b"BUSY"
         while reply == b"BUSY":
@@ -80,10 +85,7 @@ def gets(port, tenant):
 
 def contended_changes(port, tenant, word=0):
     """Counts a word up that others count up too, by one each time: after a NO it asks again, with the value that it was told."""
-    line = Line(port)
-    if not line.ask(b"TENANT t%d\n" % tenant).startswith(b"OK "):
-        wrong("no such tenant")
-    value = int(line.ask(b"GET %d\n" % word).split()[1])
+    line, value = line_and_value(port, tenant, word)
     while True:
         reply = line.ask(b"CAS %d:%d:%d\n" % (word, value, value + 1))
         while reply != b"YES":

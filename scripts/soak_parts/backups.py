@@ -8,16 +8,15 @@ import random
 import subprocess
 import threading
 import time
-from collections import Counter
-from dataclasses import dataclass, field
+from dataclasses import dataclass
 from pathlib import Path
-from typing import Counter as CounterOf
 from typing import Dict, Iterable, List, Sequence, Tuple
 
 from http_parts import server as pages
 
 from .checker import judge
 from .crowd import Crowd, View, undecided_until
+from .found import Found
 from .history import Answer, Entry, Epoch, Reply, Request
 from .server import Plan, Programs, Server, Tenant, Wrong, make_files
 
@@ -61,22 +60,17 @@ class Backup:
 
 
 @dataclass
-class Found:
+class FoundInBackups(Found):
     """What was tried, and the complaints."""
-    complaints: List[str] = field(default_factory=list)
-    answers: CounterOf[Answer] = field(default_factory=Counter)
-    lives: int = 0
     backups: int = 0
     in_midst: int = 0
-    made: int = 0
     longest: int = 0
 
     def lines(self, seconds: float) -> List[str]:
         """What to print."""
-        told = ", ".join(f"{self.answers[answer]} {answer.value}" for answer in Answer)
         return [f"{seconds:.0f} seconds, {self.lives} lives of the server; {self.backups} backups of {len(TENANTS)} tenants, each opened, "
                 f"the slowest after {self.longest / 1e6:.0f} ms",
-                f"{sum(self.answers.values())} requests of {CLIENTS} clients meanwhile: {told}; {self.made} changes were made",
+                f"{self.requests()} requests of {CLIENTS} clients meanwhile: {self.told()}; {self.made} changes were made",
                 f"{self.in_midst} backups have words that no read at rest had: they were taken in the midst of changes"]
 
 
@@ -85,7 +79,7 @@ class Backups:
 
     def __init__(self, programs: Programs, mwshow: Path, folder: Path, dice: random.Random) -> None:
         self.programs, self.mwshow, self.folder, self.dice = programs, mwshow, folder, dice
-        self.found = Found()
+        self.found = FoundInBackups()
         values = itertools.count(1)
         self.views = {tenant: View(tenant, values, [0] * tenant.words) for tenant in TENANTS}
         self.last: Dict[Tenant, Tuple[bytes, Tuple[int, ...]]] = {}

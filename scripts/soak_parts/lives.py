@@ -3,14 +3,13 @@ SIGKILL and a power cut, of which the records tell what it may leave. All that w
 import itertools
 import random
 import time
-from collections import Counter
-from dataclasses import dataclass, field
+from dataclasses import dataclass
 from pathlib import Path
-from typing import Counter as CounterOf
 from typing import Dict, List, Optional, Set
 
 from .checker import judge, judge_faults
 from .crowd import Crowd, View, undecided_until
+from .found import Found
 from .history import UNDECIDED, Answer, Epoch, Request
 from .layout import SET
 from .recording import FileLog, Kind, after_power_cut, calls_behind_a_failure
@@ -33,11 +32,8 @@ PATIENCE_WITH_SLOTS = 60.0
 
 
 @dataclass
-class Found:
+class FoundInLives(Found):
     """What was tried, and the complaints."""
-    complaints: List[str] = field(default_factory=list)
-    answers: CounterOf[Answer] = field(default_factory=Counter)
-    lives: int = 0
     early_kills: int = 0
     hold_ups: int = 0
     narrow: int = 0
@@ -49,19 +45,17 @@ class Found:
     most_open: int = 0
     undecided: int = 0
     undecided_found: int = 0
-    made: int = 0
     judged: int = 0
     crowded_changes: int = 0
     crowded_syncs: int = 0
 
     def lines(self, seconds: float, cuts: bool) -> List[str]:
         """What to print."""
-        told = ", ".join(f"{self.answers[answer]} {answer.value}" for answer in Answer)
         ends = f"a kill and a power cut ({self.cut_calls} writes were not synced)" if cuts else "a kill"
         return [f"{seconds:.0f} seconds, {self.lives} lives of the server, each ended by {ends}",
                 f"{self.early_kills} killed at their start, {self.hold_ups} held up, {self.narrow} on one processor, "
                 f"{self.shared} with fewer workers than clients, {self.reports} with all slots free at rest",
-                f"{sum(self.answers.values())} requests of {CLIENTS} clients on {len(TENANTS)} tenants: {told}",
+                f"{self.requests()} requests of {CLIENTS} clients on {len(TENANTS)} tenants: {self.told()}",
                 f"{self.calls} writes and syncs, {self.failing_calls} calls let fail; up to {self.most_open} changes of a tenant "
                 "at once durable and not finished",
                 f"tenant {CROWDED.name}, {CROWDED.clients} clients: {self.crowded_syncs} syncs of its file, those of openings among "
@@ -76,7 +70,7 @@ class Lives:
 
     def __init__(self, programs: Programs, folder: Path, dice: random.Random, lie: bool = False) -> None:
         self.programs, self.folder, self.dice, self.lie = programs, folder, dice, lie
-        self.found = Found()
+        self.found = FoundInLives()
         values = itertools.count(1)
         self.views = {tenant: View(tenant, values, [0] * tenant.words) for tenant in TENANTS}
         self.epochs = {tenant: Epoch(tenant.name, (0,) * tenant.words, [], quota=tenant.quota) for tenant in TENANTS}
