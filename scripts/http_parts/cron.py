@@ -94,6 +94,7 @@ def try_leftovers(backup: Backup) -> None:
     with socket.socket(socket.AF_UNIX) as listener:
         listener.bind(str(silent))
         listener.listen()
+        listener.settimeout(PATIENCE)
         started = backup.start(silent)
         client, _ = listener.accept()
         os.killpg(started.pid, signal.SIGKILL)
