@@ -385,6 +385,26 @@ def try_move(unit: Unit) -> None:
     print("a tenant moved to another server, by the page's commands")
 
 
+def try_cron_backup(unit: Unit) -> None:
+    """The backup for cron: twice while the unit shows pages, and once while no server runs."""
+    command = re.findall(r"^ExecStart=(.*)$", run("systemctl", "cat", unit.name), re.MULTILINE)[0]
+    kept = Path("/backup")
+    kept.mkdir()
+    with DropIn(unit.name, f"ExecStart=\nExecStart={command} --http unix:/run/mondlexi/pages\n"):
+        begin(unit)
+        value = try_to_talk(unit)
+        same([run("mondlexi-backup") for _ in range(2)], ["", ""], "mondlexi-backup")
+        end(unit)
+    copies = sorted(kept.iterdir())
+    same([sorted(it.name for it in copy.iterdir()) for copy in copies], 2 * [["t.mw", "tenants"]], "the copies of mondlexi-backup")
+    same([f"word 0 {value}" in run("mwshow", copy / "t.mw").splitlines() for copy in copies], [True, True], "the word 0 of these copies")
+    failed = ended("mondlexi-backup")
+    same((failed.returncode != 0, "mondlexi-backup: failed at tenant t" in failed.stdout), (True, True), f"mondlexi-backup without a server: {failed.stdout!r}")
+    same(sorted(kept.iterdir()), copies, "the copies after one that failed")
+    run("rm", "-r", kept)
+    print("mondlexi-backup: a copy of each run, and none of one that fails")
+
+
 def try_page(unit: Unit) -> None:
     """The page's commands for a backup of a stopped server, to restore it, when a tenant is down, and for more words."""
     begin(unit)
@@ -486,6 +506,7 @@ def first_boot(deb: str) -> None:
     try_own_administrators(local)
     try_without_systemd(local)
     try_move(port)
+    try_cron_backup(local)
     try_page(local)
     try_proxy(local)
 

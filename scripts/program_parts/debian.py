@@ -11,8 +11,8 @@ from .common import PATIENCE
 
 MIRROR = "http://deb.debian.org/debian"
 RELEASE = "bookworm"
-TO_BOOT = "systemd,dbus,python3,haproxy,openssl,procps"
-"""What it needs further to be booted, for the package's client, and for a proxy in front, whose reload calls kill."""
+TO_BOOT = "systemd,dbus,python3,haproxy,openssl,procps,curl"
+"""What it needs further to be booted, for the package's client, for a proxy in front, whose reload calls kill, and for a backup."""
 TO_TALK = "netcat-openbsd"
 """What the pages' commands need further."""
 GROUPS = Path("/sys/fs/cgroup")
