@@ -1,1 +1,2 @@
+pub mod DisksOpened
 pub mod FilesFitLines

@@ -7,6 +7,7 @@ ghost use Rattle.std.specs.List.{list_all};
 ghost use Rattle.mw_config.specs.Limits.{ArePermitted};
 ghost use Rattle.mw_words.specs.declared.limits.TheConstants.{MAX_TENANTS};
 ghost use Rattle.mw_engine.specs.OpenedFiles.{FitsLine, FitLines};
+ghost use Rattle.mw_opening.specs.SyncedOpenings.{IsOpenedAfterSync, WasOpenedAfterSync, WereOpenedAfterSync};
 
 use crate::file_state::{FileState, FileStates};
 use crate::metered_file::MeteredFile;
@@ -239,7 +240,8 @@ pub fn open_files<'a, R: Files<File = File> + AllocGlobal + Clock, L: Log>(
     meters: Option<&'a Meters>,
 ) -> Result<Vec<Option<Opened<'a, R>>>, AllocError>
     requires { length lines.now ≤ MAX_TENANTS }
-    ensures { IfOk result (λ files. FitLines ⟦<FileDisk<WatchedFile<'a, TrackedFile<'a, MeteredFile<'a, File, R>>>> as Disk>⟧.facts lines.now files.items) }
+    ensures fit { IfOk result (λ files. FitLines ⟦<FileDisk<WatchedFile<'a, TrackedFile<'a, MeteredFile<'a, File, R>>>> as Disk>⟧.facts lines.now files.items) }
+    ensures opened { IfOk result (λ files. WereOpenedAfterSync ⟦<FileDisk<WatchedFile<'a, TrackedFile<'a, MeteredFile<'a, File, R>>>> as Disk>⟧.facts ⟦<FileDisk<WatchedFile<'a, TrackedFile<'a, MeteredFile<'a, File, R>>>> as Disk>⟧.made files.items) }
 {
     let mut files = Vec::with_capacity(rt.alloc(), lines.len())?;
     for line in lines {
@@ -289,7 +291,8 @@ pub fn open_file<'a, R: Files<File = File> + AllocGlobal + Clock, L: Log>(
     state: &'a FileState,
     counters: Option<&'a TenantCounters>,
 ) -> Result<Option<Opened<'a, R>>, AllocError>
-    ensures { IfOk result (λ file. FitsLine ⟦<FileDisk<WatchedFile<'a, TrackedFile<'a, MeteredFile<'a, File, R>>>> as Disk>⟧.facts line.now file) }
+    ensures fits { IfOk result (λ file. FitsLine ⟦<FileDisk<WatchedFile<'a, TrackedFile<'a, MeteredFile<'a, File, R>>>> as Disk>⟧.facts line.now file) }
+    ensures opened { IfOk result (λ file. WasOpenedAfterSync ⟦<FileDisk<WatchedFile<'a, TrackedFile<'a, MeteredFile<'a, File, R>>>> as Disk>⟧.facts ⟦<FileDisk<WatchedFile<'a, TrackedFile<'a, MeteredFile<'a, File, R>>>> as Disk>⟧.made file) }
 {
     match open_fitting(rt, line, last, state, counters) {
         Ok(opened) => Ok(Some(opened)),
@@ -315,7 +318,8 @@ fn open_fitting<'a, R: Files<File = File> + AllocGlobal + Clock>(
     state: &'a FileState,
     counters: Option<&'a TenantCounters>,
 ) -> Result<Opened<'a, R>, FileFault>
-    ensures { IfOk result (λ opened. FitsLine ⟦<FileDisk<WatchedFile<'a, TrackedFile<'a, MeteredFile<'a, File, R>>>> as Disk>⟧.facts line.now (Some opened)) }
+    ensures fits { IfOk result (λ opened. FitsLine ⟦<FileDisk<WatchedFile<'a, TrackedFile<'a, MeteredFile<'a, File, R>>>> as Disk>⟧.facts line.now (Some opened)) }
+    ensures opened { IfOk result (λ opened. WasOpenedAfterSync ⟦<FileDisk<WatchedFile<'a, TrackedFile<'a, MeteredFile<'a, File, R>>>> as Disk>⟧.facts ⟦<FileDisk<WatchedFile<'a, TrackedFile<'a, MeteredFile<'a, File, R>>>> as Disk>⟧.made (Some opened)) }
 {
     let file = MeteredFile::new(open_locked(rt, line.path.as_str())?, rt, counters);
     open_synced(
@@ -340,7 +344,8 @@ fn open_synced<D: Disk + Drop>(
     line: &TenantLine,
     last: &LastError,
 ) -> Result<(TenantFile<D>, Vec<u64>), FileFault>
-    ensures { IfOk result (λ opened. FitsLine D.facts line.now (Some opened)) }
+    ensures fits { IfOk result (λ opened. FitsLine D.facts line.now (Some opened)) }
+    ensures opened { IfOk result (λ opened. IsOpenedAfterSync D.facts D.made disk opened) }
 {
     let mut disk = disk;
     if disk.sync().is_err() {
