@@ -1,13 +1,14 @@
--- What an opening after a sync gave was opened after a sync, and one file more is one more of such.
+-- What an opening after a sync gave is of its tenant's line, and one file more is of the next line.
 -- Used by: the proofs of open_synced, open_fitting and open_files. It may change freely as long as this crate checks.
-use Rattle.std.proofs.Common.{◌≡◌, ℕ, ◌++◌, ◌∷◌, [], Bool, true, false, IsTrue, List, Option, Some, Vec, Result, Ok, Err, OnOk, IfOk, is_err, is_ok, subst, sym, refl}
-use Rattle.std.proofs.lemmas.List.Elements.{All-push}
+use Rattle.std.proofs.Common.{◌≡◌, ◌<◌, ℕ, zero, suc, ◌+◌, ◌++◌, ◌∷◌, [], Bool, true, false, IsTrue, List, length, take, slice_get, get_or, Option, Some, Vec, Result, Ok, Err, OnOk, IfOk, is_err, is_ok, ◌∙◌, ap, subst, sym, refl, arith}
+use Rattle.std.proofs.lemmas.Option.{none-some, same_Some, slice_get-get_or}
 use Rattle.std.specs.declared.alloc.Global.{Global}
+use Rattle.mw_config.specs.declared.lines.TenantLine.{TenantLine}
 use Rattle.mw_disk.specs.DeviceCalls.{DeviceCall, Sync}
 use Rattle.mw_disk.specs.Facts.{Called, Facts, IsSynced}
 use Rattle.mw_file.specs.OpeningEnds.{Opens}
 use Rattle.mw_file.specs.declared.tenant_file.TenantFile.{TenantFile}
-use Rattle.mw_opening.specs.SyncedOpenings.{IsOpenedAfterSync, WasOpenedAfterSync, WereOpenedAfterSync}
+use Rattle.mw_opening.specs.SyncedOpenings.{AreOfLines, IsOfLine, IsOpenedAfterSync}
 use Rattle.mw_opening.proofs.FilesFitLines.{of_ok}
 
 -- a call that didn't fail went well
@@ -28,13 +29,31 @@ module _ {D : Type 0} (facts : D → Facts) (makes : DeviceCall → Bool → D �
     opens = opens;
   }
 
-  -- what was opened so on one disk was opened so on some disk
-  pub on_some_disk : {E : Type 0} (disk : D) (result : Result (TenantFile D × Vec ℕ Global) E) → IfOk result (λ opened. IsOpenedAfterSync facts makes disk opened)
-      → IfOk result (λ opened. WasOpenedAfterSync facts makes (Some opened))
-  on_some_disk disk (Ok opened) is = (disk, is)
-  on_some_disk disk (Err fault) is = tt
+module _ {D : Type 0} (facts : D → Facts) (makes : DeviceCall → Bool → D → D → Type 0) (is_over : List ℕ → D → Type 0) where
+  -- what was opened so on a disk over the line's path is of that line
+  pub of_line : {E : Type 0} (line : TenantLine) (disk : D) (result : Result (TenantFile D × Vec ℕ Global) E) → is_over line.path.bytes disk
+      → IfOk result (λ opened. IsOpenedAfterSync facts makes disk opened) → IfOk result (λ opened. IsOfLine facts makes is_over line (Some opened))
+  of_line line disk (Ok opened) over is = (disk, over, is)
+  of_line line disk (Err fault) over is = tt
 
-  -- one file more
-  pub opened_next : (files after : List (Option (TenantFile D × Vec ℕ Global))) (file : Option (TenantFile D × Vec ℕ Global))
-      → WasOpenedAfterSync facts makes file → WereOpenedAfterSync facts makes files → after ≡ files ++ file ∷ [] → WereOpenedAfterSync facts makes after
-  opened_next files after file was so_far one_more = subst (λ fs. WereOpenedAfterSync facts makes fs) (sym one_more) (All-push (WasOpenedAfterSync facts makes) files file so_far was)
+  -- one more file, for the next line
+  of_more : (lines : List TenantLine) (k : ℕ) (line : TenantLine) (files : List (Option (TenantFile D × Vec ℕ Global))) (file : Option (TenantFile D × Vec ℕ Global))
+      → slice_get lines k ≡ Some line → IsOfLine facts makes is_over line file → AreOfLines facts makes is_over (take k lines) files
+      → AreOfLines facts makes is_over (take (suc k) lines) (files ++ file ∷ [])
+  of_more [] k line files file at is so_far = absurd (none-some line at)
+  of_more (l ∷ lines) zero line [] file at is so_far =
+      (subst (λ (x : TenantLine). IsOfLine facts makes is_over x file) (sym (same_Some l line at)) is, tt)
+  of_more (l ∷ lines) zero line (f ∷ files) file at is so_far = absurd so_far
+  of_more (l ∷ lines) (suc k) line [] file at is so_far = absurd so_far
+  of_more (l ∷ lines) (suc k) line (f ∷ files) file at is so_far = (so_far.0, of_more lines k line files file at is so_far.1)
+
+  -- the same, if the line is read at an index
+  pub of_next : (lines : List TenantLine) (k : ℕ) (line : TenantLine) (files after : List (Option (TenantFile D × Vec ℕ Global))) (file : Option (TenantFile D × Vec ℕ Global))
+      → k < length lines → get_or lines k line ≡ line → IsOfLine facts makes is_over line file → AreOfLines facts makes is_over (take k lines) files
+      → after ≡ files ++ file ∷ [] → AreOfLines facts makes is_over (take (k + 1) lines) after
+  of_next lines k line files after file low is of so_far one_more =
+      let at : slice_get lines k ≡ Some line = slice_get-get_or lines k line low ∙ ap (λ x. Some x) is in
+      let more : AreOfLines facts makes is_over (take (suc k) lines) (files ++ file ∷ []) = of_more lines k line files file at of so_far in
+      let next : suc k ≡ k + 1 = omega arith in
+      let all : AreOfLines facts makes is_over (take (k + 1) lines) (files ++ file ∷ []) = subst (λ (n : ℕ). AreOfLines facts makes is_over (take n lines) (files ++ file ∷ [])) next more in
+      subst (λ fs. AreOfLines facts makes is_over (take (k + 1) lines) fs) (sym one_more) all

@@ -7,20 +7,22 @@
 //! Used by: mw_programs. docs/OPERATING lists the notes and says which files a server opens: change them together.
 #![tactic(auto)]
 
+mod file_fault;
 mod file_state;
 mod metered_file;
 mod notes;
 mod opening;
 mod plain_file;
+mod tenant_disks;
 mod tracked_file;
 mod watched_file;
 
+pub use file_fault::FileFault;
 pub use file_state::{FileState, FileStates, SeenFile};
 pub use metered_file::MeteredFile;
 pub use notes::{Notes, note_cause, note_place};
-pub use opening::{
-    Cause, Opened, TenantDisk, TenantsFault, are_all_open, open_files, read_tenants_file,
-};
+pub use opening::{Cause, TenantsFault, are_all_open, open_files, read_tenants_file};
 pub use plain_file::{ReadFault, open_plain};
+pub use tenant_disks::{LockedFiles, Opened, OpensDisks, TenantDisk};
 pub use tracked_file::TrackedFile;
 pub use watched_file::{LastError, LastErrors, WatchedFile};

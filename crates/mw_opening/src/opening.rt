@@ -7,30 +7,24 @@ ghost use Rattle.std.specs.List.{list_all};
 ghost use Rattle.mw_config.specs.Limits.{ArePermitted};
 ghost use Rattle.mw_words.specs.declared.limits.TheConstants.{MAX_TENANTS};
 ghost use Rattle.mw_engine.specs.OpenedFiles.{FitsLine, FitLines};
-ghost use Rattle.mw_opening.specs.SyncedOpenings.{IsOpenedAfterSync, WasOpenedAfterSync, WereOpenedAfterSync};
+ghost use Rattle.mw_opening.specs.SyncedOpenings.{AreOfLines, IsOfLine, IsOpenedAfterSync};
 
-use crate::file_state::{FileState, FileStates};
-use crate::metered_file::MeteredFile;
-use crate::notes::{note_cause, note_place};
+use crate::file_fault::FileFault;
+use crate::notes::note_place;
 use crate::plain_file::{ReadFault, open_plain};
-use crate::tracked_file::TrackedFile;
-use crate::watched_file::{LastError, LastErrors, WatchedFile};
+use crate::tenant_disks::OpensDisks;
+use crate::watched_file::LastError;
 use arrayvec::ArrayVec;
-use log::{Log, info, warn};
+use log::{Log, warn};
 use mw_config::{FormRule, Refusal, TenantLine, broken_rule, read_tenants};
-use mw_disk::{Disk, FileDisk};
-use mw_file::{OpenFault, TenantFile};
-use mw_meters::Meters;
-use mw_metrics::TenantCounters;
+use mw_disk::Disk;
+use mw_file::TenantFile;
 use mw_words::{MAX_TENANTS, MAX_TENANTS_FILE};
 use std::alloc::{AllocError, Global};
-use std::fs::{File, OpenOptions, TryLockError};
+use std::fs::File;
 use std::io::{self, Read};
-use std::os::fd::AsRawFd;
 use std::rt::Files;
 use std::str;
-use std::time::Clock;
-use thiserror::Error;
 
 /// The room for a tenants file, in bytes: the most that it may have, and one more, which shows that it is
 /// longer.
@@ -182,119 +176,58 @@ fn fill<F: Read>(file: &mut F, room: &mut [u8]) -> io::Result<usize> {
     Ok(count)
 }
 
-/// Tells why a tenant's file isn't served, as a note says it.
-#[derive(Debug, Drop, Error)]
-enum FileFault {
-    /// The file can't be opened or locked, or a call on it failed. The error is what the system told, if it
-    /// told one.
-    #[error("disk")]
-    Disk(Option<io::Error>),
-    /// Another opening of the file holds its lock: a second server, `mwinit`, or this server for an earlier
-    /// tenant.
-    #[error("in use")]
-    InUse,
-    /// The file has so many words and places, and not what the tenants file says.
-    #[error("misfit")]
-    Misfit(usize, u16),
-    /// The file's bytes are damaged. This is the number of the damage.
-    #[error("damage {0}")]
-    Damage(u8),
-    /// Memory was refused.
-    #[error("memory")]
-    Memory,
-}
-
-impl FileFault {
-    /// Gives the fault of a failed opening. `last` has what the system told last, in the opening or before it.
-    fn of_opening(fault: OpenFault, last: &LastError) -> Self {
-        match fault {
-            OpenFault::Memory => FileFault::Memory,
-            OpenFault::Disk => FileFault::Disk(last.error()),
-            OpenFault::Damage(damage) => FileFault::Damage(damage.number()),
-        }
-    }
-
-    /// Writes more of the fault: which file it is, and what the system told or what the file has.
-    fn tell_more<L: Log>(&self, notes: &L, path: &str) {
-        match self {
-            FileFault::Disk(Some(error)) => note_cause(notes, path, error),
-            FileFault::Misfit(words, places) =>
-                info!(notes; "{path}: {words} words, {places} places"),
-            _ => note_place(notes, path),
-        }
-    }
-}
-
-/// Opens the tenants' files, in the order of their lines, each by [`open_file`]. The meters, if there are any, count the
-/// calls of each file.
+/// Opens the tenants' files, in the order of their lines. Gives None, and writes a note, for a file that doesn't open, is
+/// in use or isn't as the tenants file says. Then every request of that tenant is answered FAULT.
+///
+/// - `fit`: each file that it gives fits its line.
+/// - `opened`: each is what [`TenantFile::open`] gave, with the words that it found. The disk was synced just before.
+///   `disks` opened it at the path of the line.
 ///
 /// # Errors
 ///
 /// Memory was refused.
-pub fn open_files<'a, R: Files<File = File> + AllocGlobal + Clock, L: Log>(
-    rt: &'a R,
+pub fn open_files<P: OpensDisks, L: Log>(
+    alloc: Global,
     notes: &L,
     lines: &[TenantLine],
-    errors: &'a LastErrors,
-    states: &'a FileStates,
-    meters: Option<&'a Meters>,
-) -> Result<Vec<Option<Opened<'a, R>>>, AllocError>
+    disks: &P,
+) -> Result<Vec<Option<(TenantFile<P::Device>, Vec<u64>)>>, AllocError>
     requires { length lines.now ≤ MAX_TENANTS }
-    ensures fit { IfOk result (λ files. FitLines ⟦<FileDisk<WatchedFile<'a, TrackedFile<'a, MeteredFile<'a, File, R>>>> as Disk>⟧.facts lines.now files.items) }
-    ensures opened { IfOk result (λ files. WereOpenedAfterSync ⟦<FileDisk<WatchedFile<'a, TrackedFile<'a, MeteredFile<'a, File, R>>>> as Disk>⟧.facts ⟦<FileDisk<WatchedFile<'a, TrackedFile<'a, MeteredFile<'a, File, R>>>> as Disk>⟧.made files.items) }
+    ensures fit { IfOk result (λ files. FitLines P.Device.facts lines.now files.items) }
+    ensures opened { IfOk result (λ files. AreOfLines P.Device.facts P.Device.made P.is_over lines.now files.items) }
 {
-    let mut files = Vec::with_capacity(rt.alloc(), lines.len())?;
+    let mut files = Vec::with_capacity(alloc, lines.len())?;
     for line in lines {
-        let tenant = files.len();
-        let counters = counters_of(meters, tenant);
-        let (last, state) = (errors.of(tenant), states.of(tenant));
-        let file = open_file(rt, notes, line, last, state, counters)?;
+        let file = open_file(alloc, notes, files.len(), line, disks)?;
         files.push(file)?;
     }
     Ok(files)
 }
 
-/// Gives what counts the calls of the file of the tenant of this number, if they are counted.
-fn counters_of<'a>(meters: Option<&'a Meters>, tenant: usize) -> Option<&'a TenantCounters>
-    requires { tenant < MAX_TENANTS }
-{
-    match meters {
-        Some(meters) => Some(meters.tenant(tenant)),
-        None => None,
-    }
-}
-
 /// Tells whether each tenant's file has opened.
-pub fn are_all_open<R>(files: &[Option<Opened<'_, R>>]) -> bool
+pub fn are_all_open<D>(files: &[Option<(TenantFile<D>, Vec<u64>)>]) -> bool
     ensures { result ≡ list_all (λ file. is_some file) files.now }
 {
     files.iter().all(|file| file.is_some())
 }
 
-/// The disk of a tenant's file: it keeps the last error, which file it is, and how long its calls took. `R` is the clock.
-pub type TenantDisk<'a, R> = FileDisk<WatchedFile<'a, TrackedFile<'a, MeteredFile<'a, File, R>>>>;
-
-/// A tenant's file, and the words that it had when it was opened.
-pub type Opened<'a, R> = (TenantFile<TenantDisk<'a, R>>, Vec<u64>);
-
-/// Opens the file of a tenant. Gives None, and writes a note, if the file doesn't open, is in use or isn't
-/// as the tenants file says. Then every request of the tenant is answered FAULT.
+/// Opens the file of the tenant of this number. Gives None, and writes a note, as [`open_files`] does.
 ///
 /// # Errors
 ///
 /// Memory was refused.
-pub fn open_file<'a, R: Files<File = File> + AllocGlobal + Clock, L: Log>(
-    rt: &'a R,
+fn open_file<P: OpensDisks, L: Log>(
+    alloc: Global,
     notes: &L,
+    tenant: usize,
     line: &TenantLine,
-    last: &'a LastError,
-    state: &'a FileState,
-    counters: Option<&'a TenantCounters>,
-) -> Result<Option<Opened<'a, R>>, AllocError>
-    ensures fits { IfOk result (λ file. FitsLine ⟦<FileDisk<WatchedFile<'a, TrackedFile<'a, MeteredFile<'a, File, R>>>> as Disk>⟧.facts line.now file) }
-    ensures opened { IfOk result (λ file. WasOpenedAfterSync ⟦<FileDisk<WatchedFile<'a, TrackedFile<'a, MeteredFile<'a, File, R>>>> as Disk>⟧.facts ⟦<FileDisk<WatchedFile<'a, TrackedFile<'a, MeteredFile<'a, File, R>>>> as Disk>⟧.made file) }
+    disks: &P,
+) -> Result<Option<(TenantFile<P::Device>, Vec<u64>)>, AllocError>
+    requires { tenant < MAX_TENANTS }
+    ensures fits { IfOk result (λ file. FitsLine P.Device.facts line.now file) }
+    ensures opened { IfOk result (λ file. IsOfLine P.Device.facts P.Device.made P.is_over line.now file) }
 {
-    match open_fitting(rt, line, last, state, counters) {
+    match open_fitting(alloc, tenant, line, disks) {
         Ok(opened) => Ok(Some(opened)),
         Err(FileFault::Memory) => Err(AllocError),
         Err(fault) => {
@@ -306,28 +239,23 @@ pub fn open_file<'a, R: Files<File = File> + AllocGlobal + Clock, L: Log>(
     }
 }
 
-/// Opens and locks the file of a tenant, which has the words and the places that its line asks for.
+/// Opens the file of a tenant, which has the words and the places that its line asks for.
 ///
 /// # Errors
 ///
-/// As [`FileFault`] tells. The file is closed, and so its lock is released.
-fn open_fitting<'a, R: Files<File = File> + AllocGlobal + Clock>(
-    rt: &'a R,
+/// As [`FileFault`] tells. The disk is dropped.
+fn open_fitting<P: OpensDisks>(
+    alloc: Global,
+    tenant: usize,
     line: &TenantLine,
-    last: &'a LastError,
-    state: &'a FileState,
-    counters: Option<&'a TenantCounters>,
-) -> Result<Opened<'a, R>, FileFault>
-    ensures fits { IfOk result (λ opened. FitsLine ⟦<FileDisk<WatchedFile<'a, TrackedFile<'a, MeteredFile<'a, File, R>>>> as Disk>⟧.facts line.now (Some opened)) }
-    ensures opened { IfOk result (λ opened. WasOpenedAfterSync ⟦<FileDisk<WatchedFile<'a, TrackedFile<'a, MeteredFile<'a, File, R>>>> as Disk>⟧.facts ⟦<FileDisk<WatchedFile<'a, TrackedFile<'a, MeteredFile<'a, File, R>>>> as Disk>⟧.made (Some opened)) }
+    disks: &P,
+) -> Result<(TenantFile<P::Device>, Vec<u64>), FileFault>
+    requires { tenant < MAX_TENANTS }
+    ensures fits { IfOk result (λ opened. FitsLine P.Device.facts line.now (Some opened)) }
+    ensures opened { IfOk result (λ opened. IsOfLine P.Device.facts P.Device.made P.is_over line.now (Some opened)) }
 {
-    let file = MeteredFile::new(open_locked(rt, line.path.as_str())?, rt, counters);
-    open_synced(
-        rt.alloc(),
-        FileDisk::new(WatchedFile::new(TrackedFile::new(file, state), last)),
-        line,
-        last,
-    )
+    let disk = disks.open(tenant, line.path.as_str())?;
+    open_synced(alloc, disk, line, disks.last_error(tenant))
 }
 
 /// Opens the file on a disk, which has the words and the places that the tenant's line asks for.
@@ -359,39 +287,5 @@ fn open_synced<D: Disk + Drop>(
             Ok((file, words))
         }
         Err((fault, _)) => Err(FileFault::of_opening(fault, last)),
-    }
-}
-
-/// Opens a file for reading and writing, locks it, and has the system drop its copies of it. The lock is held until the
-/// file is closed.
-///
-/// # Errors
-///
-/// [`FileFault::InUse`] if another opening has the lock. [`FileFault::Disk`] if the file can't be opened, its file
-/// system has no locks, or the system refuses to drop its copies.
-fn open_locked<R: Files<File = File>>(rt: &R, path: &str) -> Result<File, FileFault> {
-    let mut options = OpenOptions::new();
-    options.read(true).write(true);
-    let file = match options.open(rt, path) {
-        Ok(file) => file,
-        Err(error) => return Err(FileFault::Disk(Some(error))),
-    };
-    match file.try_lock() {
-        Ok(()) => dropped_copies(file),
-        Err(TryLockError::WouldBlock) => Err(FileFault::InUse),
-        Err(TryLockError::Error(error)) => Err(FileFault::Disk(Some(error))),
-    }
-}
-
-/// Has the system drop its copies of a file's pages, but of those that it must still write, and gives the file back.
-/// After a sync that failed, a copy may have bytes that the disk doesn't, and a read gives these until it is dropped.
-///
-/// # Errors
-///
-/// [`FileFault::Disk`] if the system refuses.
-fn dropped_copies(file: File) -> Result<File, FileFault> {
-    match libc::posix_fadvise(file.as_raw_fd(), 0, 0, libc::POSIX_FADV_DONTNEED) {
-        0 => Ok(file),
-        code => Err(FileFault::Disk(Some(io::Error::from_raw_os_error(code)))),
     }
 }

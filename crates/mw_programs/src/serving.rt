@@ -21,8 +21,9 @@ use mw_disk::{Disk, FileDisk};
 use mw_engine::{Engine, EngineBrand, EngineParts, NoHold, Pass};
 use mw_meters::Meters;
 use mw_opening::{
-    Cause, FileStates, LastErrors, MeteredFile, Notes, Opened, ReadFault, TenantsFault,
-    TrackedFile, WatchedFile, are_all_open, note_cause, open_files, open_plain, read_tenants_file,
+    Cause, FileStates, LastErrors, LockedFiles, MeteredFile, Notes, Opened, ReadFault,
+    TenantsFault, TrackedFile, WatchedFile, are_all_open, note_cause, open_files, open_plain,
+    read_tenants_file,
 };
 use mw_service::{FaultWatch, Worker};
 use mw_session::{Duplex, Ended, RecordedStream};
@@ -201,7 +202,8 @@ where
     let (errors, states) = (LastErrors::new(), FileStates::new());
     let meters = Meters::new(rt);
     let meter = counted_in(&args.mode, &meters);
-    let files = open_files(rt, notes, &lines, &errors, &states, meter)?;
+    let disks = LockedFiles::new(rt, &errors, &states, meter);
+    let files = open_files(rt.alloc(), notes, &lines, &disks)?;
     if args.strict && !are_all_open(&files) {
         return Err(ServeFault::NotAll);
     }

@@ -1,8 +1,10 @@
 -- Proves goals of `open_fitting` (src/opening.rt) that the check does not prove by itself. Used by: the proof of that function
 -- alone. It may change freely as long as this crate checks.
-use Rattle.mw_disk.specs.Unknown.{unknown}
-use Rattle.mw_opening.proofs.DisksOpened.{on_some_disk}
+use Rattle.std.proofs.Common.{subst}
+use Rattle.mw_opening.proofs.DisksOpened.{of_line}
 use Rattle.mw_opening.proofs.opening.open_fitting.Goals as goal
 
 pub returns-clause-opened : goal.returns-clause-opened
-returns-clause-opened g c = on_some_disk (λ disk. unknown disk.faults) (λ _ _ _ _. Unit {0}) c.new-3.result c.open_synced.result c.open_synced.ensures.opened
+returns-clause-opened g c =
+    of_line g.P.Device.Disk.facts g.P.Device.Disk.made g.P.OpensDisks.is_over c.args.line.now c.in_ok-disk.disk c.open_synced.result
+    (subst (λ path. g.P.OpensDisks.is_over path c.in_ok-disk.disk) c.as_str.ensures.value c.in_ok-disk.ensures) c.open_synced.ensures.opened

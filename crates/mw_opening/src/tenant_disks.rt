@@ -1,0 +1,140 @@
+//! Opens the disks of the tenants' files: what [`open_files`](crate::open_files) needs of whoever opens them, and the
+//! system's files, each under a lock.
+//!
+//! Used by: `opening`; mw_programs makes the [`LockedFiles`] of a server. A change of what [`OpensDisks`] promises changes
+//! what is known of the files that a server opens.
+ghost use Rattle.std.specs.Prelude.{◌<◌, ℕ, List, IfOk};
+ghost use Rattle.mw_words.specs.declared.limits.TheConstants.{MAX_TENANTS};
+
+use crate::file_fault::FileFault;
+use crate::file_state::FileStates;
+use crate::metered_file::MeteredFile;
+use crate::tracked_file::TrackedFile;
+use crate::watched_file::{LastError, LastErrors, WatchedFile};
+use mw_disk::{Disk, FileDisk};
+use mw_file::TenantFile;
+use mw_meters::Meters;
+use mw_metrics::TenantCounters;
+use mw_words::MAX_TENANTS;
+use std::fs::{File, OpenOptions, TryLockError};
+use std::io;
+use std::os::fd::AsRawFd;
+use std::rt::Files;
+use std::time::Clock;
+
+/// Opens the disks of the tenants' files.
+pub trait OpensDisks {
+    /// A disk over a file.
+    type Device: Disk + Drop;
+
+    // The disk is over the file at this path, which is given by its bytes. A new one says here what it knows of its disks.
+    ghost is_over: { List ℕ → Self.Device → Type 0 };
+
+    /// Opens the file at this path for the tenant of this number, and gives a disk over it.
+    ///
+    /// # Errors
+    ///
+    /// As [`FileFault`] tells.
+    fn open(&self, tenant: usize, path: &str) -> Result<Self::Device, FileFault>
+        requires { tenant < MAX_TENANTS }
+        ensures { IfOk result (λ disk. is_over path.now disk) };
+
+    /// Gives what keeps the last error of the file of the tenant of this number.
+    fn last_error(&self, tenant: usize) -> &LastError
+        requires { tenant < MAX_TENANTS };
+}
+
+/// The disk of a tenant's file: it keeps the last error, which file it is, and how long its calls took. `R` is the clock.
+pub type TenantDisk<'a, R> = FileDisk<WatchedFile<'a, TrackedFile<'a, MeteredFile<'a, File, R>>>>;
+
+/// A tenant's file, and the words that it had when it was opened.
+pub type Opened<'a, R> = (TenantFile<TenantDisk<'a, R>>, Vec<u64>);
+
+/// Opens files of the system, each under a lock. What is known of each is kept in the errors and the states. The meters, if
+/// there are any, count the calls of each file.
+#[derive(Drop)]
+pub struct LockedFiles<'a, R> {
+    rt: &'a R,
+    errors: &'a LastErrors,
+    states: &'a FileStates,
+    meters: Option<&'a Meters>,
+}
+
+impl<'a, R> LockedFiles<'a, R> {
+    /// Makes what opens the files.
+    pub fn new(
+        rt: &'a R,
+        errors: &'a LastErrors,
+        states: &'a FileStates,
+        meters: Option<&'a Meters>,
+    ) -> Self {
+        LockedFiles {
+            rt,
+            errors,
+            states,
+            meters,
+        }
+    }
+
+    /// Gives what counts the calls of the file of the tenant of this number, if they are counted.
+    fn counters_of(&self, tenant: usize) -> Option<&'a TenantCounters>
+        requires { tenant < MAX_TENANTS }
+    {
+        match self.meters {
+            Some(meters) => Some(meters.tenant(tenant)),
+            None => None,
+        }
+    }
+}
+
+impl<'a, R: Files<File = File> + Clock> OpensDisks for LockedFiles<'a, R> {
+    type Device = TenantDisk<'a, R>;
+
+    // No contract of the library says of which path a file is.
+    ghost is_over = { λ _ _. Unit {0} };
+
+    fn open(&self, tenant: usize, path: &str) -> Result<TenantDisk<'a, R>, FileFault> {
+        let file = open_locked(self.rt, path)?;
+        let file = MeteredFile::new(file, self.rt, self.counters_of(tenant));
+        let file = TrackedFile::new(file, self.states.of(tenant));
+        Ok(FileDisk::new(WatchedFile::new(file, self.errors.of(tenant))))
+    }
+
+    fn last_error(&self, tenant: usize) -> &LastError {
+        self.errors.of(tenant)
+    }
+}
+
+/// Opens a file for reading and writing, locks it, and has the system drop its copies of it. The lock is held until the
+/// file is closed.
+///
+/// # Errors
+///
+/// [`FileFault::InUse`] if another opening has the lock. [`FileFault::Disk`] if the file can't be opened, its file
+/// system has no locks, or the system refuses to drop its copies.
+fn open_locked<R: Files<File = File>>(rt: &R, path: &str) -> Result<File, FileFault> {
+    let mut options = OpenOptions::new();
+    options.read(true).write(true);
+    let file = match options.open(rt, path) {
+        Ok(file) => file,
+        Err(error) => return Err(FileFault::Disk(Some(error))),
+    };
+    match file.try_lock() {
+        Ok(()) => dropped_copies(file),
+        Err(TryLockError::WouldBlock) => Err(FileFault::InUse),
+        Err(TryLockError::Error(error)) => Err(FileFault::Disk(Some(error))),
+    }
+}
+
+/// Has the system drop its copies of a file's pages, but of those that it must still write, and gives the file back.
+/// After a sync that failed, a copy may have bytes that the disk doesn't, and a read gives these until it is dropped.
+///
+/// # Errors
+///
+/// [`FileFault::Disk`] if the system refuses.
+fn dropped_copies(file: File) -> Result<File, FileFault> {
+    match libc::posix_fadvise(file.as_raw_fd(), 0, 0, libc::POSIX_FADV_DONTNEED) {
+        0 => Ok(file),
+        code => Err(FileFault::Disk(Some(io::Error::from_raw_os_error(code)))),
+    }
+}
