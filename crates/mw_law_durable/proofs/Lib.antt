@@ -1,4 +1,5 @@
 pub mod AskedRequests
 pub mod DurableLaws
+pub mod EngineStarts
 pub mod FoundChanges
 pub mod Stakes

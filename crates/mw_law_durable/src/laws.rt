@@ -3,7 +3,7 @@
 //!
 //! No code calls them. A change of a contract here changes a theorem.
 ghost use Rattle.mw_law_durable.specs.Durable.{CallsKeepChanges, CallsLeaveWholeChanges, CallsLeaveWhollyOrNot, MomentsKeepChanges, MomentsLeaveWholeChanges, MomentsLeaveWholeChangesInACall, MomentsLeaveWhollyOrNot};
-ghost use Rattle.mw_law_durable.specs.Starts.{StartsFindChanges};
+ghost use Rattle.mw_law_durable.specs.Starts.{EnginesStartWithChanges, StartsFindChanges};
 
 use mw_disk::Disk;
 use mw_rule::Begins;
@@ -50,4 +50,14 @@ pub fn every_moment_keeps_changes<B: Begins, D: Disk>()
 /// changes that the start finds. If the opening fails, it found no damage.
 pub fn starts_find_changes<D: Disk, E: Disk>()
     ensures { StartsFindChanges D.facts E.facts }
+{}
+
+/// An engine starts with what a crash left. `EngineParts::new` of mw_engine makes it of the tenants' lines and of their
+/// opened files.
+///
+/// A file that opened well gives the engine's start the words that the opening found. By [`starts_find_changes`] these are
+/// the words of the start before with all changes put over them that were sealed since, or these with the one at stake. So
+/// a change that was answered YES before the crash is among the words from which the engine's history begins.
+pub fn engines_start_with_changes<D: Disk, E: Disk>()
+    ensures { EnginesStartWithChanges D.facts E.facts }
 {}

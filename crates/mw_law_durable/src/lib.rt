@@ -11,6 +11,7 @@
 //!   rule, and during the next call on that file, whoever makes it. The changes are those of the one run of the world that
 //!   ties the shared words to the model. It is the run in which mw_law_history finds all replies.
 //! - [`starts_find_changes`]: a start that opens what such a crash left finds these changes. `specs/Starts` defines that.
+//! - [`engines_start_with_changes`]: an engine that is made of what was opened so starts with these changes.
 //!
 //! Not said:
 //!
@@ -31,4 +32,6 @@
 
 mod laws;
 
-pub use laws::{calls_keep_changes, every_moment_keeps_changes, starts_find_changes};
+pub use laws::{
+    calls_keep_changes, engines_start_with_changes, every_moment_keeps_changes, starts_find_changes,
+};
