@@ -27,6 +27,7 @@ told_otherwise reads new_reads writes new_writes Asked Told ended tell holds = r
   text = holds.text;
   is_read = holds.is_read;
   are_lines = holds.are_lines;
+  runs_out = holds.runs_out;
   is_heard = holds.is_heard;
   is_asked = tell holds.calls holds.is_asked;
   is_written = holds.is_written;

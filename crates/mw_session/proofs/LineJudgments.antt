@@ -1,6 +1,6 @@
 -- What the reader, the feed and `read_line` answer gives the facts that a session's contracts need.
 -- Used by: the proofs of step_at, Session::answer and Session::run. It may change freely as long as this crate checks.
-use Rattle.std.proofs.Common.{◌≡◌, ◌==◌, ℕ, false, cond, List, [], ◌∷◌, take, Option, None, Result, Ok, Err, OnOk, slice_get, refl, sym, ap, ◌∙◌, subst}
+use Rattle.std.proofs.Common.{◌≡◌, ◌==◌, ℕ, zero, suc, false, ◌<◌, length, cond, List, [], ◌∷◌, take, Option, None, Result, Ok, Err, OnOk, slice_get, refl, sym, ap, ◌∙◌, arith, subst}
 use Rattle.std.specs.Result.{is_err}
 use Rattle.mw_session.specs.StreamRecords.{ReadRecord, WriteRecord, reads_after, with_end, with_read, with_read_fault}
 use Rattle.arrayvec.specs.ArrayVec.{ArrayVec}
@@ -52,9 +52,13 @@ pub read_some : {E : Type 0} (a b : ReadRecord) (r : Result ℕ E) (n : ℕ) (bu
 read_some {E} a b r n buf is some h =
     h ∙ ap (λ (x : Result ℕ E). reads_after a x buf) is ∙ ap (λ test. cond test (with_end a) (with_read a (take n buf))) some
 
+pub some_read : (n : ℕ) (buf : List ℕ) → n ≡ length (take n buf) → (n == 0) ≡ false → 0 < length (take n buf)
+some_read zero buf whole some = absurd (cc some)
+some_read (suc n) buf whole some = omega (arith, whole)
+
 pub read_end : {E : Type 0} (a b : ReadRecord) (r : Result ℕ E) (n : ℕ) (buf : List ℕ) → r ≡ Ok n → n ≡ 0 → b ≡ reads_after a r buf → b ≡ with_end a
-read_end {E} a b r n buf is zero h =
-    h ∙ ap (λ (x : Result ℕ E). reads_after a x buf) is ∙ ap (λ i. cond (i == 0) (with_end a) (with_read a (take i buf))) zero
+read_end {E} a b r n buf is none h =
+    h ∙ ap (λ (x : Result ℕ E). reads_after a x buf) is ∙ ap (λ i. cond (i == 0) (with_end a) (with_read a (take i buf))) none
 
 pub read_failed : {E : Type 0} (a b : ReadRecord) (r : Result ℕ E) (e : E) (buf : List ℕ) → r ≡ Err e → b ≡ reads_after a r buf → b ≡ with_read_fault a
 read_failed {E} a b r e buf is h = h ∙ ap (λ (x : Result ℕ E). reads_after a x buf) is

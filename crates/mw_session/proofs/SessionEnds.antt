@@ -1,6 +1,6 @@
 -- A session between two reads goes on to the next read, or ends as `specs/WholeSessions` says.
 -- Used by: the proof of Session::run. It may change freely as long as this crate checks.
-use Rattle.std.proofs.Common.{◌≡◌, ℕ, ◌-◌, ◌^◌, min, List, [], ◌++◌, Err, refl, sym, ap, ◌∙◌, arith, append-nil, append_assoc, lit<}
+use Rattle.std.proofs.Common.{◌≡◌, ℕ, ◌-◌, ◌^◌, ◌<◌, min, length, List, [], ◌++◌, Err, refl, sym, ap, ◌∙◌, arith, append-nil, append_assoc, lit<}
 use Rattle.mw_session.specs.StreamRecords.{ReadRecord, WriteRecord, with_end, with_read, with_read_fault, with_write_fault}
 use Rattle.mw_frame.specs.declared.lines.Line.{Line}
 use Rattle.mw_frame.specs.Lines.{lines}
@@ -59,6 +59,7 @@ module _ (a b : WriteRecord) (Asked : List Call → Type 0) (m : ℕ) (ls : List
     text = t.sent;
     is_read = is_read;
     are_lines = cut;
+    runs_out = tt;
     is_heard = t.hears;
     is_asked = t.asked;
     is_written = t.written.wrote;
@@ -74,6 +75,7 @@ module _ (a b : WriteRecord) (Asked : List Call → Type 0) (m : ℕ) (ls : List
     text = t.sent;
     is_read = is_read;
     are_lines = cut;
+    runs_out = tt;
     is_heard = t.hears;
     is_asked = t.asked;
     is_written = t.written.wrote;
@@ -89,6 +91,7 @@ module _ (a b : WriteRecord) (Asked : List Call → Type 0) (m : ℕ) (ls : List
     text = t.sent;
     is_read = is_read;
     are_lines = cut;
+    runs_out = tt;
     is_heard = t.hears;
     is_asked = t.asked;
     is_written = w.2 ∙ ap with_write_fault t.written.wrote;
@@ -124,6 +127,7 @@ holds_nothing reads writes Asked asked = record {
   text = [];
   is_read = read_nothing reads;
   are_lines = refl;
+  runs_out = ([], [], refl, λ some. some, refl);
   is_heard = tt;
   is_asked = asked;
   is_written = written_nothing writes;
@@ -166,6 +170,7 @@ module _ (reads new_reads later_reads : ReadRecord) (writes new_writes : WriteRe
     text = t.sent;
     is_read = h ∙ ap with_end way.is_read;
     are_lines = seen_all ∙ sym (append-nil way.seen);
+    runs_out = tt;
     is_heard = t.hears;
     is_asked = t.asked;
     is_written = t.written.wrote;
@@ -183,14 +188,15 @@ module _ (reads new_reads later_reads : ReadRecord) (writes new_writes : WriteRe
     text = t.sent;
     is_read = h ∙ ap with_read_fault way.is_read;
     are_lines = seen_all ∙ sym (append-nil way.seen);
+    runs_out = tt;
     is_heard = t.hears;
     is_asked = t.asked;
     is_written = t.written.wrote;
     ends = (refl, is_talk writes new_writes Asked written way.seen bound t);
   }
 
-  pub holds_memory : (piece : List ℕ) → later_reads ≡ with_read new_reads piece → Holds reads later_reads writes new_writes Asked Memory
-  holds_memory piece h = let t = way.talked in record {
+  pub holds_memory : (piece : List ℕ) → 0 < length piece → later_reads ≡ with_read new_reads piece → Holds reads later_reads writes new_writes Asked Memory
+  holds_memory piece some h = let t = way.talked in record {
     read = way.read ++ piece;
     seen = way.seen;
     unseen = lines_of (fed feed piece);
@@ -200,6 +206,7 @@ module _ (reads new_reads later_reads : ReadRecord) (writes new_writes : WriteRe
     text = t.sent;
     is_read = read_then reads new_reads later_reads way.read piece way.is_read h;
     are_lines = way.gives piece;
+    runs_out = (way.read, piece, refl, λ given. some, seen_all);
     is_heard = t.hears;
     is_asked = t.asked;
     is_written = t.written.wrote;

@@ -47,6 +47,16 @@ EndsSo unseen heard answers text calls TooLong = EndsTalk heard answers text cal
 EndsSo unseen heard answers text calls Memory = IsTalk heard answers text calls
 EndsSo unseen heard answers text calls (WriteFault told) = (told ≡ min (length text) (2 ^ 64 - 1)) × BeginsTalk heard answers text calls
 
+-- If memory was out, it was out before the first read, or for the bytes that the last read gave. The lines that were looked at are
+-- those that were complete before these bytes.
+abbrev pub RunsOut : List ℕ → List Line → Ended → Type 0
+RunsOut read seen Memory = (before : List ℕ) × (last : List ℕ) × (read ≡ before ++ last) × (0 < length read → 0 < length last) × (lines before ≡ seen)
+RunsOut read seen PeerEnd = Unit {0}
+RunsOut read seen ReadFault = Unit {0}
+RunsOut read seen Quit = Unit {0}
+RunsOut read seen TooLong = Unit {0}
+RunsOut read seen (WriteFault told) = Unit {0}
+
 -- The record of reads when a session has ended so: one read found the end exactly at PeerEnd, and one failed exactly at ReadFault.
 abbrev pub reads_at_end : Ended → ReadRecord → ReadRecord
 reads_at_end PeerEnd reads = with_end reads
@@ -80,6 +90,7 @@ pub record Holds (reads new_reads : ReadRecord) (writes new_writes : WriteRecord
   pub text : List ℕ
   pub is_read : new_reads ≡ reads_at_end ended (with_read reads read)
   pub are_lines : lines read ≡ seen ++ unseen
+  pub runs_out : RunsOut read seen ended
   pub is_heard : HearsAll seen heard
   pub is_asked : Asked calls
   pub is_written : new_writes ≡ writes_at_end ended (with_written writes text)

@@ -7,7 +7,7 @@ use Rattle.mw_session.specs.SessionParts.{Gives}
 use Rattle.mw_session.specs.UnderWay.{UnderWay}
 use Rattle.mw_session.specs.ServiceCalls.{AreAnswered}
 use Rattle.mw_session.proofs.Agreements.{agree_nothing, tied_then}
-use Rattle.mw_session.proofs.LineJudgments.{on_ok, read_end, no_peer_end, read_failed, read_some}
+use Rattle.mw_session.proofs.LineJudgments.{on_ok, read_end, no_peer_end, read_failed, read_some, some_read}
 use Rattle.mw_session.proofs.StepOutputs.{asked_nothing, asked_then}
 use Rattle.mw_session.proofs.SessionEnds.{holds_nothing, starts, holds_peer_end, holds_read_fault, holds_memory, last_lines, more_lines}
 use Rattle.mw_session.proofs.session.Session.run.Goals as goal
@@ -69,7 +69,8 @@ returns-then-is_err-clause-holds g c =
     let piece = take c.in-Ok-read.count c.read.new.piece in
     let some : (c.in-Ok-read.count == 0) ≡ false = search rules in
     let more = read_some (reads_of before) (reads_of read) c.read.result c.in-Ok-read.count c.read.new.piece c.in-Ok-read.is some c.read.ensures.reads in
-    holds_memory (reads_of first) (reads_of before) (reads_of read) (writes_of first) (writes_of read) Asked now.feed now.bound now.written way piece more
+    holds_memory (reads_of first) (reads_of before) (reads_of read) (writes_of first) (writes_of read) Asked now.feed now.bound now.written way piece
+    (some_read c.in-Ok-read.count c.read.new.piece c.in-Ok-read.ensures.bound.1 some) more
 
 pub returns-then-is_err-clause-tied : goal.returns-then-is_err-clause-tied
 returns-then-is_err-clause-tied g c =
