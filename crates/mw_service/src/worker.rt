@@ -5,6 +5,7 @@
 ghost use Rattle.std.specs.Prelude.{◌≡◌, true};
 ghost use Rattle.std.specs.Io.KnownBytes.{IsAtEnd};
 ghost use Rattle.mw_session.specs.KnownStreams.{IsTied, inner_of, reads_of, writes_of};
+ghost use Rattle.mw_session.specs.RecordedCalls.{HasMade};
 ghost use Rattle.mw_session.specs.declared.session.Ended.TheVariants.{PeerEnd};
 ghost use Rattle.mw_engine.specs.Passes.{IsPassOf};
 ghost use Rattle.mw_service.specs.Served.{IsSession};
@@ -59,6 +60,7 @@ impl<J: EngineBrand, D: Disk + Drop, H: Hold + Drop, R: Wait, T: FaultWatch> Wor
         ensures session { IsSession J.identity (reads_of stream.old) (reads_of stream.new) (writes_of stream.old) (writes_of stream.new)
             self.old.pass self.new.pass result }
         ensures tied { IsTied I.remaining I.contents stream.old stream.new }
+        ensures made { HasMade I.called stream.old stream.new }
         ensures at_end { result ≡ PeerEnd → IsAtEnd (I.remaining (inner_of stream.new)) }
     {
         let rt = self.rt;

@@ -7,4 +7,5 @@ pub mod SessionEnds
 pub mod LineJudgments
 pub mod LinesHeard
 mod Agreements
+mod CallsMade
 mod Fieldless

@@ -5,6 +5,8 @@ pub mod Lines
 pub mod StepOfLine
 pub mod StreamRecords
 pub mod KnownStreams
+pub mod PeerCalls
+pub mod RecordedCalls
 pub mod SessionParts
 pub mod WholeSessions
 pub mod UnderWay

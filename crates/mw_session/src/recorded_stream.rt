@@ -1,14 +1,14 @@
 //! Owns a peer's stream, and records what is read from it and written to it.
 //!
 //! Nothing else reads or writes the stream: its fields are private, and a record is only made here, empty. So what a
-//! contract says of the record, it says of the calls made here. That each is recorded as it ended is what
-//! [`RecordedStream::read`] and [`RecordedStream::write`] promise; that a fault is the stream's, and bytes that its own
-//! contract doesn't tell, is to be read in their bodies.
+//! contract says of the record, it says of the calls made here. Each of them makes one call of the stream and gives its
+//! outcome: the same bytes, or the same error (`called`). [`RecordedStream::read`] and [`RecordedStream::write`] record just that.
 ghost use Rattle.std.specs.Prelude.{◌≡◌, ◌<◌, length, IfOk};
 ghost use Rattle.std.specs.Io.{ReadsAtMost, WritesAtMost};
 ghost use Rattle.std.specs.Io.KnownBytes.{IsAtEnd};
 ghost use Rattle.mw_session.specs.StreamRecords.{no_reads, no_writes, reads_after, writes_after};
 ghost use Rattle.mw_session.specs.KnownStreams.{IsTied, inner_of, reads_of, writes_of};
+ghost use Rattle.mw_session.specs.PeerCalls.{Reads, Writes, EndsWriting};
 
 use crate::stream::{Others, PeerStream};
 use crate::stream_call::{Block, StreamCall};
@@ -53,6 +53,7 @@ impl<T: PeerStream> RecordedStream<T> {
         ensures reads { reads_of self.new ≡ reads_after (reads_of self.old) result piece.new }
         ensures writes { writes_of self.new ≡ writes_of self.old }
         ensures tied { IsTied T.remaining T.contents self.old self.new }
+        ensures called { T.called (inner_of self.old) (Reads piece.new result) (inner_of self.new) }
         ensures at_end { IfOk result (λ count. count ≡ 0 → IsAtEnd (T.remaining (inner_of self.new))) }
     {
         match self.inner.read(rt, others, piece) {
@@ -89,6 +90,7 @@ impl<T: PeerStream> RecordedStream<T> {
         ensures reads { reads_of self.new ≡ reads_of self.old }
         ensures writes { writes_of self.new ≡ writes_after (writes_of self.old) result text.now }
         ensures tied { IsTied T.remaining T.contents self.old self.new }
+        ensures called { T.called (inner_of self.old) (Writes text.now result) (inner_of self.new) }
     {
         match self.inner.write(rt, others, text) {
             Ok(0) => {
@@ -116,6 +118,7 @@ impl<T: PeerStream> RecordedStream<T> {
         ensures reads { reads_of self.new ≡ reads_of self.old }
         ensures writes { writes_of self.new ≡ writes_of self.old }
         ensures tied { IsTied T.remaining T.contents self.old self.new }
+        ensures called { T.called (inner_of self.old) (EndsWriting result) (inner_of self.new) }
     {
         self.inner.end_writing()
     }

@@ -1,13 +1,14 @@
 //! Runs one session: reads the client's bytes, and answers the lines that have come.
 //!
-//! mw_workers calls [`Session::run`] for each connection, and mw_service for a script. `specs/WholeSessions` says
-//! what it promises; the loop may change with `specs/UnderWay` and `specs/SessionParts`. README and docs/PROMISES
-//! cite `Session::run`.
+//! mw_workers calls [`Session::run`] for each connection, and mw_service for a script. `specs/WholeSessions` says what it
+//! promises, and `specs/RecordedCalls` of which calls of the stream. The loop may change with `specs/UnderWay` and
+//! `specs/SessionParts`. README and docs/PROMISES cite `Session::run`.
 ghost use Rattle.std.specs.Prelude.{◌≡◌, [], ◌∷◌, List, OnOk};
 ghost use Rattle.std.specs.Io.KnownBytes.{IsAtEnd};
 ghost use Rattle.mw_frame.specs.declared.lines.Line.{Line as LineRead};
 ghost use Rattle.mw_frame.specs.Stream.{lines_of};
 ghost use Rattle.mw_session.specs.KnownStreams.{IsTied, inner_of, reads_of, writes_of};
+ghost use Rattle.mw_session.specs.RecordedCalls.{HasMade};
 ghost use Rattle.mw_session.specs.SessionParts.{Gives, Turned};
 ghost use Rattle.mw_session.specs.ServiceCalls.{AreAnswered, IsServed};
 ghost use Rattle.mw_session.specs.WholeSessions.{Holds};
@@ -69,6 +70,7 @@ impl Session {
         ensures holds { Holds (reads_of stream.old) (reads_of stream.new) (writes_of stream.old) (writes_of stream.new)
             (AreAnswered S.answered service.old service.new) result }
         ensures tied { IsTied T.remaining T.contents stream.old stream.new }
+        ensures made { HasMade T.called stream.old stream.new }
         ensures at_end { result ≡ PeerEnd → IsAtEnd (T.remaining (inner_of stream.new)) }
     {
         let Ok(feed) = Feed::new(alloc) else {
@@ -111,6 +113,7 @@ impl Session {
             self.old.written self.new.written lines self.old.bound self.new.bound result }
         ensures reads { reads_of stream.new ≡ reads_of stream.old }
         ensures tied { IsTied T.remaining T.contents stream.old stream.new }
+        ensures made { HasMade T.called stream.old stream.new }
         ensures all { OnOk result (lines_of self.new.feed ≡ []) }
         ensures served { OnOk result (IsServed (S.has_words service.new) self.new.bound) }
     {
@@ -137,6 +140,7 @@ impl Session {
             self.old.written self.new.written (line.now ∷ []) self.old.bound self.new.bound result }
         ensures reads { reads_of stream.new ≡ reads_of stream.old }
         ensures tied { IsTied T.remaining T.contents stream.old stream.new }
+        ensures made { HasMade T.called stream.old stream.new }
         ensures served { IsServed (S.has_words service.new) self.new.bound }
         ensures feed { self.new.feed ≡ self.old.feed }
     {

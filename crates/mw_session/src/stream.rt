@@ -6,6 +6,7 @@
 ghost use Rattle.std.specs.Prelude.{ℕ, List, Option};
 ghost use Rattle.std.specs.Io.{ReadsAtMost, WritesAtMost};
 ghost use Rattle.std.specs.Io.KnownBytes.{Keeps, ReadConsumes, WriteAppends};
+ghost use Rattle.mw_session.specs.PeerCalls.{PeerCall, Reads, Writes, EndsWriting, IsCallOfDuplex};
 
 use std::io;
 use std::io::{Read, Write};
@@ -44,6 +45,10 @@ pub trait PeerStream {
     // The bytes that writes have taken, where they are known.
     ghost contents: { Self → Option (List ℕ) };
 
+    // A call with its outcome leads from one state of the stream to another: what the stream tells of its calls. By default
+    // it tells nothing more than the clauses below.
+    ghost called: { Self → PeerCall → Self → Type 0 } = { λ _ _ _. Unit {0} };
+
     /// Reads bytes into the piece, and gives their number: 0 if no more come, or the piece has no room. It may wait for
     /// ever; it may also end its wait if others wait.
     ///
@@ -58,7 +63,8 @@ pub trait PeerStream {
     ) -> io::Result<usize>
         ensures bound { ReadsAtMost result piece.new }
         ensures bytes { ReadConsumes (remaining self.old) (remaining self.new) result piece.new }
-        ensures contents { Keeps (contents self.old) (contents self.new) };
+        ensures contents { Keeps (contents self.old) (contents self.new) }
+        ensures called { called self.old (Reads piece.new result) self.new };
 
     /// Writes a first part of the text, and gives the number of its bytes. It may wait as a read does.
     ///
@@ -68,7 +74,8 @@ pub trait PeerStream {
     fn write<R: Wait, O: Others>(&mut self, rt: &R, others: &O, text: &[u8]) -> io::Result<usize>
         ensures bound { WritesAtMost result text.now }
         ensures bytes { WriteAppends (contents self.old) (contents self.new) result text.now }
-        ensures remaining { Keeps (remaining self.old) (remaining self.new) };
+        ensures remaining { Keeps (remaining self.old) (remaining self.new) }
+        ensures called { called self.old (Writes text.now result) self.new };
 
     /// Tells the peer that it is told no more. Reads that follow wait for what the peer still sends, not for long.
     ///
@@ -77,10 +84,13 @@ pub trait PeerStream {
     /// The system refuses.
     fn end_writing(&mut self) -> io::Result<()>
         ensures contents { Keeps (contents self.old) (contents self.new) }
-        ensures remaining { Keeps (remaining self.old) (remaining self.new) };
+        ensures remaining { Keeps (remaining self.old) (remaining self.new) }
+        ensures called { called self.old (EndsWriting result) self.new };
 }
 
-/// A stream of a reader and a writer. It waits as they do, whoever else waits.
+/// A stream of a reader and a writer. It waits as they do, whoever else waits. The end of the writing goes well, and nobody is
+/// told of it. The library's traits tell of no read or write why it failed, so no contract says that these calls fail exactly
+/// if the reader or the writer fails.
 #[derive(Drop)]
 pub struct Duplex<I, O> {
     pub reader: I,
@@ -91,6 +101,8 @@ impl<I: Read, O: Write> PeerStream for Duplex<I, O> {
     ghost remaining = { λ d. I.remaining d.reader };
 
     ghost contents = { λ d. O.contents d.writer };
+
+    ghost called = { IsCallOfDuplex };
 
     #[tactic(auto, using(crate::proofs::Agreements::keeps_same))]
     fn read<R: Wait, P: Others>(

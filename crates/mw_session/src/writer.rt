@@ -4,6 +4,7 @@
 //! failed. It may change freely as long as this crate checks.
 ghost use Rattle.std.specs.Prelude.{◌≡◌};
 ghost use Rattle.mw_session.specs.KnownStreams.{IsTied, reads_of, writes_of};
+ghost use Rattle.mw_session.specs.RecordedCalls.{HasMade};
 ghost use Rattle.mw_session.specs.SessionParts.{Writes};
 
 use crate::recorded_stream::RecordedStream;
@@ -28,6 +29,7 @@ pub fn write_counted<T: PeerStream, R: Wait, O: Others>(
     ensures writes { Writes (writes_of stream.old) (writes_of stream.new) count.old count.new text.now result }
     ensures reads { reads_of stream.new ≡ reads_of stream.old }
     ensures tied { IsTied T.remaining T.contents stream.old stream.new }
+    ensures made { HasMade T.called stream.old stream.new }
 {
     let mut rest = text;
     while !rest.is_empty() {

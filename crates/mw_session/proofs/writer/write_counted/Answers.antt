@@ -4,6 +4,7 @@ use Rattle.std.proofs.Common.{◌≡◌, ◌==◌, false, rules, sym, subst, ◌
 use Rattle.mw_session.specs.KnownStreams.{inner_of, reads_of, writes_of}
 use Rattle.mw_session.specs.StreamRecords.{with_written}
 use Rattle.mw_session.proofs.Agreements.{agree_nothing, tied_then}
+use Rattle.mw_session.proofs.CallsMade.{made_nothing, made_then, made_write}
 use Rattle.mw_session.proofs.WrittenTexts.{sending_more, sending_starts, write_fits, write_takes}
 use Rattle.mw_session.proofs.writer.write_counted.Goals as goal
 
@@ -15,6 +16,7 @@ loop-rest-init g c =
       sending = sending_starts (writes_of s) c.args.count.now c.args.text.now;
       reads = refl;
       tied = agree_nothing (T.remaining (inner_of s)) (T.contents (inner_of s)) (reads_of s) (writes_of s);
+      made = made_nothing T.called s;
     }
 
 pub loop-rest-preserved : goal.loop-rest-preserved
@@ -34,9 +36,19 @@ loop-rest-preserved g c =
           c.saturating_add.ensures;
       reads = c.write.ensures.reads ∙ c.loop-rest.invariant.reads;
       tied = tied_then T.remaining T.contents c.args.stream.now before after c.loop-rest.invariant.tied c.write.ensures.tied;
+      made = made_then T.called c.args.stream.now before after c.loop-rest.invariant.made
+          (made_write T.called before after rest c.write.result c.write.ensures.called c.write.ensures.reads c.write.ensures.writes);
     }
 
 pub returns-then-taken-eq0-clause-tied : goal.returns-then-taken-eq0-clause-tied
 returns-then-taken-eq0-clause-tied g c =
     let T = g.T.PeerStream in
     tied_then T.remaining T.contents c.args.stream.now c.loop-rest.stream c.write.new.self c.loop-rest.invariant.tied c.write.ensures.tied
+
+pub returns-then-taken-eq0-clause-made : goal.returns-then-taken-eq0-clause-made
+returns-then-taken-eq0-clause-made g c =
+    let T = g.T.PeerStream in
+    let before = c.loop-rest.stream in
+    let after = c.write.new.self in
+    made_then T.called c.args.stream.now before after c.loop-rest.invariant.made
+    (made_write T.called before after c.loop-rest.rest.now c.write.result c.write.ensures.called c.write.ensures.reads c.write.ensures.writes)

@@ -2,6 +2,7 @@
 -- alone. It may change freely as long as this crate checks.
 use Rattle.std.proofs.Common.{◌≡◌, length}
 use Rattle.mw_session.specs.SessionParts.{Sending}
+use Rattle.mw_session.specs.RecordedCalls.{HasMade}
 use Rattle.mw_session.specs.KnownStreams.{IsTied, reads_of, writes_of}
 use Rattle.mw_session.proofs.writer.write_counted.Given as goal
 
@@ -13,6 +14,7 @@ invariant-loop-rest g l =
       sending : Sending (writes_of l.initial.stream) (writes_of l.stream) l.initial.count l.count l.text l.rest;
       reads : reads_of l.stream ≡ reads_of l.initial.stream;
       tied : IsTied T.remaining T.contents l.initial.stream l.stream;
+      made : HasMade T.called l.initial.stream l.stream;
     }
 
 abbrev pub decreases-loop-rest : goal.decreases-loop-rest

@@ -5,6 +5,7 @@ use Rattle.mw_session.specs.KnownStreams.{inner_of, reads_of, writes_of}
 use Rattle.mw_session.specs.SessionParts.{Gives}
 use Rattle.mw_session.specs.ServiceCalls.{AreAnswered}
 use Rattle.mw_session.proofs.Agreements.{agree_nothing, tied_then}
+use Rattle.mw_session.proofs.CallsMade.{made_nothing, made_then}
 use Rattle.mw_session.proofs.LineJudgments.{none_left, turned_ok}
 use Rattle.mw_session.proofs.StepOutputs.{asked_nothing, asked_then}
 use Rattle.mw_session.proofs.AnsweredLines.{fewer_lines, gives_then, spoken_more, spoken_nothing, turned_then}
@@ -21,6 +22,7 @@ loop-line-init g c =
       spoken = spoken_nothing (writes_of c.args.stream.now) (AreAnswered s.answered now now) old.written old.feed old.bound (asked_nothing s.answered now);
       reads = refl;
       tied = agree_nothing (T.remaining (inner_of stream)) (T.contents (inner_of stream)) (reads_of stream) (writes_of stream);
+      made = made_nothing T.called stream;
       served = c.requires;
     }
 
@@ -52,6 +54,7 @@ loop-line-preserved g c =
           (sym c.is_err.ensures.value ∙ c.if-is_err.false) a.ensures.turned);
       reads = a.ensures.reads ∙ c.loop-line.invariant.reads;
       tied = tied_then T.remaining T.contents c.args.stream.now c.loop-line.stream a.new.stream c.loop-line.invariant.tied a.ensures.tied;
+      made = made_then T.called c.args.stream.now c.loop-line.stream a.new.stream c.loop-line.invariant.made a.ensures.made;
       served = a.ensures.served;
     }
 
@@ -83,3 +86,9 @@ returns-then-is_err-clause-tied g c =
     let T = g.T.PeerStream in
     let a = c.answer-answered in
     tied_then T.remaining T.contents c.args.stream.now c.loop-line.stream a.new.stream c.loop-line.invariant.tied a.ensures.tied
+
+pub returns-then-is_err-clause-made : goal.returns-then-is_err-clause-made
+returns-then-is_err-clause-made g c =
+    let T = g.T.PeerStream in
+    let a = c.answer-answered in
+    made_then T.called c.args.stream.now c.loop-line.stream a.new.stream c.loop-line.invariant.made a.ensures.made

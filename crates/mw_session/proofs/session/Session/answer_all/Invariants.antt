@@ -3,6 +3,7 @@
 use Rattle.std.proofs.Common.{◌≡◌, length}
 use Rattle.mw_frame.specs.Stream.{lines_of}
 use Rattle.mw_session.specs.KnownStreams.{IsTied, reads_of, writes_of}
+use Rattle.mw_session.specs.RecordedCalls.{HasMade}
 use Rattle.mw_session.specs.SessionParts.{Spoken}
 use Rattle.mw_session.specs.ServiceCalls.{AreAnswered, IsServed}
 use Rattle.mw_session.proofs.session.Session.answer_all.Given as goal
@@ -17,6 +18,7 @@ invariant-loop-line g l =
           l.initial.self.written l.self.written l.initial.self.feed l.self.feed l.initial.self.bound l.self.bound;
       reads : reads_of l.stream ≡ reads_of l.initial.stream;
       tied : IsTied T.remaining T.contents l.initial.stream l.stream;
+      made : HasMade T.called l.initial.stream l.stream;
       served : IsServed (s.has_words l.service) l.self.bound;
     }
 

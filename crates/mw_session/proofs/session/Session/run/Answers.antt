@@ -7,6 +7,7 @@ use Rattle.mw_session.specs.SessionParts.{Gives}
 use Rattle.mw_session.specs.UnderWay.{UnderWay}
 use Rattle.mw_session.specs.ServiceCalls.{AreAnswered}
 use Rattle.mw_session.proofs.Agreements.{agree_nothing, tied_then}
+use Rattle.mw_session.proofs.CallsMade.{made_nothing, made_read, made_then}
 use Rattle.mw_session.proofs.LineJudgments.{on_ok, read_end, no_peer_end, read_failed, read_some, some_read}
 use Rattle.mw_session.proofs.StepOutputs.{asked_nothing, asked_then}
 use Rattle.mw_session.proofs.SessionEnds.{holds_nothing, starts, holds_peer_end, holds_read_fault, holds_memory, last_lines, more_lines}
@@ -21,6 +22,7 @@ loop-init g c =
     record {
       way = starts (reads_of stream) (writes_of stream) (AreAnswered s.answered now now) c.in-Ok.feed c.in-Ok.ensures (asked_nothing s.answered now);
       tied = agree_nothing (T.remaining (inner_of stream)) (T.contents (inner_of stream)) (reads_of stream) (writes_of stream);
+      made = made_nothing T.called stream;
       served = tt;
     }
 
@@ -140,6 +142,7 @@ loop-preserved g c =
           (subst (λ f. Gives f told.0 after.feed) (on_ok c.feed.result c.feed.new.self (fed now.feed piece) (sym c.is_err.ensures.value ∙ c.if-is_err.false) c.feed.ensures.ok) told.1)
           told.2 c.in_default-answer_all.ensures.all;
       tied = tied_then T.remaining T.contents first read last (tied_then T.remaining T.contents first before read c.loop.invariant.tied c.read.ensures.tied) c.answer_all.ensures.tied;
+      made = made_then T.called first read last (made_then T.called first before read c.loop.invariant.made (made_read T.called before read c.read.new.piece c.read.result c.read.ensures.called c.read.ensures.reads c.read.ensures.writes)) c.answer_all.ensures.made;
       served = c.in_default-answer_all.ensures.served;
     }
 
@@ -159,3 +162,39 @@ pub returns-in-Err-clause-tied : goal.returns-in-Err-clause-tied
 returns-in-Err-clause-tied g c =
     let T = g.T.PeerStream in
     tied_then T.remaining T.contents c.args.stream.now c.loop.stream c.read.new.self c.loop.invariant.tied c.read.ensures.tied
+
+pub returns-in_default-clause-made : goal.returns-in_default-clause-made
+returns-in_default-clause-made g c = made_nothing g.T.PeerStream.called c.args.stream.now
+
+pub returns-in-Ok-eq0-clause-made : goal.returns-in-Ok-eq0-clause-made
+returns-in-Ok-eq0-clause-made g c =
+    let T = g.T.PeerStream in
+    let before = c.loop.stream in
+    let read = c.read.new.self in
+    made_then T.called c.args.stream.now before read c.loop.invariant.made
+    (made_read T.called before read c.read.new.piece c.read.result c.read.ensures.called c.read.ensures.reads c.read.ensures.writes)
+
+pub returns-then-is_err-clause-made : goal.returns-then-is_err-clause-made
+returns-then-is_err-clause-made g c =
+    let T = g.T.PeerStream in
+    let before = c.loop.stream in
+    let read = c.read.new.self in
+    made_then T.called c.args.stream.now before read c.loop.invariant.made
+    (made_read T.called before read c.read.new.piece c.read.result c.read.ensures.called c.read.ensures.reads c.read.ensures.writes)
+
+pub returns-in-Err-clause-made : goal.returns-in-Err-clause-made
+returns-in-Err-clause-made g c =
+    let T = g.T.PeerStream in
+    let before = c.loop.stream in
+    let read = c.read.new.self in
+    made_then T.called c.args.stream.now before read c.loop.invariant.made
+    (made_read T.called before read c.read.new.piece c.read.result c.read.ensures.called c.read.ensures.reads c.read.ensures.writes)
+
+pub returns-in-Err-answer_all-clause-made : goal.returns-in-Err-answer_all-clause-made
+returns-in-Err-answer_all-clause-made g c =
+    let T = g.T.PeerStream in
+    let before = c.loop.stream in
+    let read = c.read.new.self in
+    made_then T.called c.args.stream.now read c.answer_all.new.stream
+    (made_then T.called c.args.stream.now before read c.loop.invariant.made
+    (made_read T.called before read c.read.new.piece c.read.result c.read.ensures.called c.read.ensures.reads c.read.ensures.writes)) c.answer_all.ensures.made

@@ -1,6 +1,7 @@
 -- States what stays true from turn to turn in the loops of `Session::run` (src/session.rt). Used by: the proof of that function
 -- alone. It may change freely as long as this crate checks.
 use Rattle.mw_session.specs.KnownStreams.{IsTied, reads_of, writes_of}
+use Rattle.mw_session.specs.RecordedCalls.{HasMade}
 use Rattle.mw_session.specs.ServiceCalls.{AreAnswered, IsServed}
 use Rattle.mw_session.specs.UnderWay.{UnderWay}
 use Rattle.mw_session.proofs.session.Session.run.Given as goal
@@ -14,5 +15,6 @@ invariant-loop g l =
       way : UnderWay (reads_of l.initial.stream) (reads_of l.stream) (writes_of l.initial.stream) (writes_of l.stream) (AreAnswered s.answered l.initial.service l.service)
           l.session.feed l.session.bound l.session.written;
       tied : IsTied T.remaining T.contents l.initial.stream l.stream;
+      made : HasMade T.called l.initial.stream l.stream;
       served : IsServed (s.has_words l.service) l.session.bound;
     }
