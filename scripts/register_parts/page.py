@@ -61,8 +61,7 @@ a round that began before the last plant is right too: an open change's held wor
         "## What `rt plant` lets through",
         """
 Counts of single runs; some crates have changed since. Refused, and none survived: mw_words 71, mw_pool 28, mw_look 23,
-mw_actor 123, mw_plain 35, mw_core 11, mw_simulator 20, mw_lone 83, mw_line 40, mw_record 48, mw_report 3, mw_session 22,
-mw_file 52.
+mw_actor 123, mw_plain 35, mw_core 11, mw_simulator 20, mw_lone 83, mw_line 40, mw_record 48, mw_report 3, mw_file 52.
 """,
         ("crate", "refused", "survive", "which"),
         """
