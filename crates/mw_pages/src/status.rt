@@ -19,10 +19,11 @@ use mw_report::TenantFigures;
 use mw_words::MAX_TENANTS;
 use std::alloc::{AllocError, Global};
 
-/// Gives the status page of a server of this version that is up for so many seconds: with a row for each of these tenants,
-/// at most [`MAX_TENANTS`], with these limits that are near, with a row of curves for each of these, at most as many, and the
-/// free slots of the pool. The version has at most [`MAX_VERSION`] bytes. It asks for
-/// memory once, for [`MAX_PAGE`] bytes.
+/// Gives the status page of a server of this version that is up for so many seconds.
+///
+/// It has a row for each of these tenants, the free slots of the pool, these limits that are near, and a row for each of these
+/// curves. There are at most [`MAX_TENANTS`] tenants, and as many curves. The version has at most [`MAX_VERSION`] bytes. Memory
+/// is asked for once, [`MAX_PAGE`] bytes.
 ///
 /// # Errors
 ///

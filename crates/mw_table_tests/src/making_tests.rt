@@ -85,7 +85,7 @@ fn figures(shared: &Shared, pass: &mut Pass) -> [u64; 4]
     ]
 }
 
-/// Gives the doors and first words of the table of two tenants, one of which has a file. Gives None if
+/// Gives the doors and first words of the table of two tenants, of whom one has a file. Gives None if
 /// there isn't an idle pass for each worker, in their order, or if memory is refused.
 fn found_at_a_start(alloc: Global) -> Option<[u64; 4]> {
     let config = two_tenants();
