@@ -18,7 +18,7 @@ use Rattle.mw_rule.specs.Steps.{IsPrefix}
 use Rattle.mw_rule.specs.declared.views.Finished.{Finished}
 use Rattle.mw_rule.proofs.WorkerStretches.{begins_itself, begins_on}
 use Rattle.mw_engine.specs.Brand.{Identity}
-use Rattle.mw_engine.specs.FromBelow.{Note, View}
+use Rattle.mw_engine.specs.FromBelow.{Note, Pass, View}
 use Rattle.mw_engine.specs.History.{IsAnswered}
 use Rattle.mw_service.specs.Borrowed.{AnswersWith, Borrows, LearnsNote, Says}
 use Rattle.mw_service.specs.SessionOrder.{AreInOrder, IsPlaced, seen_in}
@@ -70,28 +70,34 @@ grows identity all before (Asks tenant job reply ∷ later) order = prefix_on (t
 grows identity all before (Counts figures ∷ later) order = prefix_on (tenants_of identity.config) before order.0 all order.1 (grows identity all order.0 later order.2)
 
 -- what a session has seen grows with each answer
-module _ (identity : Identity) (before last : View) (old new : Option Note) (borrows : Borrows identity before last old new) where
-  first_config : borrows.first.config ≡ identity.config
-  first_config = learned_config before borrows.first old borrows.learns ∙ borrows.config
+module _ (identity : Identity) (before after : Pass) (old new : Option Note) (borrows : Borrows identity before after old new) where
+  abbrev first : View
+  first = borrows.learned.seat.me.0
 
-  seen_first : IsPrefix (tenants_of identity.config) (seen_in old) borrows.first.seen
-  seen_first = subst (λ (config : Config). IsPrefix (tenants_of config) (seen_in old) borrows.first.seen) borrows.config (learned_seen before borrows.first old borrows.learns)
+  abbrev last : View
+  last = after.seat.me.0
 
-  pub seen_with : IsPrefix (tenants_of borrows.first.config) borrows.first.seen last.seen → IsPrefix (tenants_of identity.config) (seen_in old) (seen_in new)
-  seen_with grew = prefix_on (tenants_of identity.config) (seen_in old) borrows.first.seen (seen_in new) seen_first
-      (subst (λ (seen : List (List SealedChange)). IsPrefix (tenants_of identity.config) borrows.first.seen seen) (sym (says_seen last new borrows.says))
-      (subst (λ (config : Config). IsPrefix (tenants_of config) borrows.first.seen last.seen) first_config grew))
+  first_config : first.config ≡ identity.config
+  first_config = learned_config before.seat.me.0 first old borrows.learns ∙ borrows.own.config
+
+  seen_first : IsPrefix (tenants_of identity.config) (seen_in old) first.seen
+  seen_first = subst (λ (config : Config). IsPrefix (tenants_of config) (seen_in old) first.seen) borrows.own.config (learned_seen before.seat.me.0 first old borrows.learns)
+
+  pub seen_with : IsPrefix (tenants_of first.config) first.seen last.seen → IsPrefix (tenants_of identity.config) (seen_in old) (seen_in new)
+  seen_with grew = prefix_on (tenants_of identity.config) (seen_in old) first.seen (seen_in new) seen_first
+      (subst (λ (seen : List (List SealedChange)). IsPrefix (tenants_of identity.config) first.seen seen) (sym (says_seen last new borrows.says))
+      (subst (λ (config : Config). IsPrefix (tenants_of config) first.seen last.seen) first_config grew))
 
   -- and its reply is right in a history that goes on from what it has seen with the reply
-  pub placed : (all : List (List SealedChange)) (tenant : ℕ) (job : Job) (reply : Reply) → IsAnswered borrows.first last tenant job reply → IsPrefix (tenants_of identity.config) (seen_in new) all
+  pub placed : (all : List (List SealedChange)) (tenant : ℕ) (job : Job) (reply : Reply) → IsAnswered first last tenant job reply → IsPrefix (tenants_of identity.config) (seen_in new) all
       → IsPlaced identity all (seen_in old) (seen_in new) tenant job reply
   placed all tenant job reply answered goes_on =
       let one = answered.answered in
-      let noted = last_of (IsFinished last) borrows.first.mine _ (subst (Each (IsFinished last)) one.noted answered.right.mine) in
+      let noted = last_of (IsFinished last) first.mine _ (subst (Each (IsFinished last)) one.noted answered.right.mine) in
       let there = subst (λ (config : Config). tenant < tenants_of config) (answered.keeps.same_config ∙ first_config) noted.there in
       let since = seen_first tenant there in
       let seen = says_seen last new borrows.says in
-      let openings : last.openings ≡ identity.openings = answered.keeps.same_openings ∙ learned_openings before borrows.first old borrows.learns ∙ borrows.openings in
+      let openings : last.openings ≡ identity.openings = answered.keeps.same_openings ∙ learned_openings before.seat.me.0 first old borrows.learns ∙ borrows.own.openings in
       let more = goes_on tenant there in
       let within = subst (λ (all_seen : List (List SealedChange)). one.place ≤ length (seen_at all_seen tenant)) (sym seen) one.within in
       let right = subst (λ (all_seen : List (List SealedChange)). IsRightAt (opening_at last.openings tenant).words (seen_at all_seen tenant) one.place answered.token.request job reply) (sym seen) one.right in
@@ -100,7 +106,7 @@ module _ (identity : Identity) (before last : View) (old new : Option Note) (bor
         there = there;
         request = answered.token.request;
         place = one.place;
-        no_earlier = shorter (seen_at (seen_in old) tenant) (seen_at borrows.first.seen tenant) since.rest one.place since.parted one.no_smaller;
+        no_earlier = shorter (seen_at (seen_in old) tenant) (seen_at first.seen tenant) since.rest one.place since.parted one.no_smaller;
         no_later = within;
         own = own_change (opening_at last.openings tenant).words (seen_at (seen_in new) tenant) one.place answered.token.request job reply right;
         right = subst (λ (given : List TenantStart). IsRightAt (opening_at given tenant).words (seen_at all tenant) one.place answered.token.request job reply) openings

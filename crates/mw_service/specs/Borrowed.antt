@@ -2,7 +2,7 @@
 -- had seen before, and what it has seen then.
 -- Used by: the contracts of src/idle_pass.rt, src/locked_passes.rt, src/pass_pool.rt, src/read_pool.rt and src/borrower.rt. A change here changes what
 -- a client is promised that shares the workers with others.
-use Rattle.std.specs.Prelude.{◌≡◌, ℕ, length, map, Option, Some, None, MatchOption}
+use Rattle.std.specs.Prelude.{◌≡◌, ℕ, true, length, map, Option, Some, None, MatchOption}
 use Rattle.mw_words.specs.declared.jobs.Job.{Job}
 use Rattle.mw_words.specs.declared.replies.Reply.{Reply}
 use Rattle.mw_report.specs.declared.figures.Figures.{Figures}
@@ -10,11 +10,12 @@ use Rattle.mw_session.specs.Talk.{Call, Finds, Asks, Counts}
 use Rattle.mw_rule.specs.Steps.{ExtendsView}
 use Rattle.mw_engine.specs.Brand.{Identity}
 use Rattle.mw_engine.specs.Figures.{TellAll}
-use Rattle.mw_engine.specs.FromBelow.{HasLearned, Note, View, note, said_in}
+use Rattle.mw_engine.specs.FromBelow.{HasLearned, IsOfSameWorker, IsSamePass, Note, Pass, View, note, said_in}
 use Rattle.mw_engine.specs.History.{IsAnswered}
 use Rattle.mw_engine.specs.Identity.{HasNone, IsFirst}
 use Rattle.mw_engine.specs.LinesOfWorld.{places_told}
 use Rattle.mw_engine.specs.Notes.{IsNoteOf}
+use Rattle.mw_engine.specs.Passes.{IsPassOf}
 use Rattle.mw_engine.specs.Replies.{IsReplyTo}
 use Rattle.mw_service.specs.SinceStart.{IsSinceStart}
 
@@ -32,43 +33,47 @@ LearnsNote (Some said) before first = HasLearned (said_in said) before first
 abbrev pub Says : View → Option Note → Type 0
 Says last kept = MatchOption kept ⊥ (λ made. said_in made ≡ note last)
 
--- A session borrowed a pass that knew `before`, and that knows `last` with the answer. The pass is one of this engine's, and knew
--- a run since the engine's start. It first learned from the session's note; the session's new note says all that it has seen with
--- the answer.
-pub record Borrows (identity : Identity) (before last : View) (old new : Option Note) : Type 0 where
-  pub first : View
-  pub config : before.config ≡ identity.config
-  pub openings : before.openings ≡ identity.openings
-  pub begun : IsSinceStart identity before.known_run
-  pub learns : LearnsNote old before first
-  pub says : Says last new
+-- A session borrowed an idle pass of this engine: `before` is the pass as it was borrowed, `after` as it was given back, of the
+-- same worker and idle again. The pass knew a run since the engine's start. It first learned from the session's note (`learned`);
+-- the session's new note says all that the pass has seen at the end.
+pub record Borrows (identity : Identity) (before after : Pass) (old new : Option Note) : Type 0 where
+  pub own : IsPassOf identity before
+  pub idle : before.idle ≡ true
+  pub begun : IsSinceStart identity before.seat.me.0.known_run
+  pub learned : Pass
+  pub same : IsSamePass before learned
+  pub learns : LearnsNote old before.seat.me.0 learned.seat.me.0
+  pub same_worker : IsOfSameWorker before after
+  pub stays_own : IsPassOf identity after
+  pub stays_idle : after.idle ≡ true
+  pub says : Says after.seat.me.0 new
 
--- A session's job was answered with such a pass, as the engine serves it (`IsAnswered`): only this request was added to what
+-- A session's job was answered with this pass, as the engine serves it (`IsAnswered`): only this request was added to what
 -- the pass knows. A value, a YES and a NO are right at a place in the tenant's history that is no earlier than what the
 -- session had seen. The reply is one that the job can have.
-pub record IsAnsweredBy (identity : Identity) (before last : View) (old : Option Note) (tenant : ℕ) (job : Job) (reply : Reply) (new : Option Note) : Type 0 where
-  pub borrows : Borrows identity before last old new
-  pub answered : IsAnswered borrows.first last tenant job reply
+pub record IsAnsweredBy (identity : Identity) (before after : Pass) (old : Option Note) (tenant : ℕ) (job : Job) (reply : Reply) (new : Option Note) : Type 0 where
+  pub borrows : Borrows identity before after old new
+  pub answered : IsAnswered borrows.learned.seat.me.0 after.seat.me.0 tenant job reply
   pub possible : IsReplyTo job reply
 
 -- The figures tell what loads found of each tenant's door and of each slot's gate. The pass that made the loads had seen
 -- what the session had seen.
-pub record AreCountedBy (identity : Identity) (before last : View) (old : Option Note) (figures : Figures) (new : Option Note) : Type 0 where
-  pub borrows : Borrows identity before last old new
-  pub keeps : ExtendsView borrows.first last
-  pub told : TellAll identity.config.pool identity.config.pool identity.lines (map places_told identity.openings) figures.tenants.items figures.pool_free borrows.first last
+pub record AreCountedBy (identity : Identity) (before after : Pass) (old : Option Note) (figures : Figures) (new : Option Note) : Type 0 where
+  pub borrows : Borrows identity before after old new
+  pub keeps : ExtendsView borrows.learned.seat.me.0 after.seat.me.0
+  pub told : TellAll identity.config.pool identity.config.pool identity.lines (map places_told identity.openings) figures.tenants.items figures.pool_free borrows.learned.seat.me.0 after.seat.me.0
 
--- The same with some pass, which is under a lock that doesn't tell what it knew. What the request's steps found stays with the
--- pass. The session's new note tells the run that the pass knew last: it has the arrival of a request of this tenant for this job,
--- after all that the session knew before, its steps and its reply. BUSY and FAULT are explained by that run alone: if it had
--- numbers left at every moment, the tenant's store alone gives this reply, and WORN never comes
+-- The same with some pass of this engine, which is under a lock that doesn't tell which one. What the request's steps found stays
+-- with the pass. The session's new note tells the run that the pass knew last: it has the arrival of a request of this tenant for
+-- this job, after all that the session knew before, its steps and its reply. BUSY and FAULT are explained by that run alone: if it
+-- had numbers left at every moment, the tenant's store alone gives this reply, and WORN never comes
 -- (`answers_are_of_the_store_alone` of mw_engine). That two sessions are not told the reply to one request, only the pass knows
 -- (`IdlePass::serve`).
 abbrev pub IsAnsweredWith : Identity → Option Note → ℕ → Job → Reply → Option Note → Type 0
-IsAnsweredWith identity old tenant job reply new = (before last : View) × IsAnsweredBy identity before last old tenant job reply new
+IsAnsweredWith identity old tenant job reply new = (before after : Pass) × IsAnsweredBy identity before after old tenant job reply new
 
 abbrev pub AreCountedWith : Identity → Option Note → Figures → Option Note → Type 0
-AreCountedWith identity old figures new = (before last : View) × AreCountedBy identity before last old figures new
+AreCountedWith identity old figures new = (before after : Pass) × AreCountedBy identity before after old figures new
 
 -- The answer to a call of a session, by its notes before and after it. A search found the first tenant of that name, or no
 -- tenant has it, and the session has seen no more than before.

@@ -2,6 +2,7 @@
 //!
 //! `pass_pool` keeps it in a lock. Its contracts use `specs/Borrowed`: change both together.
 ghost use Rattle.std.specs.Prelude.{◌≡◌, true, Some};
+ghost use Rattle.mw_engine.specs.FromBelow.{IsSamePass};
 ghost use Rattle.mw_engine.specs.Identity.{IsFor};
 ghost use Rattle.mw_engine.specs.Notes.{IsNoteOf};
 ghost use Rattle.mw_engine.specs.Passes.{IsPassOf};
@@ -39,7 +40,7 @@ impl<J: EngineBrand> IdlePass<J> {
     ) -> (Reply, Note)
         requires its { IsNoteOfEngine J.identity note }
         requires formed { IsFor J.identity.lines tenant job.now }
-        ensures answered { IsAnsweredBy J.identity self.old.pass.seat.me.0 self.new.pass.seat.me.0 note tenant job.now result.0 (Some result.1) }
+        ensures answered { IsAnsweredBy J.identity self.old.pass self.new.pass note tenant job.now result.0 (Some result.1) }
         ensures its { IsNoteOf J.identity result.1 }
     {
         self.learn(engine, note);
@@ -55,7 +56,7 @@ impl<J: EngineBrand> IdlePass<J> {
         note: Option<Note>,
     ) -> (Figures, Note)
         requires its { IsNoteOfEngine J.identity note }
-        ensures counted { AreCountedBy J.identity self.old.pass.seat.me.0 self.new.pass.seat.me.0 note result.0 (Some result.1) }
+        ensures counted { AreCountedBy J.identity self.old.pass self.new.pass note result.0 (Some result.1) }
         ensures limits { AreWithinLimits result.0.tenants.items result.0.pool_free }
         ensures its { IsNoteOf J.identity result.1 }
     {
@@ -68,6 +69,7 @@ impl<J: EngineBrand> IdlePass<J> {
     /// Lets the pass learn what a session has seen, if it has seen something.
     fn learn<D: Disk, H>(&mut self, engine: &Engine<J, D, H>, note: Option<Note>)
         requires its { IsNoteOfEngine J.identity note }
+        ensures same { IsSamePass self.old.pass self.new.pass }
         ensures learned { LearnsNote note self.old.pass.seat.me.0 self.new.pass.seat.me.0 }
     {
         if let Some(note) = note {

@@ -17,11 +17,15 @@ returns-clause-counted g c =
     let figures = c.figures-figures.result in
     record {
       borrows = record {
-        first = first;
-        config = c.args.self.now.own.config;
-        openings = c.args.self.now.own.openings;
+        own = c.args.self.now.own;
+        idle = c.args.self.now.idle;
         begun = c.args.self.now.begun;
+        learned = c.learn.new.self.pass;
+        same = c.learn.ensures.same;
         learns = c.learn.ensures.learned;
+        same_worker = c.note-note.ensures.stays.same_worker ∙ (c.figures-figures.ensures.looked.same_worker ∙ c.learn.ensures.same.same_worker);
+        stays_own = c.note-note.ensures.own;
+        stays_idle = c.note-note.ensures.stays.same_idle ∙ c.figures-figures.ensures.looked.idle;
         says = c.note-note.ensures.says ∙ ap note same;
       };
       keeps = subst (ExtendsView first) same c.figures-figures.ensures.looked.keeps;

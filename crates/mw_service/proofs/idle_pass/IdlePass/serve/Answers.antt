@@ -11,11 +11,15 @@ returns-clause-answered g c =
     let same = sym (λ i. (c.note-note.ensures.knows i).0) in
     record {
       borrows = record {
-        first = c.learn.new.self.pass.seat.me.0;
-        config = c.args.self.now.own.config;
-        openings = c.args.self.now.own.openings;
+        own = c.args.self.now.own;
+        idle = c.args.self.now.idle;
         begun = c.args.self.now.begun;
+        learned = c.learn.new.self.pass;
+        same = c.learn.ensures.same;
         learns = c.learn.ensures.learned;
+        same_worker = c.note-note.ensures.stays.same_worker ∙ (c.serve-reply.ensures.worker ∙ c.learn.ensures.same.same_worker);
+        stays_own = c.note-note.ensures.own;
+        stays_idle = c.note-note.ensures.stays.same_idle ∙ c.serve-reply.ensures.idle;
         says = c.note-note.ensures.says ∙ ap note same;
       };
       answered = subst (λ (last : View). IsAnswered c.learn.new.self.pass.seat.me.0 last c.args.tenant c.args.job.now c.serve-reply.result) same c.serve-reply.ensures.answered;
