@@ -1,5 +1,5 @@
 -- The replies of a session that borrows its passes are right in one history, in order.
--- Used by: the law of src/laws.rt. It may change freely as long as this crate checks.
+-- Used by: the law of src/laws.rt, mw_law_sessions. Its statements may change with mw_law_sessions; its proofs may change freely.
 use Rattle.std.specs.Prelude.{ℕ, ◌≡◌, ◌≤◌, ◌<◌, ◌⊎◌, List, [], ◌∷◌, ◌++◌, length, slice_get, slice_index_or, Option, Some, None}
 use Rattle.std.proofs.Common.{refl, sym, ap, subst, ◌∙◌, inl, inr, arith, length-append}
 use Rattle.std.proofs.lemmas.Option.{none-some, slice_get_cases}

@@ -1,0 +1,2 @@
+pub mod SessionChangeLaws
+pub mod SessionMomentLaws

@@ -1,0 +1,2 @@
+pub mod SessionChanges
+pub mod SessionMoments
