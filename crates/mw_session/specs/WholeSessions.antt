@@ -47,8 +47,8 @@ EndsSo unseen heard answers text calls TooLong = EndsTalk heard answers text cal
 EndsSo unseen heard answers text calls Memory = IsTalk heard answers text calls
 EndsSo unseen heard answers text calls (WriteFault told) = (told ≡ min (length text) (2 ^ 64 - 1)) × BeginsTalk heard answers text calls
 
--- If memory was out, it was out before the first read, or for the bytes that the last read gave. The lines that were looked at are
--- those that were complete before these bytes.
+-- If memory was out, some last part of what was read was not looked at: at least one byte of it, or nothing was read at all. The
+-- lines that were looked at are those that were complete before this part.
 abbrev pub RunsOut : List ℕ → List Line → Ended → Type 0
 RunsOut read seen Memory = (before : List ℕ) × (last : List ℕ) × (read ≡ before ++ last) × (0 < length read → 0 < length last) × (lines before ≡ seen)
 RunsOut read seen PeerEnd = Unit {0}
