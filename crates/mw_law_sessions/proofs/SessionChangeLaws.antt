@@ -1,8 +1,8 @@
 -- What a session's note tells goes on from what the pass knew that answered it, whichever passes the session borrows later. So the law
 -- of all passes on durable changes holds of the session.
 -- Used by: the law sessions_keep_changes. It may change freely as long as this crate checks.
-use Rattle.std.specs.Prelude.{ℕ, ◌≡◌, false, List, [], ◌∷◌, Option, Some, None, MatchOption}
-use Rattle.std.proofs.Common.{refl, sym, ap, subst, ◌∙◌, inl}
+use Rattle.std.specs.Prelude.{ℕ, ◌≡◌, List, [], ◌∷◌, Option, Some, None, MatchOption}
+use Rattle.std.proofs.Common.{refl, sym, subst, ◌∙◌}
 use Rattle.mw_disk.specs.Facts.{Facts}
 use Rattle.mw_world.specs.declared.config.Config.{Config}
 use Rattle.mw_world.specs.Definition.Events.{WorldEvent}
@@ -27,15 +27,15 @@ on_note : (last : View) → ExtendsView last (note last)
 on_note last = record { same_config = refl; same_openings = refl; seen = λ tenant low. begins_itself (seen_at last.seen tenant); known_run = stays last.known_run }
 
 module _ (identity : Identity) (now : View) (own_config : now.config ≡ identity.config) (own_openings : now.openings ≡ identity.openings) where
-  -- this note goes on from what a thread knew, and is not spent
+  -- this note goes on from what a thread knew
   abbrev GoesOn : Option Note → Type 0
-  GoesOn kept = MatchOption kept ⊥ (λ said. ExtendsView now (said_in said) × ((said_in said).is_spent ≡ false))
+  GoesOn kept = MatchOption kept ⊥ (λ said. ExtendsView now (said_in said))
 
   -- the note that is made of a thread which knows more
   made_of : (last : View) (new : Option Note) → Says last new → ExtendsView now last → GoesOn new
   made_of last None says on = absurd says
   made_of last (Some made) says on =
-      (subst (ExtendsView now) (sym says) (keeps_on now last (note last) on (on_note last)), ap (λ (view : View). view.is_spent) says)
+      subst (ExtendsView now) (sym says) (keeps_on now last (note last) on (on_note last))
 
   -- a pass that learned the note goes on from it
   learned_more : (before first : View) (said : Note) → before.config ≡ identity.config → before.openings ≡ identity.openings → HasLearned (said_in said) before first → ExtendsView now (said_in said) → ExtendsView now first
@@ -55,7 +55,7 @@ module _ (identity : Identity) (now : View) (own_config : now.config ≡ identit
   over_one before after None new borrows keeps on = absurd on
   over_one before after (Some said) new borrows keeps on =
       made_of after.seat.me.0 new borrows.says
-      (keeps_on now borrows.learned.seat.me.0 after.seat.me.0 (learned_more before.seat.me.0 borrows.learned.seat.me.0 said borrows.own.config borrows.own.openings borrows.learns on.0) keeps)
+      (keeps_on now borrows.learned.seat.me.0 after.seat.me.0 (learned_more before.seat.me.0 borrows.learned.seat.me.0 said borrows.own.config borrows.own.openings borrows.learns on) keeps)
 
   -- over all of the calls
   over_calls : (calls : List Call) (old new : Option Note) → GoesThrough (AnswersWith identity) old calls new → GoesOn old → GoesOn new
@@ -67,7 +67,7 @@ module _ (identity : Identity) (now : View) (own_config : now.config ≡ identit
 
 -- the note that a session has come to goes on from what the pass knew that answered it
 since_answer : (identity : Identity) (before after : Pass) (old new : Option Note) (borrows : Borrows identity before after old new) → ExtendsView borrows.learned.seat.me.0 after.seat.me.0 → (calls : List Call) (kept : Note)
-    → GoesThrough (AnswersWith identity) new calls (Some kept) → ExtendsView after.seat.me.0 (said_in kept) × ((said_in kept).is_spent ≡ false)
+    → GoesThrough (AnswersWith identity) new calls (Some kept) → ExtendsView after.seat.me.0 (said_in kept)
 since_answer identity before after old new borrows keeps calls kept goes =
     let first : View = borrows.learned.seat.me.0 in
     let last : View = after.seat.me.0 in
@@ -78,11 +78,11 @@ since_answer identity before after old new borrows keeps calls kept goes =
 
 module _ {D : Type 0} (facts : D → Facts) (config : Config) (begun : (ℕ → TenantStart) → List WorldEvent → Type 0) where
   pub keep_changes : SessionsKeepChanges facts config begun
-  keep_changes identity old new job calls kept s id other book file_pass tied its goes at file_at is_kept =
+  keep_changes identity old new job calls kept s id other view book file_pass tied its goes at live knows file_at is_kept =
       let on = since_answer identity its.0 its.1 old new its.2.borrows its.2.answered.keeps calls kept goes in
-      moments_keep_changes facts config begun s id other its.2.borrows.learned.seat.me.0 its.1.seat.me.0 (said_in kept) job identity book file_pass tied at (inl on.1) file_at is_kept its.2.answered on.0
+      moments_keep_changes facts config begun s id other its.2.borrows.learned.seat.me.0 its.1.seat.me.0 view job identity book file_pass tied at live file_at is_kept its.2.answered (keeps_on its.1.seat.me.0 (said_in kept) view on knows)
 
   pub leave_wholly_or_not : SessionsLeaveWhollyOrNot facts config begun
-  leave_wholly_or_not identity old new job reply calls kept s id other book file_pass tied its goes at file_at is_kept =
+  leave_wholly_or_not identity old new job reply calls kept s id other view book file_pass tied its goes at live knows file_at is_kept =
       let on = since_answer identity its.0 its.1 old new its.2.borrows its.2.answered.keeps calls kept goes in
-      moments_leave_wholly_or_not facts config begun s id other its.2.borrows.learned.seat.me.0 its.1.seat.me.0 (said_in kept) job reply identity book file_pass tied at (inl on.1) file_at is_kept its.2.answered on.0
+      moments_leave_wholly_or_not facts config begun s id other its.2.borrows.learned.seat.me.0 its.1.seat.me.0 view job reply identity book file_pass tied at live file_at is_kept its.2.answered (keeps_on its.1.seat.me.0 (said_in kept) view on knows)

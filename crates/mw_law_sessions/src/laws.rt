@@ -13,8 +13,8 @@ use mw_rule::Begins;
 /// `order`: the run is the one that the session's note tells with the reply; it goes back to the engine's start. The request
 /// comes in it after all that the note told before. So it comes after the replies to the session's earlier requests.
 ///
-/// `one_run`: at each later moment of the shared words the run is the one behind what all passes know. So the moments of all
-/// sessions' replies are in one order.
+/// `one_run`: at each later moment of the shared words at which some pass has the request among its finished ones, the run is
+/// the one behind what all passes know. So the moments of all sessions' replies are in one order.
 ///
 /// `time`: this order keeps that of time, also between sessions. Once the borrowed pass has learned the note, the request comes
 /// after each reply that any session was told by then.
@@ -24,7 +24,8 @@ pub fn replies_have_moments_in_order<B: Begins>()
     ensures time { (key : B) → SessionsKeepTheOrderOfTimeAmongThem (B.config key) (B.begun key) }
 {}
 
-/// Whichever passes a session borrows, its changes are durable, at every moment of the shared words at which it has its note.
+/// Whichever passes a session borrows, its changes are durable, at every moment of the shared words at which some thread
+/// knows all that the session's note tells: the session has the note, or a pass has learned it.
 ///
 /// - `kept`: a change that it was answered YES is one of the sealed changes that a crash leaves, at its own place.
 /// - `wholly`: if it was answered, with any reply, also FAULT, the change of its request is there wholly or not at all.
