@@ -1,1 +1,2 @@
+pub mod MadeOfOpened
 pub mod SyncedOpenings

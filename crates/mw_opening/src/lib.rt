@@ -1,7 +1,7 @@
 //! Opens what a server needs before it serves: the tenants file, and each tenant's own file under a lock.
 //!
-//! [`read_tenants_file`] reads the tenants, and [`open_files`] opens their files, each on a disk that [`LockedFiles`]
-//! opens. [`WatchedFile`] keeps the last error that the system told of such a file, and [`TrackedFile`] which file it is.
+//! [`read_tenants_file`] reads the tenants, and [`open_parts`] opens their files, each on a disk that [`LockedFiles`]
+//! opens, and makes an engine's parts of them. [`WatchedFile`] keeps the last error that the system told of such a file, and [`TrackedFile`] which file it is.
 //! [`MeteredFile`] times its calls and counts them. [`open_plain`] opens a file only if it is plain. [`Notes`] writes
 //! notes.
 //!
@@ -12,6 +12,7 @@ mod file_fault;
 mod file_state;
 mod metered_file;
 mod notes;
+mod opened_parts;
 mod opening;
 mod plain_file;
 mod tenant_disks;
@@ -22,7 +23,8 @@ pub use file_fault::FileFault;
 pub use file_state::{FileState, FileStates, SeenFile};
 pub use metered_file::MeteredFile;
 pub use notes::{Notes, note_cause, note_place};
-pub use opening::{Cause, TenantsFault, are_all_open, open_files, read_tenants_file};
+pub use opened_parts::{OpenedParts, are_all_open, open_parts};
+pub use opening::{Cause, TenantsFault, read_tenants_file};
 pub use plain_file::{ReadFault, open_plain};
 pub use tenant_disks::{LockedFiles, Opened, OpensDisks, TenantDisk};
 pub use tracked_file::TrackedFile;

@@ -1,9 +1,8 @@
 //! Opens what a server needs before it serves: the tenants file and each tenant's own file, under a lock.
 //!
-//! Used by: mw_programs, which calls these before it serves. docs/OPERATING.md lists the texts of the notes: change
+//! Used by: `opened_parts`; mw_programs, which reads the tenants. docs/OPERATING.md lists the texts of the notes: change
 //! both together. A new kind of [`Cause`] needs a case in `Cause::tell`. docs/PROMISES cites `open_files`.
-ghost use Rattle.std.specs.Prelude.{◌≡◌, ◌<◌, ◌≤◌, length, is_some, IfOk, Some};
-ghost use Rattle.std.specs.List.{list_all};
+ghost use Rattle.std.specs.Prelude.{◌<◌, ◌≤◌, length, IfOk, Some};
 ghost use Rattle.mw_config.specs.Limits.{ArePermitted};
 ghost use Rattle.mw_words.specs.declared.limits.TheConstants.{MAX_TENANTS};
 ghost use Rattle.mw_engine.specs.OpenedFiles.{FitsLine, FitLines};
@@ -186,7 +185,7 @@ fn fill<F: Read>(file: &mut F, room: &mut [u8]) -> io::Result<usize> {
 /// # Errors
 ///
 /// Memory was refused.
-pub fn open_files<P: OpensDisks, L: Log>(
+pub(crate) fn open_files<P: OpensDisks, L: Log>(
     alloc: Global,
     notes: &L,
     lines: &[TenantLine],
@@ -202,13 +201,6 @@ pub fn open_files<P: OpensDisks, L: Log>(
         files.push(file)?;
     }
     Ok(files)
-}
-
-/// Tells whether each tenant's file has opened.
-pub fn are_all_open<D>(files: &[Option<(TenantFile<D>, Vec<u64>)>]) -> bool
-    ensures { result ≡ list_all (λ file. is_some file) files.now }
-{
-    files.iter().all(|file| file.is_some())
 }
 
 /// Opens the file of the tenant of this number. Gives None, and writes a note, as [`open_files`] does.

@@ -1,14 +1,13 @@
 //! Implements `mwserve`: reads the command line, opens the files, and serves the tenants' words.
 //!
 //! `mwserve` calls `serve`. docs/OPERATING tells its options, notes and statuses: change them together.
-ghost use Rattle.std.specs.Prelude.{◌≡◌, ◌+◌, ◌<◌, ◌≤◌, All, IfOk, vec_len};
+ghost use Rattle.std.specs.Prelude.{◌≡◌, ◌+◌, ◌<◌, ◌≤◌, All, IfOk, length, vec_len};
 ghost use Rattle.mw_config.specs.CommandLine.{ArePermittedArgs};
 ghost use Rattle.mw_config.specs.declared.command_line.Mode.TheVariants.{Listen};
-ghost use Rattle.mw_config.specs.Limits.{ArePermitted};
 ghost use Rattle.mw_words.specs.declared.limits.TheConstants.{MAX_TENANTS, MAX_WORKERS};
-ghost use Rattle.mw_engine.specs.OpenedFiles.{FitLines};
 ghost use Rattle.mw_engine.specs.Passes.{IsNew};
 ghost use Rattle.mw_engine.specs.Parts.{identity_of};
+ghost use Rattle.mw_opening.specs.MadeOfOpened.{AreMadeOfOpened};
 ghost use Rattle.mw_programs.specs.WorkerCount.{one_for, own_workers, served_count, worker_count};
 
 use crate::descriptors::{has_descriptors, needed};
@@ -17,13 +16,12 @@ use crate::services::{counted, serve_all_clients};
 use crate::tenants::TenantNotes;
 use log::{Log, warn};
 use mw_config::{ArgFault, Args, Listening, Mode, Refusal, TenantLine, read_args};
-use mw_disk::{Disk, FileDisk};
+use mw_disk::Disk;
 use mw_engine::{Engine, EngineBrand, EngineParts, NoHold, Pass};
 use mw_meters::Meters;
 use mw_opening::{
-    Cause, FileStates, LastErrors, LockedFiles, MeteredFile, Notes, Opened, ReadFault,
-    TenantsFault, TrackedFile, WatchedFile, are_all_open, note_cause, open_files, open_plain,
-    read_tenants_file,
+    Cause, FileStates, LastErrors, LockedFiles, Notes, OpenedParts, OpensDisks, ReadFault,
+    TenantsFault, are_all_open, note_cause, open_parts, open_plain, read_tenants_file,
 };
 use mw_service::{FaultWatch, Worker};
 use mw_session::{Duplex, Ended, RecordedStream};
@@ -203,15 +201,19 @@ where
     let meters = Meters::new(rt);
     let meter = counted_in(&args.mode, &meters);
     let disks = LockedFiles::new(rt, &errors, &states, meter);
-    let files = open_files(rt.alloc(), notes, &lines, &disks)?;
-    if args.strict && !are_all_open(&files) {
-        return Err(ServeFault::NotAll);
-    }
-    if !has_room(notes, args, lines.len()) && args.strict {
-        return Err(ServeFault::FewDescriptors);
-    }
-    let watch = TenantNotes::new(rt, notes, &lines, &errors, &states, &files, args.strict);
-    serve_files(rt, args, &lines, files, out, notes, &watch, &meters)
+    let workers = workers_of(args);
+    let opened = open_parts(
+        rt.alloc(),
+        notes,
+        &lines,
+        &disks,
+        args.pool,
+        workers,
+        NoHold,
+    )?;
+    serve_opened::<_, LockedFiles<'_, R>, _, _, _>(
+        rt, args, &lines, opened, out, notes, &errors, &states, &meters,
+    )
 }
 
 /// Gives the meters if there are pages that tell what they count.
@@ -264,15 +266,18 @@ fn for_further(listening: &Listening) -> u8
     u8::from(listening.admin.is_some()) + u8::from(listening.http.is_some())
 }
 
-/// Serves the tenants with these lines from their files. A tenant whose file didn't open answers FAULT.
-fn serve_files<'a, 'f, R, O: Write, L: Log + Sync, T: FaultWatch + FileLook + Sync>(
+/// Serves the tenants with these lines, by an engine whose parts are made of the files that `P` opened. A tenant whose file
+/// isn't open answers FAULT. If `--strict` was given, it serves only if all files are open and the limit of descriptors
+/// leaves room.
+fn serve_opened<'a, D: Disk + Drop + Send + Sync, P: OpensDisks<Device = D>, R, O: Write, L>(
     rt: &R,
     args: &'a Args,
     lines: &[TenantLine],
-    files: Vec<Option<Opened<'f, R>>>,
+    opened: OpenedParts<D, NoHold>,
     out: &mut O,
     notes: &L,
-    watch: &T,
+    errors: &LastErrors,
+    states: &FileStates,
     meters: &Meters,
 ) -> Result<(), ServeFault<'a>>
 where
@@ -282,20 +287,25 @@ where
         + Threads
         + Wait
         + Clock
-        + Sync,
+        + Sync
+        + SeesPaths,
+    L: Log + Sync,
     requires args { ArePermittedArgs args.now }
-    requires lines { ArePermitted args.now.pool lines.now }
-    requires files { FitLines ⟦<FileDisk<WatchedFile<'f, TrackedFile<'f, MeteredFile<'f, File, R>>>> as Disk>⟧.facts lines.now files.items }
+    requires tenants { length lines.now ≤ MAX_TENANTS }
+    requires opened { AreMadeOfOpened D.facts D.made P.is_over lines.now opened.are_open.items opened.made }
+    requires new { IfOk opened.made (λ made. All (IsNew (identity_of made.0)) made.1.items) }
+    requires some { IfOk opened.made (λ made. 0 < vec_len made.1) }
 {
-    let (parts, passes) = EngineParts::new(
-        rt.alloc(),
-        lines,
-        files,
-        args.pool,
-        workers_of(args),
-        NoHold,
-    )?;
-    serve_engine::<Brand, _, _, _, _, _>(rt, parts, passes, args, out, notes, watch, meters)
+    if args.strict && !are_all_open(&opened.are_open) {
+        return Err(ServeFault::NotAll);
+    }
+    if !has_room(notes, args, lines.len()) && args.strict {
+        return Err(ServeFault::FewDescriptors);
+    }
+    let OpenedParts { are_open, made } = opened;
+    let watch = TenantNotes::new(rt, notes, lines, errors, states, &are_open, args.strict);
+    let (parts, passes) = made?;
+    serve_engine::<Brand, _, _, _, _, _>(rt, parts, passes, args, out, notes, &watch, meters)
 }
 
 /// Gives the number of workers: as many as were asked for, and one for each further address, but at most [`MAX_WORKERS`].

@@ -8,7 +8,7 @@ ghost use Rattle.mw_words.specs.declared.limits.TheConstants.{MAX_TENANTS};
 use crate::replaced::{FileLook, SeesPaths, leads_elsewhere};
 use log::{Log, warn};
 use mw_config::TenantLine;
-use mw_opening::{FileStates, LastErrors, Opened, note_cause, note_place};
+use mw_opening::{FileStates, LastErrors, note_cause, note_place};
 use mw_service::FaultWatch;
 use mw_words::MAX_TENANTS;
 use std::str;
@@ -31,20 +31,20 @@ pub struct TenantNotes<'r, 'n, 'l, 'e, L, R> {
 }
 
 impl<'r, 'n, 'l, 'e, L: Log, R: Wait> TenantNotes<'r, 'n, 'l, 'e, L, R> {
-    /// Makes the notes on the tenants with these lines. A tenant whose file didn't open has its note
+    /// Makes the notes on the tenants with these lines. A tenant whose file isn't open has its note
     /// already. If it is strict, a file that was replaced is given up.
-    pub fn new<K>(
+    pub fn new(
         rt: &'r R,
         notes: &'n L,
         lines: &'l [TenantLine],
         errors: &'e LastErrors,
         states: &'e FileStates,
-        files: &[Option<Opened<'_, K>>],
+        are_open: &[bool],
         strict: bool,
     ) -> Self {
         let mut told = [false; MAX_TENANTS];
-        for (told, file) in told.iter_mut().zip(files) {
-            *told = file.is_none();
+        for (told, is_open) in told.iter_mut().zip(are_open) {
+            *told = !*is_open;
         }
         TenantNotes {
             rt,

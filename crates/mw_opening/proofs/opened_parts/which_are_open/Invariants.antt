@@ -1,0 +1,9 @@
+-- States what stays true from turn to turn in the loops of `which_are_open` (src/opened_parts.rt). Used by: the proof of that function
+-- alone. It may change freely as long as this crate checks.
+use Rattle.std.proofs.Common.{◌≡◌, take, map}
+use Rattle.std.specs.Prelude.{is_some}
+use Rattle.mw_opening.proofs.opened_parts.which_are_open.Given as goal
+
+-- what is told of the files so far
+abbrev pub invariant-loop-file : goal.invariant-loop-file
+invariant-loop-file g l = l.are_open.items ≡ map (λ file. is_some file) (take l.file-index l.files)
