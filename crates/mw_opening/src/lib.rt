@@ -1,9 +1,9 @@
 //! Opens what a server needs before it serves: the tenants file, and each tenant's own file under a lock.
 //!
 //! [`read_tenants_file`] reads the tenants, and [`open_parts`] opens their files, each on a disk that [`LockedFiles`]
-//! opens, and makes an engine's parts of them. [`WatchedFile`] keeps the last error that the system told of such a file, and [`TrackedFile`] which file it is.
-//! [`MeteredFile`] times its calls and counts them. [`open_plain`] opens a file only if it is plain. [`Notes`] writes
-//! notes.
+//! opens, and makes an engine's parts of them. [`WatchedFile`] keeps the last error that the system told of such a file, and
+//! [`TrackedFile`] which file it is. [`MeteredFile`] times its calls and counts them. [`open_plain`] opens a file only if it
+//! is plain. [`Notes`] writes notes.
 //!
 //! Used by: mw_programs. docs/OPERATING lists the notes and says which files a server opens: change them together.
 #![tactic(auto)]
