@@ -18,7 +18,7 @@ import tempfile
 from contextlib import contextmanager
 from pathlib import Path
 from statistics import median
-from typing import Callable, Dict, Iterator, List, NamedTuple, Sequence, Tuple
+from typing import Callable, Dict, Iterator, List, NamedTuple, Optional, Sequence, Tuple
 
 from .chart import Chart
 from .clients import HOST, changes, contended_changes, etcd_changes, quantile, redis_changes, sqlite_changes, together, wrong
@@ -151,14 +151,14 @@ def by_turns(stores: Dict[str, Callable], folder: Path, library: Path, delay: in
     return {key: Figures(*map(median, zip(*told))) for key, told in found.items()}
 
 
-def time_one_tenant(programs: Sequence[Path], folder: str, seconds: float, turns: int, chart: Chart) -> None:
-    """Prints the rows, and adds them to a chart."""
+def time_one_tenant(programs: Sequence[Path], folder: str, seconds: float, turns: int, chart: Chart, only: Optional[int] = None) -> None:
+    """Prints the rows, and adds them to a chart: for the delays of `DELAYS`, or for one alone."""
     if not shutil.which("cc"):
         wrong("there is no C compiler cc, so syncs can't be counted")
     stores = stores_of(programs)
     with tempfile.TemporaryDirectory() as built:
         library = compiled(built, "slow_syncs", "-shared", "-fPIC", "-ldl")
-        for delay, disk in DELAYS.items():
+        for delay, disk in (DELAYS if only is None else {only: f"each sync {only} us longer"}).items():
             row(f"one tenant, {disk}", "changes/s", "50 %, us", "99 %, us", "syncs/change")
             found = by_turns(stores, Path(folder), library, delay, seconds, turns)
             for name in stores:
