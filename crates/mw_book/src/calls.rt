@@ -39,16 +39,16 @@ impl<D: Disk> Book<D> {
     /// vacant.
     ///
     /// If the book represented a file, it now represents what this call, with this answer, makes of that file.
-    /// On any disk the answer tells whether a device call failed. Which one failed, and how many were made, is
-    /// known of a disk that keeps the model of [`Disk`].
+    /// On any disk the answer tells whether a device call failed. How many were made is known of a disk that keeps the
+    /// model of [`Disk`]; also which one failed, if the call makes as many as the world lists.
     ///
     /// On such a disk a crash at any moment since the call began leaves the words of each file that the book
     /// represented then, or these with the change at stake put over them. This is the change that the call
     /// seals, else the one that an earlier failed seal left in doubt. Nothing is said of a file that didn't open.
     ///
     /// A prepare, a seal and a settle that make device calls also write records of `waiting` changes, before their
-    /// first sync. These changes are then prepared ahead: their own prepares make no device call, if their entries are
-    /// the same by then. A waiting change is ready if it is of another slot, is well formed for the file's words, and is
+    /// first sync. These changes are then prepared ahead: their own prepares make no device call, if they still write the
+    /// same values to the same addresses, in the same order. A waiting change is ready if it is of another slot, is well formed for the file's words, and is
     /// not prepared ahead yet. The first ready ones are written: at most 15, and as many as free places are left. A
     /// change that is prepared ahead stays so until its own prepare, or until no place is free for another prepare. This
     /// one then gives up the change in the lowest vacant place. None of it makes a difference to what the book

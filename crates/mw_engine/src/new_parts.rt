@@ -1,7 +1,7 @@
 //! Makes an engine's parts of the tenants' lines and their opened files.
 //!
-//! mw_programs makes the parts of `mwserve`'s engine by `EngineParts::new`, of the tenants' lines and their opened
-//! files. Its contracts use `specs/Lines`, `specs/OpenedFiles`, `specs/Passes` and others: change them together.
+//! mw_opening makes the parts of `mwserve`'s engine by `EngineParts::new`, of the files that it has opened. The
+//! contracts use `specs/Lines`, `specs/OpenedFiles`, `specs/Passes` and others: change them together.
 ghost use Rattle.std.specs.Prelude.{◌≡◌, ◌≤◌, All, length, map, IfOk};
 ghost use Rattle.mw_config.specs.Limits.{ArePermitted};
 ghost use Rattle.mw_core.specs.FromTable.{AreInOrder};

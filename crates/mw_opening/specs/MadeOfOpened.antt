@@ -23,7 +23,7 @@ module _ {D H : Type 0} {device : Ghosts D} where
   IfMade (Err fault) holds = Unit {0}
 
   -- There are files, each opened of its own tenant's line, if there is one. It is told right which of them are there. If the parts
-  -- were made, the engine starts with the words and places of these files, and its books hold these files and no others.
+  -- were made, their engine starts with the words and places of these files, and their books hold these files and no others.
   pub record AreMadeOfOpened (facts : D → Facts) (makes : DeviceCall → Bool → D → D → Type 0) (is_over : List ℕ → D → Type 0)
       (lines : List TenantLine) (are_open : List Bool) (made : Result (EngineParts D H device × Vec Pass Global) AllocError) : Type 0 where
     pub files : List (Option (TenantFile D × Vec ℕ Global))

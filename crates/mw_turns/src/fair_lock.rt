@@ -66,7 +66,7 @@ impl<T> FairLock<T> {
         None
     }
 
-    /// Takes the lock as [`FairLock::try_lock`] does. Gives up at once if others wait.
+    /// Takes the lock as [`FairLock::try_lock`] does, if no others wait when it comes. Else it gives up at once.
     pub fn try_lock_after_others(&self) -> Option<FairGuard<'_, T>> {
         if self.queue.has_waiters() {
             None
