@@ -39,8 +39,9 @@ impl<D: Disk> Book<D> {
     /// vacant.
     ///
     /// If the book represented a file, it now represents what this call, with this answer, makes of that file.
-    /// On any disk the answer tells whether a device call failed. How many were made is known of a disk that keeps the
-    /// model of [`Disk`]; also which one failed, if the call makes as many as the world lists.
+    /// On any disk the answer tells whether a device call failed. A disk that keeps the model of [`Disk`] also tells how
+    /// many were made, and which one failed. The number that the world's file is told is that one's, if this call makes
+    /// as many device calls as the world lists.
     ///
     /// On such a disk a crash at any moment since the call began leaves the words of each file that the book
     /// represented then, or these with the change at stake put over them. This is the change that the call
@@ -48,10 +49,12 @@ impl<D: Disk> Book<D> {
     ///
     /// A prepare, a seal and a settle that make device calls also write records of `waiting` changes, before their
     /// first sync. These changes are then prepared ahead: their own prepares make no device call, if they still write the
-    /// same values to the same addresses, in the same order. A waiting change is ready if it is of another slot, is well formed for the file's words, and is
-    /// not prepared ahead yet. The first ready ones are written: at most 15, and as many as free places are left. A
-    /// change that is prepared ahead stays so until its own prepare, or until no place is free for another prepare. This
-    /// one then gives up the change in the lowest vacant place. None of it makes a difference to what the book
+    /// same values to the same addresses, in the same order. A waiting change is ready if it is of another slot, is well
+    /// formed for the file's words, and is not prepared ahead yet. The first ready ones are written: at most 15, and as
+    /// many as free places are left.
+    ///
+    /// A change that is prepared ahead stays so until its own prepare, or until no place is free for another prepare.
+    /// This one then gives up the change in the lowest vacant place. None of it makes a difference to what the book
     /// represents.
     pub fn call(&mut self, call: Call, slot: u8, entries: &Entries, waiting: &[Waiting]) -> Filed
         requires may { MayCall self.old call slot entries.now.items }

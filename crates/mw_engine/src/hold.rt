@@ -17,8 +17,8 @@ pub enum Point {
 
 /// Is told of each [`Point`] that a worker comes to, and may hold the worker there.
 pub trait Hold {
-    /// Whether it may hold a worker. If not, a worker may keep the lock of a file from one call to the next, and
-    /// [`Hold::at`] isn't called in between.
+    /// Whether it may hold a worker. If not, a worker may keep the lock of a file from one call to the next. While it
+    /// keeps it, [`Hold::at`] isn't called.
     fn may_hold(&self) -> bool;
 
     /// The worker of this number is at this point. It goes on when the call returns.

@@ -28,7 +28,7 @@ impl<J: EngineBrand, D: Disk + Drop, H: Hold + Drop> Engine<J, D, H> {
     /// reply, at a place that is right and no smaller than what the pass had seen when the request came. It is
     /// answered BUSY or FAULT only if one of its own steps observed the cause. WORN has such a cause, or all
     /// attempt numbers of the worker are used up. A lock is taken only for a call on the tenant's file. After a prepare
-    /// it is kept up to the next call, and for that one too if it is a seal.
+    /// it may be kept up to the next call, and for that one too if it is a seal.
     pub fn serve(&self, rt: &impl Wait, pass: &mut Pass, tenant: u8, job: &Job) -> Reply
         requires own { IsPassOf J.identity pass.old }
         requires formed { IsFor J.identity.lines tenant job.now }
@@ -103,8 +103,8 @@ impl<J: EngineBrand, D: Disk + Drop, H: Hold + Drop> Engine<J, D, H> {
         self.file_then(rt, pass, actor, false);
     }
 
-    /// Makes the call as [`Engine::file`] does. If `seals` is set, goes on under the same lock as
-    /// [`GuardedFile::seal_next`] does: so no other thread has to wake before the seal.
+    /// Makes the call as [`Engine::file`] does. If `seals` is set, it then keeps the lock, and goes on as
+    /// [`GuardedFile::seal_next`] does. So no other thread has to wake before that seal.
     fn file_then(&self, rt: &impl Wait, pass: &mut Pass, actor: &mut Actor, seals: bool)
         requires own { IsPassOf J.identity pass.old }
         requires carried { IsCarried pass.old actor.old }

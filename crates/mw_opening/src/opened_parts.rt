@@ -26,14 +26,14 @@ use std::alloc::{AllocError, Global};
 /// What is made of the tenants' files at a start.
 #[derive(Drop)]
 pub struct OpenedParts<D: Disk, H> {
-    /// Whether each tenant's file has opened, in the order of the lines.
+    /// Whether each tenant's file has opened and fits its line, in the order of the lines.
     pub are_open: ArrayVec<bool, MAX_TENANTS>,
     /// The engine's parts, which have the files, and a pass for each worker. If memory was refused, the files are closed.
     pub made: Result<(EngineParts<D, H>, Vec<Pass>), AllocError>,
 }
 
-/// Opens the tenants' files in the order of their lines. Makes the parts of an engine of them, and a pass for each
-/// worker in order of number. Writes a note for a file that doesn't open, is in use or isn't as the tenants file says.
+/// Opens the tenants' files, and makes the parts of an engine of them. The files are opened in the order of their lines.
+/// A pass for each worker is made too, in order of number. Writes a note for a file that doesn't open, is in use or isn't as the tenants file says.
 /// Then every request of that tenant is answered FAULT. All tenants share a pool of `pool` slots.
 ///
 /// - `opened`: the parts are made of just the files that it opened. Each of these is what [`TenantFile::open`] gave, with
@@ -80,7 +80,7 @@ fn which_are_open<D>(files: &[Option<(TenantFile<D>, Vec<u64>)>]) -> ArrayVec<bo
     are_open
 }
 
-/// Tells whether each tenant's file has opened.
+/// Tells whether each tenant's file has opened and fits its line.
 pub fn are_all_open(are_open: &[bool]) -> bool
     ensures { result ≡ list_all (λ is_open. is_open) are_open.now }
 {
