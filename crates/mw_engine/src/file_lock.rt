@@ -4,7 +4,7 @@
 //! come from its lock. The room has none.
 use crate::brand::EngineBrand;
 use crate::guarded_file::GuardedFile;
-use crate::waiting_room::{WaitingRoom, strike_off};
+use crate::waiting_room::{Waiters, WaitingRoom, strike_off};
 use mw_actor::{Actor, Point};
 use mw_core::waiting_change;
 use mw_disk::Disk;
@@ -58,6 +58,11 @@ impl<J: EngineBrand, D: Disk> FileLock<J, D> {
     /// Takes the lock for no call, in turn with those that wait for one.
     pub(crate) fn lock_between_calls(&self, rt: &impl Wait) -> FairGuard<'_, GuardedFile<J, D>> {
         self.file.lock(rt)
+    }
+
+    /// Adds the changes that have begun to wait since the lock was taken to the list of those that wait.
+    pub(crate) fn call_waiters(&self, rt: &impl Wait, called: &mut Waiters) {
+        self.room.call_all(rt, called);
     }
 
     /// Lets a request's change wait in the room if a prepare is next. Gives its slot then.

@@ -131,6 +131,7 @@ impl<J: EngineBrand, D: Disk + Drop, H: Hold + Drop> Engine<J, D, H> {
                 if !seals {
                     return;
                 }
+                self.books[index].call_waiters(rt, &mut guard.value.called);
                 guard.value.seal_next(&self.words.core, pass, actor);
                 return;
             }

@@ -33,8 +33,9 @@ pub struct OpenedParts<D: Disk, H> {
 }
 
 /// Opens the tenants' files, and makes the parts of an engine of them. The files are opened in the order of their lines.
-/// A pass for each worker is made too, in order of number. Writes a note for a file that doesn't open, is in use or isn't as the tenants file says.
-/// Then every request of that tenant is answered FAULT. All tenants share a pool of `pool` slots.
+/// A pass for each worker is made too, in order of number. Writes a note for a file that doesn't open, is in use or
+/// isn't as the tenants file says. Then every request of that tenant is answered FAULT. All tenants share a pool of
+/// `pool` slots.
 ///
 /// - `opened`: the parts are made of just the files that it opened. Each of these is what [`TenantFile::open`] gave, with
 ///   the words that it found. The disk was synced just before. `disks` opened it at the path of the line.

@@ -9,6 +9,7 @@ use Rattle.mw_engine.specs.FileCalls.{FilesOne}
 use Rattle.mw_engine.specs.TenantWords.{HasPass}
 use Rattle.mw_engine.proofs.Branded.{in_words, of_engine}
 use Rattle.mw_engine.proofs.RepliesOfJobs.{file_way}
+use Rattle.mw_engine.proofs.RequestAfterFileCall.{file_serves}
 use Rattle.mw_engine.proofs.engine.Engine.file_then.Goals as goal
 
 pub file-requires-clause-own : goal.file-requires-clause-own
@@ -33,7 +34,14 @@ returns-then-not-seals-clause-way g c = file_way g.D.Disk.facts g.J.EngineBrand.
     (subst (λ (actor : ActorState). FilesOne g.D.Disk.facts g.J.EngineBrand.identity c.loop.pass c.file.new.pass actor c.file.new.actor) c.loop.invariant.actor_is c.file.ensures.files))
 
 pub seal_next-requires-clause-whose : goal.seal_next-requires-clause-whose
-seal_next-requires-clause-whose g c = ap (λ one. one.tenant) c.deref_mut-then-is_of.ensures.value ∙ c.file.ensures.whose
+seal_next-requires-clause-whose g c =
+    ap (λ one. one.tenant) c.deref_mut-then-is_of-2.ensures.value ∙ (ap (λ one. one.tenant) c.deref_mut-then-is_of.ensures.value ∙ c.file.ensures.whose)
+
+pub returns-then-is_of-clause-call : goal.returns-then-is_of-clause-call
+returns-then-is_of-clause-call g c =
+    λ first at. c.seal_next.ensures.call first (file_serves g.D.Disk.facts g.J.EngineBrand.identity c.args.pass.now c.file.new.pass c.args.actor.now c.file.new.actor
+    (subst (λ (pass : Pass). FilesOne g.D.Disk.facts g.J.EngineBrand.identity pass c.file.new.pass c.args.actor.now c.file.new.actor) c.loop.invariant.pass_is
+    (subst (λ (actor : ActorState). FilesOne g.D.Disk.facts g.J.EngineBrand.identity c.loop.pass c.file.new.pass actor c.file.new.actor) c.loop.invariant.actor_is c.file.ensures.files)) first at)
 
 pub returns-then-is_of-clause-same : goal.returns-then-is_of-clause-same
 returns-then-is_of-clause-same g c = λ off. let never : true ≡ false = sym c.if-not-seals.false ∙ off in cc
