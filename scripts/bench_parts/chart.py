@@ -83,7 +83,7 @@ class Chart:
         """How long GETs took beside a load: half of them less, and 99 of 100."""
         self.gets.rows.append((name, microseconds))
 
-    def add_one_tenant(self, disk: str, clients: Sequence[str], stores: Dict[str, Sequence[Tuple[float, float, float, float]]]) -> None:
+    def add_one_tenant(self, disk: str, clients: Sequence[str], stores: Dict[str, Sequence[Tuple[float, ...]]]) -> None:
         """What stores did on a disk under the loads of these clients, a figure of each kind a load: changes a second, microseconds
         that half of them and 99 of 100 took at most, syncs a change."""
         for part, title, is_logarithmic in ((0, f"Changes a second, {disk}", False), (3, f"Syncs a change, {disk}", False),

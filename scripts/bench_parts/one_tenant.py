@@ -1,21 +1,23 @@
 """Times changes of one tenant by several clients, and counts the syncs of them, beside other stores with as many clients.
 
 A row is told for each store and each number of clients: changes a second; how long a change takes, half of them less and 99 of
-100 less; and how many syncs the store made for a change. All are medians of the turns. The clients have a word each, or all
-have one. Of one word each client adds 1 again and again: its change is asked for until it is made, with the value that the word
+100 less; how many syncs the store made for a change; and how long a sync took, on average. All are medians of the turns. In a turn
+all stores run side by side, and have each load one after the other: a disk is often fast for minutes, and slow for others. The
+clients have a word each, or all have one. Of one word each client adds 1 again and again: its change is asked for until it is made, with the value that the word
 was found to have, and takes as long as all of this.
 
-Syncs are counted, and made slower, by slow_syncs.c, which is put under a store; under etcd, which no library can be put under,
+Syncs are counted, timed and made slower by slow_syncs.c, which is put under a store; under etcd, which no library can be put under,
 by strace, which looks at its syncs alone. So what is told of etcd is what it does under strace.
 
 Used by: scripts/bench-server --one-tenant.
 """
 import multiprocessing
 import os
+import re
 import shutil
 import sqlite3
 import tempfile
-from contextlib import contextmanager
+from contextlib import ExitStack, contextmanager
 from pathlib import Path
 from statistics import median
 from typing import Callable, Dict, Iterator, List, NamedTuple, Optional, Sequence, Tuple
@@ -43,31 +45,39 @@ LOADS = (Load(1), Load(4), Load(16), Load(64), Load(16, True))
 
 
 class Figures(NamedTuple):
-    """Changes a second; how many microseconds one takes, half of them less and 99 of 100 less; and the syncs a change."""
+    """Changes a second; how many microseconds one takes, half of them less and 99 of 100 less; the syncs a change; and how many
+    microseconds a sync takes."""
     rate: float
     half: float
     most: float
     syncs: float
+    sync: float
+
+
+class Syncs(NamedTuple):
+    """How many syncs there were, and how many seconds they took."""
+    number: int
+    seconds: float
 
 
 class Running(NamedTuple):
-    """A store that runs: what a client of a word does; how many syncs were made so far; and how its clients' processes are
-    started."""
+    """A store that runs: what a client of a word does; the syncs so far; and how its clients' processes are started."""
     client: Callable[[int, bool], Tuple]
-    syncs: Callable[[], int]
+    syncs: Callable[[], Syncs]
     by: object = multiprocessing
 
 
 class Counter:
-    """A file in which syncs are counted, and the environment of a process whose syncs are counted there."""
+    """A file in which syncs are counted and timed, and the environment of a process whose syncs are."""
 
     def __init__(self, room: Path, library: Path, delay: int) -> None:
         self.path = room / "syncs"
-        self.path.write_bytes(bytes(8))
+        self.path.write_bytes(bytes(16))
         self.environment = {"LD_PRELOAD": str(library), "SYNC_DELAY": str(delay), "SYNC_COUNT": str(self.path)}
 
-    def syncs(self) -> int:
-        return int.from_bytes(self.path.read_bytes(), "little")
+    def syncs(self) -> Syncs:
+        told = self.path.read_bytes()
+        return Syncs(int.from_bytes(told[:8], "little"), int.from_bytes(told[8:], "little") / 1e9)
 
 
 @contextmanager
@@ -106,12 +116,18 @@ def etcd(room: Path, library: Path, delay: int) -> Iterator[Running]:
     """One log for all clients, under strace."""
     told, port = room / "syncs", free_port()
     at, peer = f"http://{HOST}:{port}", f"http://{HOST}:{free_port()}"
-    words = ["strace", "-f", "-qq", "--seccomp-bpf", "-o", str(told), "-e", "trace=fsync,fdatasync"]
+    words = ["strace", "-f", "-qq", "--seccomp-bpf", "-o", str(told), "-T", "-e", "trace=fsync,fdatasync"]
     words += ["-e", f"inject=fsync,fdatasync:delay_enter={delay}"] if delay else []
     words += ["etcd", "--data-dir", str(room / "etcd"), "--listen-client-urls", at, "--advertise-client-urls", at]
     words += ["--listen-peer-urls", peer, "--initial-advertise-peer-urls", peer, "--initial-cluster", f"default={peer}"]
     with Other(words, port):
-        yield Running(lambda word, is_shared: (etcd_changes, port, word, is_shared), lambda: told.read_text().count("sync("))
+        yield Running(lambda word, is_shared: (etcd_changes, port, word, is_shared), lambda: told_syncs(told.read_text()))
+
+
+def told_syncs(told: str) -> Syncs:
+    """The syncs that strace has told of. It tells of some in two lines, of which the second has the time."""
+    times = re.findall(r"sync.* <([0-9.]+)>$", told, re.MULTILINE)
+    return Syncs(len(times), sum(map(float, times)))
 
 
 def stores_of(programs: Sequence[Path]) -> Dict[str, Callable]:
@@ -120,11 +136,12 @@ def stores_of(programs: Sequence[Path]) -> Dict[str, Callable]:
         return lambda room, library, delay: mondlexi(program, room, library, delay)
 
     stores: Dict[str, Callable] = {f"Mondlexi, {program}": of(program) for program in programs}
-    stores[f"SQLite {sqlite3.sqlite_version}, WAL, FULL"] = sqlite
     if shutil.which("redis-server"):
         stores["Redis, a script, fsync always"] = redis
     if shutil.which("etcd") and shutil.which("strace"):
         stores["etcd, a transaction"] = etcd
+    # The last, since it sets this process's environment, which a store that began later would have.
+    stores[f"SQLite {sqlite3.sqlite_version}, WAL, FULL"] = sqlite
     return stores
 
 
@@ -136,17 +153,21 @@ def figures_of(running: Running, load: Load, seconds: float) -> Figures:
     times = [time for all_times in took.values() for time in all_times]
     if not times:
         wrong("no change was made")
-    syncs = (running.syncs() - before) / (len(times) + load.clients)
-    return Figures(len(times) / seconds, median(times) * 1e6, quantile(times, 0.99) * 1e6, syncs)
+    after = running.syncs()
+    made, took_all = after.number - before.number, after.seconds - before.seconds
+    per_change = made / (len(times) + load.clients)
+    return Figures(len(times) / seconds, median(times) * 1e6, quantile(times, 0.99) * 1e6, per_change, took_all / max(made, 1) * 1e6)
 
 
 def by_turns(stores: Dict[str, Callable], folder: Path, library: Path, delay: int, seconds: float, turns: int) -> Dict[Tuple[str, Load], Figures]:
     """The figures of each store under each load: the medians of the turns, in each of which every store is new."""
     found: Dict[Tuple[str, Load], List[Figures]] = {}
     for _ in range(turns):
-        for name, store in stores.items():
-            with tempfile.TemporaryDirectory(dir=folder) as room, store(Path(room), library, delay) as running:
-                for load in LOADS:
+        with ExitStack() as stack:
+            all_running = {name: stack.enter_context(store(Path(stack.enter_context(tempfile.TemporaryDirectory(dir=folder))), library, delay))
+                           for name, store in stores.items()}
+            for load in LOADS:
+                for name, running in all_running.items():
                     found.setdefault((name, load), []).append(figures_of(running, load, seconds))
     return {key: Figures(*map(median, zip(*told))) for key, told in found.items()}
 
@@ -159,11 +180,11 @@ def time_one_tenant(programs: Sequence[Path], folder: str, seconds: float, turns
     with tempfile.TemporaryDirectory() as built:
         library = compiled(built, "slow_syncs", "-shared", "-fPIC", "-ldl")
         for delay, disk in (DELAYS if only is None else {only: f"each sync {only} us longer"}).items():
-            row(f"one tenant, {disk}", "changes/s", "50 %, us", "99 %, us", "syncs/change")
+            row(f"one tenant, {disk}", "changes/s", "50 %, us", "99 %, us", "syncs/change", "sync, us")
             found = by_turns(stores, Path(folder), library, delay, seconds, turns)
             for name in stores:
                 row(name)
                 for load in LOADS:
                     it = found[name, load]
-                    row(f"  clients: {load.text()}", number(it.rate), number(it.half), number(it.most), number(it.syncs, 2))
+                    row(f"  clients: {load.text()}", number(it.rate), number(it.half), number(it.most), number(it.syncs, 2), number(it.sync))
             chart.add_one_tenant(disk, [load.text() for load in LOADS], {name: [found[name, load] for load in LOADS] for name in stores})
