@@ -136,8 +136,12 @@ def compiled(folder, part, *flags):
     return built
 
 
+NAME = 58
+"""How wide the name of a row is."""
+
+
 def row(name, *figures):
-    print(f"{name:<58}" + "".join(f"{it:>14}" for it in figures), flush=True)
+    print(f"{name:<{NAME}}" + "".join(f"{it:>14}" for it in figures), flush=True)
 
 
 def number(it, digits=0):

@@ -19,6 +19,7 @@ import mondlexi  # noqa: E402
 sys.path.insert(0, str(TOP / "scripts"))
 from bench_parts import chart as chart_module  # noqa: E402
 from bench_parts.chart import Chart  # noqa: E402
+from bench_parts.stores import NAME  # noqa: E402
 
 VERSION = TOP / "crates/mw_main/src/lib.rt"
 MOST_EXPOSED = 2
@@ -234,6 +235,20 @@ def try_bench(folder):
     parts = ("Changes a second", "A change, microseconds", "A GET, microseconds", "Mondlexi (mwserve)", "SQLite")
     same(([it for it in parts if it not in said], list(room.iterdir())), ([], []), "the chart of a short run of bench-server, and what it leaves")
     print("bench-server: a short run is drawn beside other stores")
+
+
+def try_bench_of_one_tenant(folder):
+    """A short run of it tells that a lone client needs four syncs a change, and sixteen clients fewer. Nothing else is looked at."""
+    room = folder / "bench-one-tenant"
+    room.mkdir()
+    ran = subprocess.run([TOP / "scripts/bench-server", "--one-tenant", "--delay", "200", "--seconds", "0.3", "--turns", "1", "--folder", room],
+                         stdin=subprocess.DEVNULL, stdout=subprocess.PIPE, stderr=subprocess.STDOUT)
+    told = ran.stdout.decode()
+    same((ran.returncode, told if ran.returncode else ""), (0, ""), "bench-server --one-tenant")
+    ours = told.split("Mondlexi, ")[1].splitlines()
+    syncs = {row[:NAME].split(": ")[1].strip(): float(row.split()[-2]) for row in ours if row.startswith("  clients: ")}
+    same((syncs["1"], syncs["16"] < 3, list(room.iterdir())), (4.0, True, []), "the syncs of a change, and what a short run leaves")
+    print("bench-server --one-tenant: a lone client needs four syncs a change, and sixteen fewer")
 
 
 def try_chart_of_one_tenant(folder):
