@@ -11,7 +11,7 @@ from xml.sax.saxutils import escape
 WIDTH, LEFT, RIGHT = 860, 330, 90
 BAR, GAP, GROUP = 14, 3, 12
 LONGEST_NAME = 46
-COLOURS = ("#2b6cb0", "#dd8a2e", "#3f9b5f", "#a14c9c", "#8a8a8a")
+COLOURS = ("#2b6cb0", "#dd8a2e", "#3f9b5f", "#a14c9c", "#8a8a8a", "#c2494b")
 Row = Tuple[str, Sequence[float]]
 
 

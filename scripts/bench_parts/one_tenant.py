@@ -3,8 +3,10 @@
 A row is told for each store and each number of clients: changes a second; how long a change takes, half of them less and 99 of
 100 less; how many syncs the store made for a change; and how long a sync took, on average. All are medians of the turns. In a turn
 all stores run side by side, and have each load one after the other: a disk is often fast for minutes, and slow for others. The
-clients have a word each, or all have one. Of one word each client adds 1 again and again: its change is asked for until it is made, with the value that the word
-was found to have, and takes as long as all of this.
+clients have a word each, or all have one. Of one word each client adds 1 again and again: its change is asked for until it is made,
+with the value that the word was found to have, and takes as long as all of this.
+
+Of each mwserve one more row is told: sixteen clients of sixteen tenants, which share nothing.
 
 Syncs are counted, timed and made slower by slow_syncs.c, which is put under a store; under etcd, which no library can be put under,
 by strace, which looks at its syncs alone. So what is told of etcd is what it does under strace.
@@ -33,15 +35,17 @@ QUOTA = WORKERS = 64
 
 
 class Load(NamedTuple):
-    """So many clients, with a word each or with one for all."""
+    """So many clients of one tenant, with a word each or with one for all; or each of a tenant of its own."""
     clients: int
     is_shared: bool = False
+    is_apart: bool = False
 
     def text(self) -> str:
-        return f"{self.clients} of one word" if self.is_shared else str(self.clients)
+        return f"{self.clients} of one word" if self.is_shared else f"{self.clients} of a tenant each" if self.is_apart else str(self.clients)
 
 
-LOADS = (Load(1), Load(4), Load(16), Load(64), Load(16, True))
+LOADS = (Load(1), Load(2), Load(4), Load(16), Load(64), Load(16, True))
+ALL_APART = Load(16, is_apart=True)
 
 
 class Figures(NamedTuple):
@@ -89,6 +93,14 @@ def mondlexi(program: Path, room: Path, library: Path, delay: int) -> Iterator[R
 
 
 @contextmanager
+def mondlexi_apart(program: Path, room: Path, library: Path, delay: int) -> Iterator[Running]:
+    """An mwserve with a tenant for each client."""
+    counter = Counter(room, library, delay)
+    with Server(program, room, tenants=ALL_APART.clients, environment=counter.environment) as server:
+        yield Running(lambda number, _: (changes, server.port, number), counter.syncs)
+
+
+@contextmanager
 def sqlite(room: Path, library: Path, delay: int) -> Iterator[Running]:
     """One file for all clients. The library is put under each of them, since SQLite has no server."""
     counter = Counter(room, library, delay)
@@ -130,18 +142,29 @@ def told_syncs(told: str) -> Syncs:
     return Syncs(len(times), sum(map(float, times)))
 
 
-def stores_of(programs: Sequence[Path]) -> Dict[str, Callable]:
-    """All stores that are there, by name."""
-    def of(program: Path) -> Callable:
-        return lambda room, library, delay: mondlexi(program, room, library, delay)
+class Store(NamedTuple):
+    """How a store is run, and which loads it has."""
+    run: Callable
+    loads: Sequence[Load] = LOADS
 
-    stores: Dict[str, Callable] = {f"Mondlexi, {program}": of(program) for program in programs}
+
+def name_of(program: Path) -> str:
+    """An mwserve's name in the rows."""
+    return f"Mondlexi, {program}"
+
+
+def stores_of(programs: Sequence[Path]) -> List[Tuple[str, Store]]:
+    """All stores that are there, with their names."""
+    def of(run: Callable, program: Path, *loads: Sequence[Load]) -> Tuple[str, Store]:
+        return name_of(program), Store(lambda room, library, delay: run(program, room, library, delay), *loads)
+
+    stores = [of(mondlexi, program) for program in programs] + [of(mondlexi_apart, program, (ALL_APART,)) for program in programs]
     if shutil.which("redis-server"):
-        stores["Redis, a script, fsync always"] = redis
+        stores.append(("Redis, a script, fsync always", Store(redis)))
     if shutil.which("etcd") and shutil.which("strace"):
-        stores["etcd, a transaction"] = etcd
+        stores.append(("etcd, a transaction", Store(etcd)))
     # The last, since it sets this process's environment, which a store that began later would have.
-    stores[f"SQLite {sqlite3.sqlite_version}, WAL, FULL"] = sqlite
+    stores.append((f"SQLite {sqlite3.sqlite_version}, WAL, FULL", Store(sqlite)))
     return stores
 
 
@@ -159,16 +182,19 @@ def figures_of(running: Running, load: Load, seconds: float) -> Figures:
     return Figures(len(times) / seconds, median(times) * 1e6, quantile(times, 0.99) * 1e6, per_change, took_all / max(made, 1) * 1e6)
 
 
-def by_turns(stores: Dict[str, Callable], folder: Path, library: Path, delay: int, seconds: float, turns: int) -> Dict[Tuple[str, Load], Figures]:
-    """The figures of each store under each load: the medians of the turns, in each of which every store is new."""
+def by_turns(stores: Sequence[Tuple[str, Store]], folder: Path, library: Path, delay: int, seconds: float,
+             turns: int) -> Dict[Tuple[str, Load], Figures]:
+    """The figures of each store under each of its loads: the medians of the turns, in each of which every store is new."""
     found: Dict[Tuple[str, Load], List[Figures]] = {}
     for _ in range(turns):
         with ExitStack() as stack:
-            all_running = {name: stack.enter_context(store(Path(stack.enter_context(tempfile.TemporaryDirectory(dir=folder))), library, delay))
-                           for name, store in stores.items()}
-            for load in LOADS:
-                for name, running in all_running.items():
-                    found.setdefault((name, load), []).append(figures_of(running, load, seconds))
+            rooms = [Path(stack.enter_context(tempfile.TemporaryDirectory(dir=folder))) for _ in stores]
+            all_running = [(name, store.loads, stack.enter_context(store.run(room, library, delay)))
+                           for room, (name, store) in zip(rooms, stores)]
+            for load in (*LOADS, ALL_APART):
+                for name, loads, running in all_running:
+                    if load in loads:
+                        found.setdefault((name, load), []).append(figures_of(running, load, seconds))
     return {key: Figures(*map(median, zip(*told))) for key, told in found.items()}
 
 
@@ -182,9 +208,10 @@ def time_one_tenant(programs: Sequence[Path], folder: str, seconds: float, turns
         for delay, disk in (DELAYS if only is None else {only: f"each sync {only} us longer"}).items():
             row(f"one tenant, {disk}", "changes/s", "50 %, us", "99 %, us", "syncs/change", "sync, us")
             found = by_turns(stores, Path(folder), library, delay, seconds, turns)
-            for name in stores:
+            names = list(dict(stores))
+            for name in names:
                 row(name)
-                for load in LOADS:
+                for load in (other for other in (*LOADS, ALL_APART) if (name, other) in found):
                     it = found[name, load]
                     row(f"  clients: {load.text()}", number(it.rate), number(it.half), number(it.most), number(it.syncs, 2), number(it.sync))
-            chart.add_one_tenant(disk, [load.text() for load in LOADS], {name: [found[name, load] for load in LOADS] for name in stores})
+            chart.add_one_tenant(disk, [load.text() for load in LOADS], {name: [found[name, load] for load in LOADS] for name in names})
