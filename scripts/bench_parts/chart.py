@@ -31,7 +31,7 @@ def shortened(name: str) -> str:
 
 
 class Panel:
-    """Bars of several rows, of two to five kinds each, with a title. Their lengths grow with the logarithm where that is asked for."""
+    """Bars of several rows, of two to six kinds each, with a title. Their lengths grow with the logarithm where that is asked for."""
 
     def __init__(self, title: str, kinds: Sequence[str], is_logarithmic: bool = False):
         self.title, self.kinds, self.is_logarithmic = title, kinds, is_logarithmic

@@ -10,6 +10,7 @@ import signal
 import subprocess
 import sys
 import time
+from itertools import takewhile
 from xml.etree import ElementTree
 
 from .common import BUILT, MWBENCH, MWINIT, MWSERVE, PROGRAMS, TOP, Peer, at, is_built, same
@@ -245,8 +246,8 @@ def try_bench_of_one_tenant(folder):
                          stdin=subprocess.DEVNULL, stdout=subprocess.PIPE, stderr=subprocess.STDOUT)
     told = ran.stdout.decode()
     same((ran.returncode, told if ran.returncode else ""), (0, ""), "bench-server --one-tenant")
-    ours = told.split("Mondlexi, ")[1].splitlines()
-    syncs = {row[:NAME].split(": ")[1].strip(): float(row.split()[-2]) for row in ours if row.startswith("  clients: ")}
+    ours = takewhile(lambda row: row.startswith("  clients: "), told.split("Mondlexi, ")[1].splitlines()[1:])
+    syncs = {row[:NAME].split(": ")[1].strip(): float(row.split()[-2]) for row in ours}
     same((syncs["1"], syncs["16"] < 3, list(room.iterdir())), (4.0, True, []), "the syncs of a change, and what a short run leaves")
     print("bench-server --one-tenant: a lone client needs four syncs a change, and sixteen fewer")
 
