@@ -1,16 +1,24 @@
-/* A server that makes the system calls of mwserve for each request, and does next to nothing besides: no session, no shared
-   words that others may finish, no look at what a file holds, no record that could be read again. Beside it scripts/bench-server
-   shows what of a server's figures is the system's: its sockets, its files, and when it gives a thread a processor.
+/* A server that makes system calls as mwserve does, and does next to nothing besides: no session, no shared words that others may
+   finish, no look at what a file holds, no record that could be read again. Beside it scripts/bench-server shows what of a server's
+   figures is the system's: its sockets, its files, and when it gives a thread a processor.
 
        bare_server --tenants FILE ..
 
    It reads the lines `NAME WORDS QUOTA PATH` of FILE, ignores what else stands there, listens at a port of 127.0.0.1, prints
    `ready PORT`, and serves each connection by a thread of its own until it is killed. It knows the lines TENANT, GET, CAS of
-   one entry, and QUIT. A change that is made is ten system calls, as mwserve's are: a read of the line; the record and a sync; the gate
-   byte and a sync; the word and a sync; the gate byte and a sync; a write of the reply. */
+   one entry, and QUIT. It doesn't keep changes of one word apart, so let each client have a word of its own. A GET and a NO may tell
+   a value before it is durable.
+
+   Compiled without SHARES_SYNCS, it makes for each request the system calls of mwserve. A change is ten, as a change alone of mwserve
+   is: a read of the line; the record and a sync; the commit byte and a sync; the word and a sync; the commit byte and a sync; a write
+   of the reply.
+
+   Compiled with SHARES_SYNCS, changes of a tenant share syncs much as those of mwserve do. The thread that holds the file makes the
+   calls of all that wait, from a prepare up to a settle; only after that another thread may have to wake. */
 #define _GNU_SOURCE
 #include <arpa/inet.h>
 #include <fcntl.h>
+#include <linux/futex.h>
 #include <netinet/tcp.h>
 #include <pthread.h>
 #include <signal.h>
@@ -20,17 +28,30 @@
 #include <stdlib.h>
 #include <string.h>
 #include <sys/socket.h>
+#include <sys/syscall.h>
 #include <unistd.h>
 
 enum { MOST_TENANTS = 16, MOST_WORDS = 4096, PLACES = 64, HEAD = 32, WORD = 8, PLACE = 264, LONGEST = 640 };
+
+/* A change that waits for its tenant's file: until it was made, or until its own thread must hold the file. */
+struct change {
+    struct change *next;
+    off_t place;
+    unsigned address;
+    uint64_t value;
+    int has_record;
+    _Atomic enum { WAITS, HOLDS, MADE } state;
+};
 
 struct tenant {
     char name[32];
     unsigned words;
     int file;
     _Atomic uint64_t values[MOST_WORDS];
-    atomic_uint next_place;
+    atomic_uint places_taken;
     pthread_mutex_t lock;
+    struct change *waiting;
+    int is_held;
 };
 
 static struct tenant tenants[MOST_TENANTS];
@@ -70,27 +91,149 @@ static void read_tenants(const char *path) {
     fclose(text);
 }
 
-/* The three calls on the file, each under the tenant's lock, as mwserve makes them. */
-static void keep(struct tenant *it, unsigned address, uint64_t value) {
+static void write_record(struct tenant *it, off_t place) {
     static const char record[PLACE - 1];
-    static const char open_gate = (char)0xa5, closed_gate = 0;
-    unsigned place = atomic_fetch_add(&it->next_place, 1) % PLACES;
-    off_t at = HEAD + WORD * (off_t)it->words + PLACE * (off_t)place;
-    pthread_mutex_lock(&it->lock);
-    write_at(it->file, at + 1, record, sizeof record);
-    sync_file(it->file);
-    pthread_mutex_unlock(&it->lock);
-    pthread_mutex_lock(&it->lock);
-    write_at(it->file, at, &open_gate, 1);
-    sync_file(it->file);
-    pthread_mutex_unlock(&it->lock);
-    pthread_mutex_lock(&it->lock);
+    write_at(it->file, place + 1, record, sizeof record);
+}
+
+static void set_commit_byte(struct tenant *it, off_t place, int byte) { write_at(it->file, place, &(char){(char)byte}, 1); }
+
+static void write_word(struct tenant *it, unsigned address, uint64_t value) {
     write_at(it->file, HEAD + WORD * (off_t)address, &value, sizeof value);
+}
+
+static off_t taken_place(struct tenant *it) {
+    return HEAD + WORD * (off_t)it->words + PLACE * (off_t)(atomic_fetch_add(&it->places_taken, 1) % PLACES);
+}
+
+enum { CLEARED = 0, SET = 0xa5 };
+
+#ifndef SHARES_SYNCS
+
+/* The calls on the file, in two turns of the tenant's lock, as mwserve makes them for a change alone. */
+static void keep(struct tenant *it, unsigned address, uint64_t value) {
+    off_t place = taken_place(it);
+    pthread_mutex_lock(&it->lock);
+    write_record(it, place);
     sync_file(it->file);
-    write_at(it->file, at, &closed_gate, 1);
+    set_commit_byte(it, place, SET);
+    sync_file(it->file);
+    pthread_mutex_unlock(&it->lock);
+    pthread_mutex_lock(&it->lock);
+    write_word(it, address, value);
+    sync_file(it->file);
+    set_commit_byte(it, place, CLEARED);
     sync_file(it->file);
     pthread_mutex_unlock(&it->lock);
 }
+
+#else
+
+static void append(struct change **list, struct change *more) {
+    while (*list)
+        list = &(*list)->next;
+    *list = more;
+}
+
+/* Moves those that have begun to wait to the end of a list. */
+static void take_waiting(struct tenant *it, struct change **list) {
+    pthread_mutex_lock(&it->lock);
+    append(list, it->waiting);
+    it->waiting = NULL;
+    pthread_mutex_unlock(&it->lock);
+}
+
+/* Writes the records that are not in the file yet. */
+static void write_records(struct tenant *it, struct change *list) {
+    for (struct change *change = list; change; change = change->next)
+        if (!change->has_record) {
+            write_record(it, change->place);
+            change->has_record = 1;
+        }
+}
+
+/* Seals the first that waits, and moves it to the end of the sealed ones. Its record gets a sync before, if it had none. */
+static void seal_first(struct tenant *it, struct change **waiting, struct change **sealed) {
+    struct change *first = *waiting;
+    if (!first->has_record) {
+        write_records(it, first);
+        sync_file(it->file);
+        take_waiting(it, waiting);
+    }
+    write_records(it, first);
+    set_commit_byte(it, first->place, SET);
+    sync_file(it->file);
+    *waiting = first->next;
+    first->next = NULL;
+    append(sealed, first);
+}
+
+/* Lets the thread of a change go on. After the store the change may be gone: only its address is used. */
+static void wake(struct change *change, int state) {
+    atomic_store(&change->state, state);
+    syscall(SYS_futex, &change->state, FUTEX_WAKE_PRIVATE, 1, NULL, NULL, 0);
+}
+
+/* Settles all that are sealed, and writes the records of those that have begun to wait along. */
+static void settle(struct tenant *it, struct change **waiting, struct change *sealed, struct change *own) {
+    take_waiting(it, waiting);
+    write_records(it, *waiting);
+    for (struct change *change = sealed; change; change = change->next)
+        write_word(it, change->address, change->value);
+    sync_file(it->file);
+    for (struct change *change = sealed; change; change = change->next)
+        set_commit_byte(it, change->place, CLEARED);
+    sync_file(it->file);
+    for (struct change *next; sealed; sealed = next) {
+        next = sealed->next;
+        if (sealed == own)
+            own->state = MADE;
+        else
+            wake(sealed, MADE);
+    }
+}
+
+/* Gives the file to the first that waits. */
+static void pass_on(struct tenant *it, struct change *waiting) {
+    pthread_mutex_lock(&it->lock);
+    append(&waiting, it->waiting);
+    it->waiting = waiting;
+    it->is_held = waiting != NULL;
+    pthread_mutex_unlock(&it->lock);
+    if (waiting)
+        wake(waiting, HOLDS);
+}
+
+/* Makes the calls of all that wait until a change of the holder's own is made. A settle comes when no other change waits. */
+static void hold(struct tenant *it, struct change *own) {
+    struct change *waiting = NULL, *sealed = NULL;
+    while (own->state != MADE) {
+        take_waiting(it, &waiting);
+        if (waiting) {
+            seal_first(it, &waiting, &sealed);
+        } else {
+            settle(it, &waiting, sealed, own);
+            sealed = NULL;
+        }
+    }
+    pass_on(it, waiting);
+}
+
+static void keep(struct tenant *it, unsigned address, uint64_t value) {
+    struct change own = {.address = address, .value = value};
+    pthread_mutex_lock(&it->lock);
+    own.place = taken_place(it);
+    int holds = !it->is_held;
+    it->is_held = 1;
+    append(&it->waiting, &own);
+    pthread_mutex_unlock(&it->lock);
+    while (!holds && own.state == WAITS)
+        syscall(SYS_futex, &own.state, FUTEX_WAIT_PRIVATE, WAITS, NULL, NULL, 0);
+    if (holds || own.state == HOLDS)
+        hold(it, &own);
+}
+
+#endif
 
 static int answer(struct tenant **bound, const char *line, char *reply) {
     char name[32];

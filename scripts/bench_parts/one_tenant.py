@@ -6,7 +6,8 @@ all stores run side by side, and have each load one after the other: a disk is o
 clients have a word each, or all have one. Of one word each client adds 1 again and again: its change is asked for until it is made,
 with the value that the word was found to have, and takes as long as all of this.
 
-Of each mwserve one more row is told: sixteen clients of sixteen tenants, which share nothing.
+Of each mwserve one more row is told: sixteen clients of sixteen tenants, which share nothing. A bare server that shares syncs
+(bare_server.c), if it is asked for, has the loads with a word each alone, and isn't in the chart.
 
 Syncs are counted, timed and made slower by slow_syncs.c, which is put under a store; under etcd, which no library can be put under,
 by strace, which looks at its syncs alone. So what is told of etcd is what it does under strace.
@@ -20,6 +21,7 @@ import shutil
 import sqlite3
 import tempfile
 from contextlib import ExitStack, contextmanager
+from functools import partial
 from pathlib import Path
 from statistics import median
 from typing import Callable, Dict, Iterator, List, NamedTuple, Optional, Sequence, Tuple
@@ -44,7 +46,8 @@ class Load(NamedTuple):
         return f"{self.clients} of one word" if self.is_shared else f"{self.clients} of a tenant each" if self.is_apart else str(self.clients)
 
 
-LOADS = (Load(1), Load(2), Load(4), Load(16), Load(64), Load(16, True))
+A_WORD_EACH = (Load(1), Load(2), Load(4), Load(16), Load(64))
+LOADS = (*A_WORD_EACH, Load(16, True))
 ALL_APART = Load(16, is_apart=True)
 
 
@@ -86,7 +89,7 @@ class Counter:
 
 @contextmanager
 def mondlexi(program: Path, room: Path, library: Path, delay: int) -> Iterator[Running]:
-    """An mwserve with one tenant."""
+    """An mwserve with one tenant, or a bare server."""
     counter = Counter(room, library, delay)
     with Server(program, room, workers=WORKERS, tenants=1, quota=QUOTA, environment=counter.environment) as server:
         yield Running(lambda word, is_shared: (contended_changes if is_shared else changes, server.port, 0, APART * word), counter.syncs)
@@ -143,28 +146,25 @@ def told_syncs(told: str) -> Syncs:
 
 
 class Store(NamedTuple):
-    """How a store is run, and which loads it has."""
+    """A store's name in the rows, how it is run, and which loads it has. An mwserve is listed twice under one name: with one tenant,
+    and with sixteen."""
+    name: str
     run: Callable
     loads: Sequence[Load] = LOADS
 
 
-def name_of(program: Path) -> str:
-    """An mwserve's name in the rows."""
-    return f"Mondlexi, {program}"
-
-
-def stores_of(programs: Sequence[Path]) -> List[Tuple[str, Store]]:
-    """All stores that are there, with their names."""
-    def of(run: Callable, program: Path, *loads: Sequence[Load]) -> Tuple[str, Store]:
-        return name_of(program), Store(lambda room, library, delay: run(program, room, library, delay), *loads)
-
-    stores = [of(mondlexi, program) for program in programs] + [of(mondlexi_apart, program, (ALL_APART,)) for program in programs]
+def stores_of(programs: Sequence[Path], bare: Optional[Path]) -> List[Store]:
+    """All stores that are there, and the bare server if it was built."""
+    stores = [Store(f"Mondlexi, {program}", partial(mondlexi, program)) for program in programs]
+    stores += [Store(f"Mondlexi, {program}", partial(mondlexi_apart, program), (ALL_APART,)) for program in programs]
+    if bare:
+        stores.append(Store("a bare server that shares syncs", partial(mondlexi, bare), A_WORD_EACH))
     if shutil.which("redis-server"):
-        stores.append(("Redis, a script, fsync always", Store(redis)))
+        stores.append(Store("Redis, a script, fsync always", redis))
     if shutil.which("etcd") and shutil.which("strace"):
-        stores.append(("etcd, a transaction", Store(etcd)))
-    # The last, since it sets this process's environment, which a store that began later would have.
-    stores.append((f"SQLite {sqlite3.sqlite_version}, WAL, FULL", Store(sqlite)))
+        stores.append(Store("etcd, a transaction", etcd))
+    # The last, because it sets this process's environment, which a store that began later would have.
+    stores.append(Store(f"SQLite {sqlite3.sqlite_version}, WAL, FULL", sqlite))
     return stores
 
 
@@ -182,36 +182,38 @@ def figures_of(running: Running, load: Load, seconds: float) -> Figures:
     return Figures(len(times) / seconds, median(times) * 1e6, quantile(times, 0.99) * 1e6, per_change, took_all / max(made, 1) * 1e6)
 
 
-def by_turns(stores: Sequence[Tuple[str, Store]], folder: Path, library: Path, delay: int, seconds: float,
+def by_turns(stores: Sequence[Store], folder: Path, library: Path, delay: int, seconds: float,
              turns: int) -> Dict[Tuple[str, Load], Figures]:
     """The figures of each store under each of its loads: the medians of the turns, in each of which every store is new."""
     found: Dict[Tuple[str, Load], List[Figures]] = {}
     for _ in range(turns):
         with ExitStack() as stack:
             rooms = [Path(stack.enter_context(tempfile.TemporaryDirectory(dir=folder))) for _ in stores]
-            all_running = [(name, store.loads, stack.enter_context(store.run(room, library, delay)))
-                           for room, (name, store) in zip(rooms, stores)]
+            all_running = [(store, stack.enter_context(store.run(room, library, delay))) for room, store in zip(rooms, stores)]
             for load in (*LOADS, ALL_APART):
-                for name, loads, running in all_running:
-                    if load in loads:
-                        found.setdefault((name, load), []).append(figures_of(running, load, seconds))
+                for store, running in all_running:
+                    if load in store.loads:
+                        found.setdefault((store.name, load), []).append(figures_of(running, load, seconds))
     return {key: Figures(*map(median, zip(*told))) for key, told in found.items()}
 
 
-def time_one_tenant(programs: Sequence[Path], folder: str, seconds: float, turns: int, chart: Chart, only: Optional[int] = None) -> None:
-    """Prints the rows, and adds them to a chart: for the delays of `DELAYS`, or for one alone."""
+def time_one_tenant(programs: Sequence[Path], folder: str, seconds: float, turns: int, chart: Chart, only: Optional[int] = None,
+                    with_bare: bool = False) -> None:
+    """Prints the rows, and adds those of the stores to a chart: for the delays of `DELAYS`, or for one alone."""
     if not shutil.which("cc"):
         wrong("there is no C compiler cc, so syncs can't be counted")
-    stores = stores_of(programs)
     with tempfile.TemporaryDirectory() as built:
         library = compiled(built, "slow_syncs", "-shared", "-fPIC", "-ldl")
+        bare = compiled(built, "bare_server", "-pthread", "-DSHARES_SYNCS") if with_bare else None
+        stores = stores_of(programs, bare)
         for delay, disk in (DELAYS if only is None else {only: f"each sync {only} us longer"}).items():
             row(f"one tenant, {disk}", "changes/s", "50 %, us", "99 %, us", "syncs/change", "sync, us")
             found = by_turns(stores, Path(folder), library, delay, seconds, turns)
-            names = list(dict(stores))
+            names = list(dict.fromkeys(store.name for store in stores))
             for name in names:
                 row(name)
                 for load in (other for other in (*LOADS, ALL_APART) if (name, other) in found):
                     it = found[name, load]
                     row(f"  clients: {load.text()}", number(it.rate), number(it.half), number(it.most), number(it.syncs, 2), number(it.sync))
-            chart.add_one_tenant(disk, [load.text() for load in LOADS], {name: [found[name, load] for load in LOADS] for name in names})
+            whole = [name for name in names if all((name, load) in found for load in LOADS)]
+            chart.add_one_tenant(disk, [load.text() for load in LOADS], {name: [found[name, load] for load in LOADS] for name in whole})
