@@ -13,8 +13,8 @@
    is: a read of the line; the record and a sync; the commit byte and a sync; the word and a sync; the commit byte and a sync; a write
    of the reply.
 
-   Compiled with SHARES_SYNCS, changes of a tenant share syncs much as those of mwserve do. The thread that holds the file makes the
-   calls of all that wait, from a prepare up to a settle; only after that another thread may have to wake. */
+   Compiled with SHARES_SYNCS, changes of a tenant share syncs as those of mwserve do: the thread that holds the file makes the calls
+   of all that wait, from a prepare up to a settle, and only after that another thread may have to wake. */
 #define _GNU_SOURCE
 #include <arpa/inet.h>
 #include <fcntl.h>
@@ -110,7 +110,7 @@ enum { CLEARED = 0, SET = 0xa5 };
 
 #ifndef SHARES_SYNCS
 
-/* The calls on the file, in two turns of the tenant's lock, as mwserve makes them for a change alone. */
+/* The calls on the file that mwserve makes for a change alone, in two turns of the tenant's lock. */
 static void keep(struct tenant *it, unsigned address, uint64_t value) {
     off_t place = taken_place(it);
     pthread_mutex_lock(&it->lock);

@@ -198,14 +198,17 @@ def by_turns(stores: Sequence[Store], folder: Path, library: Path, delay: int, s
 
 
 def time_one_tenant(programs: Sequence[Path], folder: str, seconds: float, turns: int, chart: Chart, only: Optional[int] = None,
-                    with_bare: bool = False) -> None:
-    """Prints the rows, and adds those of the stores to a chart: for the delays of `DELAYS`, or for one alone."""
+                    with_bare: bool = False, clients: Optional[int] = None) -> None:
+    """Prints the rows, and adds those of the stores to a chart: for the delays of `DELAYS`, or for one alone; for all loads, or for so
+    many clients with a word each."""
     if not shutil.which("cc"):
         wrong("there is no C compiler cc, so syncs can't be counted")
     with tempfile.TemporaryDirectory() as built:
         library = compiled(built, "slow_syncs", "-shared", "-fPIC", "-ldl")
         bare = compiled(built, "bare_server", "-pthread", "-DSHARES_SYNCS") if with_bare else None
         stores = stores_of(programs, bare)
+        if clients:
+            stores = [store._replace(loads=(Load(clients),)) for store in stores if Load(clients) in store.loads]
         for delay, disk in (DELAYS if only is None else {only: f"each sync {only} us longer"}).items():
             row(f"one tenant, {disk}", "changes/s", "50 %, us", "99 %, us", "syncs/change", "sync, us")
             found = by_turns(stores, Path(folder), library, delay, seconds, turns)

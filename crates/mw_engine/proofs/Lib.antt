@@ -17,3 +17,4 @@ pub mod FiguresSoFar
 pub mod FigureLoads
 pub mod OpenedParts
 pub mod StepOrFileCall
+pub mod RequestsGoOn

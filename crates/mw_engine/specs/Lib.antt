@@ -18,3 +18,4 @@ pub mod Steps
 pub mod StoreAlone
 pub mod TenantWords
 pub mod Notes
+pub mod Errands

@@ -13,8 +13,8 @@ use std::alloc::Global;
 use std::sync::Wait;
 
 impl<J: EngineBrand, D: Disk + Drop, H: Drop> Engine<J, D, H> {
-    /// Copies the bytes of a tenant's file between two calls on it. Waits for the lock of that file, which a call
-    /// that is under way holds. The number must be one of the engine's tenants.
+    /// Copies the bytes of a tenant's file between two calls on it. Waits for the lock of that file, which a thread
+    /// holds for the calls of up to 64 requests. The number must be one of the engine's tenants.
     ///
     /// On a disk that keeps the model of [`Disk`], the copy is a file of just the words that the file pass tells at
     /// that moment. It has at most 86,848 bytes (`MAX_FILE` of mw_record). Nothing is written, and what the lock
@@ -35,8 +35,11 @@ impl<J: EngineBrand, D: Disk + Drop, H: Drop> Engine<J, D, H> {
             if index >= self.books.len() {
                 index = 0;
             }
-            let mut guard = self.books[index].lock_between_calls(rt);
-            if let Some(copied) = guard.value.copy_of(tenant, alloc) {
+            let mut guard = self.books[index].lock(rt);
+            let copied = guard.value.copy_of(tenant, alloc);
+            drop(guard);
+            self.wake_next(rt, &self.books[index]);
+            if let Some(copied) = copied {
                 return copied;
             }
             index += 1;
@@ -46,7 +49,8 @@ impl<J: EngineBrand, D: Disk + Drop, H: Drop> Engine<J, D, H> {
 }
 
 impl<J: EngineBrand, D: Disk> GuardedFile<J, D> {
-    /// Copies the bytes of this file if it is that of this tenant. Gives None, and does nothing, if it is another one's.
+    /// Copies the bytes of this file if it is that of this tenant. Gives None, and does nothing, if it is another
+    /// one's.
     fn copy_of(&mut self, tenant: u8, alloc: Global) -> Option<Result<Vec<u8>, CopyFault>>
         ensures { IfSome result (λ copied. CopiesOne D.facts J.identity tenant copied) }
     {

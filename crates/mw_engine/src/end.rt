@@ -41,6 +41,7 @@ impl<J: EngineBrand, D: Disk + Drop, H: Drop> Engine<J, D, H> {
             words,
             hold: _,
             books,
+            errands: _,
         } = self;
         let Ok(mut disks) = Vec::with_capacity(alloc, books.len()) else {
             return Err(NoDisks::Memory);
@@ -77,6 +78,7 @@ impl<J: EngineBrand, D: Disk + Drop, H: Drop> Engine<J, D, H> {
             words,
             hold: _,
             books,
+            errands: _,
         } = self;
         let Ok(mut disks) = Vec::with_capacity(alloc, books.len()) else {
             return Err(NoDisks::Memory);

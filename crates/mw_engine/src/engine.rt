@@ -7,6 +7,7 @@ ghost use Rattle.mw_engine.specs.Brand.{identity_on};
 ghost use Rattle.mw_engine.specs.TenantWords.{lines_told};
 
 use crate::brand::EngineBrand;
+use crate::errand_boxes::ErrandBox;
 use crate::file_lock::FileLock;
 use crate::tenant_words::TenantWords;
 use mw_disk::Disk;
@@ -18,6 +19,7 @@ pub struct Engine<J: EngineBrand, D: Disk, H> {
     pub(crate) words: TenantWords,
     pub(crate) hold: H,
     pub(crate) books: Vec<FileLock<J, D>>,
+    pub(crate) errands: Vec<ErrandBox<J>>,
     ghost same: { identity_on words.core.shared (lines_told words) ≡ J.identity },
     ghost a_book_each: { length books.items ≡ length (lines_told words) },
 }

@@ -1,7 +1,7 @@
 //! Makes a call on a tenant's file, under its lock.
 //!
-//! Used by: `serving`, which takes the lock. Its contracts use `specs/Brand`, `specs/FileCalls` and `specs/Passes`:
-//! change them together.
+//! Used by: `serving` and `combiner`, which take the lock. Its contracts use `specs/Brand`, `specs/FileCalls` and
+//! `specs/Passes`: change them together.
 ghost use Rattle.std.specs.Prelude.{◌≡◌, ◌≢◌, ◌↔◌, None, IsTrue};
 ghost use Rattle.mw_world.specs.Definition.Calls.{called_at};
 ghost use Rattle.mw_core.specs.FromTable.{IsCarried, IsOfSameWorker, IsSamePass, View as Knowledge};
@@ -14,14 +14,37 @@ ghost use Rattle.mw_engine.specs.Steps.{IsSameRequest};
 
 use crate::brand::EngineBrand;
 use crate::guarded_file::GuardedFile;
+use crate::waiting_room::strike_off;
 use mw_actor::Actor;
-use mw_core::{Core, Pass};
+use mw_core::{Core, Pass, waiting_change};
 use mw_disk::Disk;
 use mw_look::Call;
 
-/// How many steps a request makes under the lock after its prepare, at most. Sixteen words that nobody else changes take
-/// some eighty.
-const STEPS_TO_SEAL: u32 = 256;
+/// How many steps a request makes under the lock in one phase, at most. Sixteen words that nobody else changes take some
+/// eighty.
+const STEPS_TO_CALL: u32 = 256;
+
+/// A phase of a change's way through its file.
+#[derive(Clone, Copy)]
+pub(crate) enum Phase {
+    /// It is prepared.
+    Prepare,
+    /// It is sealed.
+    Seal,
+    /// It is settled or cancelled.
+    End,
+}
+
+impl Phase {
+    /// Whether a call is of this phase.
+    fn has(self, call: Call) -> bool {
+        match self {
+            Phase::Prepare => matches!(call, Call::Prepare),
+            Phase::Seal => matches!(call, Call::Seal),
+            Phase::End => matches!(call, Call::Settle | Call::Cancel),
+        }
+    }
+}
 
 impl<J: EngineBrand, D: Disk> GuardedFile<J, D> {
     /// Whether this is the file of the request's tenant.
@@ -53,9 +76,16 @@ impl<J: EngineBrand, D: Disk> GuardedFile<J, D> {
         }
     }
 
-    /// Goes on with a request to its next call on this file, and makes that if it is a seal. Stops before if the
-    /// request has its reply, or has made [`STEPS_TO_SEAL`] steps.
-    pub(crate) fn seal_next(&mut self, core: &Core, pass: &mut Pass, actor: &mut Actor)
+    /// Goes on with a request to its next call on this file, and makes that if it is of this phase. Stops before if the
+    /// request has its reply, or has made [`STEPS_TO_CALL`] steps. Tells whether it came to such a call, which may have
+    /// done nothing or failed.
+    pub(crate) fn go_on_to(
+        &mut self,
+        core: &Core,
+        pass: &mut Pass,
+        actor: &mut Actor,
+        phase: Phase,
+    ) -> bool
         requires engine { identity_on core.now.shared J.identity.lines ≡ J.identity }
         requires own { IsOneOf core.now.shared pass.old }
         requires carried { IsCarried pass.old actor.old }
@@ -67,18 +97,28 @@ impl<J: EngineBrand, D: Disk> GuardedFile<J, D> {
         ensures call { (first : Knowledge) → IsInProgress first pass.old.seat.me.0 actor.old → IsInProgress first pass.new.seat.me.0 actor.new }
         ensures way { IsOnItsWay actor.old.job actor.old.point → IsOnItsWay actor.new.job actor.new.point }
     {
-        for _ in 0..STEPS_TO_SEAL {
+        for _ in 0..STEPS_TO_CALL {
             if actor.reply().is_some() {
-                return;
+                return false;
             }
-            match core.step(pass, actor) {
-                None => {}
-                Some(Call::Seal) => {
-                    self.file(core, pass, actor);
-                    return;
+            if let Some(call) = core.step(pass, actor) {
+                if !phase.has(call) {
+                    return false;
                 }
-                Some(_) => return,
+                self.strike_off(actor);
+                self.file(core, pass, actor);
+                return true;
             }
+        }
+        false
+    }
+
+    /// Strikes the change of a request off the list of those that wait, if a prepare of it is next.
+    fn strike_off(&mut self, actor: &Actor)
+        ensures { self.new.tenant ≡ self.old.tenant }
+    {
+        if let Some(change) = waiting_change(actor) {
+            strike_off(&mut self.called, change.slot);
         }
     }
 }

@@ -1,11 +1,11 @@
 //! What the lock of a tenant's file guards: its book, and the file pass (the capability to call it).
 //!
-//! Used by: `engine`; `start`, which makes it; `file_calls`; `end`. Its ghost fields use `specs/GuardedFile`:
+//! Used by: `file_lock`; `start`, which makes it; `file_calls`, `combiner`, `copies`, `end`. Its ghost fields use `specs/GuardedFile`:
 //! change them together.
 ghost use Rattle.mw_engine.specs.GuardedFile.{KeepsFor};
 
 use crate::brand::EngineBrand;
-use crate::waiting_room::Waiters;
+use crate::waiting_room::WaitingChanges;
 use mw_book::Book;
 use mw_core::FilePass;
 use mw_disk::Disk;
@@ -19,7 +19,7 @@ pub(crate) struct GuardedFile<J: EngineBrand, D: Disk> {
     pub(crate) file_pass: Option<FilePass>,
     pub(crate) tenant: u8,
     /// The changes that wait for the file, as far as whoever took its lock last knows.
-    pub(crate) called: Waiters,
+    pub(crate) called: WaitingChanges,
     pub(crate) brand: PhantomData<J>,
     ghost kept: { KeepsFor D.facts J.identity book file_pass tenant },
 }

@@ -15,10 +15,10 @@ pub enum Point {
     BeforeReply,
 }
 
-/// Is told of each [`Point`] that a worker comes to, and may hold the worker there.
+/// Is told of the [`Point`]s that a worker comes to, and may hold the worker there.
 pub trait Hold {
-    /// Whether it may hold a worker. If not, a worker may keep the lock of a file from one call to the next. While it
-    /// keeps it, [`Hold::at`] isn't called.
+    /// Whether it may hold a worker at a point other than [`Point::BeforeReply`]. If not, a worker that holds the lock of
+    /// a file also makes steps and calls of other workers' requests, and calls [`Hold::at`] for none of these.
     fn may_hold(&self) -> bool;
 
     /// The worker of this number is at this point. It goes on when the call returns.

@@ -2,10 +2,11 @@
 //!
 //! [`EngineParts`] are made of the tenants' lines and files, with a pass for each worker.
 //! [`EngineParts::into_engine`] makes them an [`Engine`]. Each worker serves one request at a time with its pass,
-//! by [`Engine::serve`]. A lock is taken only for a call on a tenant's file, which [`Engine::file`] makes.
-//! Everything else takes none: one step of a request, a read, the figures, the meeting of two passes, a note of what
-//! a pass has seen. The tenants and their numbers of words stay the same for the engine's whole life. So a job that was
-//! judged by what [`Engine::find`] told is well formed whenever it is asked for. [`Engine::into_disks`] ends the engine.
+//! by [`Engine::serve`]. It takes locks only for calls on a tenant's file. Whoever holds such a lock also serves requests
+//! that wait for it (`combiner`). [`Engine::file`] makes one call of one request, and [`Engine::copy_file`] copies a file:
+//! both take its lock. Everything else takes none: one step of a request, a read, the figures, the meeting of two passes,
+//! a note of what a pass has seen. The tenants and their numbers of words stay the same for the engine's whole life. So a job that was judged by what
+//! [`Engine::find`] told is well formed whenever it is asked for. [`Engine::into_disks`] ends the engine.
 //!
 //! Where to read:
 //! - `specs/Brand`: an engine's identity, which stays for its whole life.
@@ -14,6 +15,7 @@
 //! - `specs/LinesOfWorld`: how these lines agree with the world of the shared words.
 //! - `specs/History`: what is known of a request that was answered. `specs/StoreAlone`: that it is answered as its
 //!   tenant's store alone answers it. `specs/Replies`: which replies a job can have.
+//! - `specs/Errands`: how a request comes back to its thread when others may have gone on with it.
 //! - `specs/DisksAtEnd`: which words are on the disks that are given at the end. `specs/Copies`: which words a copy of
 //!   a tenant's file has.
 //!
@@ -21,9 +23,12 @@
 #![tactic(auto)]
 
 mod brand;
+mod combiner;
 mod copies;
 mod end;
 mod engine;
+mod errand;
+mod errand_boxes;
 mod figures;
 mod file_calls;
 mod file_lock;

@@ -24,11 +24,11 @@ use mw_words::{Job, Reply};
 use std::sync::Wait;
 
 impl<J: EngineBrand, D: Disk + Drop, H: Hold + Drop> Engine<J, D, H> {
-    /// Serves one job of a tenant and gives its reply, one that the job can have. The request is noted with its
-    /// reply, at a place that is right and no smaller than what the pass had seen when the request came. It is
-    /// answered BUSY or FAULT only if one of its own steps observed the cause. WORN has such a cause, or all
-    /// attempt numbers of the worker are used up. A lock is taken only for a call on the tenant's file. After a prepare
-    /// it may be kept up to the next call, and for that one too if it is a seal.
+    /// Serves one job of a tenant and gives its reply, one that the job can have. The request is noted with its reply,
+    /// at a place that is right and no smaller than what the pass had seen when the request came. It is answered BUSY
+    /// or FAULT only if one of its own steps observed the cause. WORN has such a cause, or all attempt numbers of the
+    /// worker are used up. A worker takes two locks: the file's, for calls on it and the steps between these, and for
+    /// moments that of the file's room. Whoever holds the file's may also serve others' requests.
     pub fn serve(&self, rt: &impl Wait, pass: &mut Pass, tenant: u8, job: &Job) -> Reply
         requires own { IsPassOf J.identity pass.old }
         requires formed { IsFor J.identity.lines tenant job.now }
@@ -52,7 +52,8 @@ impl<J: EngineBrand, D: Disk + Drop, H: Hold + Drop> Engine<J, D, H> {
         unreachable!()
     }
 
-    /// Makes the next step of a request that has no reply yet, or its call on its tenant's file.
+    /// Makes the next step of a request that has no reply yet, or its call on its tenant's file. If the hold may
+    /// hold nobody before a call, `combine` makes it, and may make later ones too.
     fn go_on(&self, rt: &impl Wait, pass: &mut Pass, actor: &mut Actor)
         requires own { IsPassOf J.identity pass.old }
         requires carried { IsCarried pass.old actor.old }
@@ -67,15 +68,14 @@ impl<J: EngineBrand, D: Disk + Drop, H: Hold + Drop> Engine<J, D, H> {
         let was_planting = is_planting(actor);
         if let Some(call) = self.words.core.step(pass, actor) {
             self.hold_before(pass, call);
-            self.file_then(rt, pass, actor, self.keeps_lock(call));
+            if self.hold.may_hold() {
+                self.file(rt, pass, actor);
+            } else {
+                self.combine(rt, pass, actor);
+            }
         } else if was_planting && has_planted(actor) {
             self.hold.at(pass.worker(), Point::Planted);
         }
-    }
-
-    /// Whether a request keeps the lock of its file after this call, to seal its change in the same turn.
-    fn keeps_lock(&self, call: Call) -> bool {
-        matches!(call, Call::Prepare) && !self.hold.may_hold()
     }
 
     /// Tells the hold that a seal or a settle is next.
@@ -87,7 +87,9 @@ impl<J: EngineBrand, D: Disk + Drop, H: Hold + Drop> Engine<J, D, H> {
         }
     }
 
-    /// Makes the call on its tenant's file to which the pass's request has come. Waits for the lock of that file.
+    /// Makes the call on its tenant's file to which the pass's request has come. Waits for the lock of that file. No
+    /// other thread makes the call. Used by tests that make each step, if the hold may hold a worker, and where `combine`
+    /// can't use a box.
     pub fn file(&self, rt: &impl Wait, pass: &mut Pass, actor: &mut Actor)
         requires own { IsPassOf J.identity pass.old }
         requires carried { IsCarried pass.old actor.old }
@@ -100,24 +102,6 @@ impl<J: EngineBrand, D: Disk + Drop, H: Hold + Drop> Engine<J, D, H> {
         ensures way { IsOnItsWay actor.old.job actor.old.point → IsOnItsWay actor.new.job actor.new.point }
         ensures call { (first : Knowledge) → IsInProgress first pass.old.seat.me.0 actor.old → IsInProgress first pass.new.seat.me.0 actor.new }
     {
-        self.file_then(rt, pass, actor, false);
-    }
-
-    /// Makes the call as [`Engine::file`] does. If `seals` is set, it then keeps the lock, and goes on as
-    /// [`GuardedFile::seal_next`] does. So no other thread has to wake before that seal.
-    fn file_then(&self, rt: &impl Wait, pass: &mut Pass, actor: &mut Actor, seals: bool)
-        requires own { IsPassOf J.identity pass.old }
-        requires carried { IsCarried pass.old actor.old }
-        requires call { called_at actor.old.point ≢ None }
-        ensures own { IsPassOf J.identity pass.new }
-        ensures worker { IsOfSameWorker pass.old pass.new }
-        ensures carried { IsCarried pass.new actor.new }
-        ensures request { IsSameRequest actor.old actor.new }
-        ensures way { IsOnItsWay actor.old.job actor.old.point → IsOnItsWay actor.new.job actor.new.point }
-        ensures call { (first : Knowledge) → IsInProgress first pass.old.seat.me.0 actor.old → IsInProgress first pass.new.seat.me.0 actor.new }
-        ensures same { seals ≡ false → IsSamePass pass.old pass.new }
-        ensures files { seals ≡ false → FilesOne D.facts J.identity pass.old pass.new actor.old actor.new }
-    {
         // The first lock that is taken is the tenant's own. The loop is needed because no type of an index can say
         // so: all locks of a list have one type, and it says the same of what each of them guards.
         let mut index = usize::from(actor.tenant());
@@ -125,14 +109,11 @@ impl<J: EngineBrand, D: Disk + Drop, H: Hold + Drop> Engine<J, D, H> {
             if index >= self.books.len() {
                 index = 0;
             }
-            let mut guard = self.books[index].lock(rt, actor);
+            let mut guard = self.books[index].lock(rt);
             if guard.value.is_of(actor) {
                 guard.value.file(&self.words.core, pass, actor);
-                if !seals {
-                    return;
-                }
-                self.books[index].call_waiters(rt, &mut guard.value.called);
-                guard.value.seal_next(&self.words.core, pass, actor);
+                drop(guard);
+                self.wake_next(rt, &self.books[index]);
                 return;
             }
             index += 1;

@@ -9,10 +9,11 @@ ghost use Rattle.mw_engine.specs.Parts.{identity_of};
 
 use crate::brand::EngineBrand;
 use crate::engine::Engine;
+use crate::errand_boxes::errand_boxes;
 use crate::file_lock::FileLock;
 use crate::guarded_file::GuardedFile;
 use crate::parts::EngineParts;
-use crate::waiting_room::Waiters;
+use crate::waiting_room::WaitingChanges;
 use mw_book::Book;
 use mw_core::FilePass;
 use mw_disk::Disk;
@@ -37,7 +38,13 @@ impl<D: Disk + Drop, H: Drop> EngineParts<D, H> {
             file_passes,
         } = self;
         let books = locked(alloc, books, file_passes)?;
-        Ok(Engine { words, hold, books })
+        let errands = errand_boxes(alloc)?;
+        Ok(Engine {
+            words,
+            hold,
+            books,
+            errands,
+        })
     }
 }
 
@@ -62,7 +69,7 @@ fn locked<J: EngineBrand, D: Disk + Drop>(
             book,
             file_pass: Some(file_pass),
             tenant,
-            called: Waiters::new(),
+            called: WaitingChanges::new(),
             brand: PhantomData,
         };
         made.push(FileLock::new(kept))?;

@@ -82,6 +82,16 @@ impl Latch {
         matches!(self.place, Place::AllButOne(_))
     }
 
+    /// Tells whether the latch is at a point of a request before its reply. Then no worker makes another one's calls.
+    fn is_before_a_call(&self) -> bool {
+        match self.place {
+            Place::At(point) | Place::Anyone(point) | Place::AllButOne(point) => {
+                point != Point::BeforeReply
+            }
+            Place::Nowhere | Place::Write | Place::Sync => false,
+        }
+    }
+
     /// Comes to the latch if this is its place.
     fn meet(&self, place: Place) {
         if place == self.place {
@@ -143,7 +153,7 @@ pub(crate) struct ByLatch<'l> {
 
 impl Hold for ByLatch<'_> {
     fn may_hold(&self) -> bool {
-        true
+        self.latch.is_before_a_call()
     }
 
     fn at(&self, worker: u8, point: Point) {

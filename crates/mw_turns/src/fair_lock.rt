@@ -1,11 +1,11 @@
 //! The lock.
 //!
-//! Used by: mw_engine. A change here changes who is served next there, and no contract.
+//! Used by: mw_engine. A change here changes how long a copy of a file waits there, and no contract.
 use crate::queue::{Queue, SleepEnd, Ticket};
 use std::hint::spin_loop;
 use std::sync::{Mutex, MutexGuard, Wait};
 
-/// How often a thread that comes tries the lock before it queues. All tries take about as long as a short hold, some
+/// How often a thread that waits for the lock tries it before it queues. All tries take about as long as a short hold, some
 /// microseconds.
 const TRIES: u32 = 100;
 
@@ -15,7 +15,7 @@ const PAUSES: u32 = 8;
 /// How many wakes of the first are in vain before the lock is starving.
 const VAIN_WAKES: u32 = 2;
 
-/// A value that one thread at a time uses. Threads that wait for long get it in the order in which they came.
+/// A value that one thread at a time uses. Threads that queue for long get it in the order in which they came.
 pub struct FairLock<T> {
     queue: Queue,
     value: Mutex<T>,
@@ -46,37 +46,37 @@ impl<T> FairLock<T> {
     /// Takes the lock, and waits while another thread holds it. It tries for some microseconds, and not at all while
     /// the lock is starving. Then it queues.
     pub fn lock(&self, rt: &impl Wait) -> FairGuard<'_, T> {
-        match self.try_lock() {
+        match self.try_lock_for_a_while() {
             Some(guard) => guard,
             None => self.lock_in_turn(rt),
         }
     }
 
-    /// Takes the lock if it gets free within some microseconds. Gives up at once if it is starving.
+    /// Takes the lock if it is free and not starving.
     pub fn try_lock(&self) -> Option<FairGuard<'_, T>> {
+        if self.queue.is_starving() {
+            return None;
+        }
+        let value = self.value.try_lock()?;
+        Some(self.guard(value))
+    }
+
+    /// Takes the lock if it gets free within some microseconds. Gives up at once if it is starving.
+    fn try_lock_for_a_while(&self) -> Option<FairGuard<'_, T>> {
         for _ in 0..TRIES {
             if self.queue.is_starving() {
                 return None;
             }
-            if let Some(value) = self.value.try_lock() {
-                return Some(self.guard(value));
+            if let Some(guard) = self.try_lock() {
+                return Some(guard);
             }
             pause();
         }
         None
     }
 
-    /// Takes the lock as [`FairLock::try_lock`] does, if no others wait when it comes. Else it gives up at once.
-    pub fn try_lock_after_others(&self) -> Option<FairGuard<'_, T>> {
-        if self.queue.has_waiters() {
-            None
-        } else {
-            self.try_lock()
-        }
-    }
-
     /// Queues, and takes the lock when all that queued before have had it.
-    pub fn lock_in_turn(&self, rt: &impl Wait) -> FairGuard<'_, T> {
+    fn lock_in_turn(&self, rt: &impl Wait) -> FairGuard<'_, T> {
         let ticket = self.queue.wait_to_be_first(rt);
         let (value, waits_are_long) = self.lock_as_first(rt, ticket);
         self.queue.leave(ticket, waits_are_long);

@@ -9,19 +9,21 @@
 //! any thread may again. So with long holds threads get it in the order of the queue. With short ones few holds wait
 //! for a thread to wake.
 //!
-//! Some threads gain by waiting, because others do their work along with their own. These take the lock by
-//! [`FairLock::try_lock_after_others`], or queue: they don't go before those that wait.
-//!
 //! The value is in the `Mutex`, and what is known of it rests on that lock alone. No contract speaks of the queue, says
 //! that a wait ends, or says who is next: `tests` try the last two. A mistake in the queue can make a wait long, and no
 //! more.
 //!
-//! Used by: mw_engine, for the files of the tenants.
+//! A [`Bell`] wakes a thread that waits outside the queue. It is what others call an event count.
+//!
+//! Used by: mw_engine, for the files of the tenants. In `mwserve` requests wait by a bell, and only copies of a file queue.
+//! Requests also queue if the engine's `Hold` may hold a worker.
 #![tactic(auto)]
 
+mod bell;
 mod fair_lock;
 mod queue;
 #[cfg(test)]
 mod tests;
 
+pub use bell::{Bell, Heard};
 pub use fair_lock::{FairGuard, FairLock};

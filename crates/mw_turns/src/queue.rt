@@ -1,6 +1,6 @@
 //! The queue of the threads that wait for a lock, in the order in which they came.
 //!
-//! Used by: `fair_lock`, which says when each of these is called.
+//! Used by: `fair_lock`, which says when each of these is called. `bell` uses `low_half`.
 //!
 //! # Why no thread sleeps for ever
 //!
@@ -79,11 +79,6 @@ impl Queue {
         self.is_starving.store(true, Ordering::SeqCst);
     }
 
-    /// Whether threads wait.
-    pub(crate) fn has_waiters(&self) -> bool {
-        self.first.load(Ordering::SeqCst) != self.next.load(Ordering::SeqCst)
-    }
-
     /// Joins the queue at its end, and waits until all before have left it.
     pub(crate) fn wait_to_be_first(&self, rt: &impl Wait) -> Ticket {
         let ticket = Ticket(self.next.fetch_add(1, Ordering::SeqCst));
@@ -154,6 +149,6 @@ impl Queue {
 }
 
 /// The half of a word that a sleep compares.
-fn low_half(word: u64) -> u32 {
+pub(crate) fn low_half(word: u64) -> u32 {
     (word & 0xffff_ffff) as u32
 }

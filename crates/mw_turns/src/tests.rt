@@ -1,9 +1,10 @@
-//! Tests what no contract says: that each wait ends, and that long waits are in turn.
+//! Tests what no contract says: that each wait ends, for a lock or by a bell, and that long waits are in turn.
 //!
 //! Nothing else uses it: it may change with what it tests.
-use crate::{FairGuard, FairLock};
+use crate::{Bell, FairLock};
 use std::alloc::{AllocError, Global};
 use std::sync::Wait;
+use std::sync::atomic::{AtomicU64, Ordering};
 use std::test::Fail;
 use std::thread::{self, Threads};
 use std::time::{Clock, Duration};
@@ -93,55 +94,6 @@ fn long_holds_are_in_turn(rt: HostRuntime) -> Result<(), Fail> {
     Ok(())
 }
 
-/// Takes the lock, after those that wait for it.
-fn lock_after_others<'a>(rt: &impl Wait, turns: &'a FairLock<Turns>) -> FairGuard<'a, Turns> {
-    match turns.try_lock_after_others() {
-        Some(guard) => guard,
-        None => turns.lock_in_turn(rt),
-    }
-}
-
-/// Holds the lock as often as it can, for three milliseconds and for none by turns.
-fn hold_by_turns<R: Wait + Clock>(rt: &R, turns: &FairLock<Turns>, holder: usize) {
-    for hold in 0..HOLDS {
-        let mut guard = lock_after_others(rt, turns);
-        if hold % 2 == 0 {
-            thread::sleep(rt, Duration::from_millis(3));
-        }
-        if !guard.value.note(holder) {
-            return;
-        }
-    }
-}
-
-/// How often a thread held the lock twice in a row though others waited, if half of the holds are short.
-fn repeats_of_short_holds<R: Threads + Wait + Clock + Sync>(
-    rt: &R,
-    alloc: Global,
-) -> Result<u32, AllocError> {
-    let turns = FairLock::new(Turns {
-        last: HOLDERS,
-        holds: 0,
-        repeats: 0,
-    });
-    let shared = &turns;
-    thread::map_indices(
-        rt,
-        alloc,
-        HOLDERS,
-        &|holder| { hold_by_turns(rt, shared, holder) },
-    )?;
-    Ok(turns.into_inner().repeats)
-}
-
-/// With `lock` half of the threads hold it twice in a row: after a short hold, before the first of the queue has woken.
-#[test]
-fn short_holds_between_long_ones_are_in_turn(rt: HostRuntime) -> Result<(), Fail> {
-    let repeats = repeats_of_short_holds(&rt, rt.alloc())?;
-    assert!(rt; repeats < HOLDS / 4);
-    Ok(())
-}
-
 /// How many threads come one after another.
 const COMERS: usize = 7;
 
@@ -201,5 +153,59 @@ fn the_queue_is_in_order(rt: HostRuntime) -> Result<(), Fail> {
         is_kept = is_kept || is_in_order(&rt, rt.alloc())?;
     }
     assert!(rt; is_kept);
+    Ok(())
+}
+
+/// How often each of two threads wakes the other. If most rings were lost, the test would take more than its time.
+const WAKES: u64 = 2000;
+
+/// Two threads that take turns, each with a bell.
+#[derive(Drop)]
+struct PingPong {
+    turns: AtomicU64,
+    bells: [Bell; 2],
+}
+
+impl PingPong {
+    /// Waits until it is this player's turn.
+    fn wait(&self, rt: &impl Wait, player: usize) {
+        for _ in rt.forever() {
+            let heard = self.bells[player % 2].listen();
+            if self.turns.load(Ordering::SeqCst) % 2 == (player % 2) as u64 {
+                return;
+            }
+            self.bells[player % 2].sleep(rt, heard);
+        }
+    }
+
+    /// Ends this player's turn, and wakes the other one.
+    fn pass_on(&self, player: usize) {
+        self.turns.fetch_add(1, Ordering::SeqCst);
+        self.bells[player.wrapping_add(1) % 2].ring();
+    }
+
+    /// Takes all turns of a player.
+    fn play(&self, rt: &impl Wait, player: usize) {
+        for _ in 0..WAKES {
+            self.wait(rt, player);
+            self.pass_on(player);
+        }
+    }
+}
+
+/// How many turns two threads take.
+fn turns_of_two<R: Threads + Wait + Sync>(rt: &R, alloc: Global) -> Result<u64, AllocError> {
+    let game = PingPong {
+        turns: AtomicU64::new(0),
+        bells: [Bell::new(), Bell::new()],
+    };
+    let shared = &game;
+    thread::map_indices(rt, alloc, 2, &|player| shared.play(rt, player))?;
+    Ok(game.turns.into_inner())
+}
+
+#[test]
+fn two_threads_wake_each_other(rt: HostRuntime) -> Result<(), Fail> {
+    assert_eq!(rt; turns_of_two(&rt, rt.alloc())?, 4000);
     Ok(())
 }

@@ -5,32 +5,59 @@ use Rattle.mw_engine.proofs.RequestAfterFileCall.{same_on}
 use Rattle.mw_engine.proofs.StepOrFileCall.{stepped_files, stepped_same, stepped_serves, stepped_to, stepped_way}
 use Rattle.mw_engine.proofs.engine.Engine.go_on.Goals as goal
 
-pub file_then-requires-clause-own : goal.file_then-requires-clause-own
-file_then-requires-clause-own g c =
+pub file-requires-clause-own : goal.file-requires-clause-own
+file-requires-clause-own g c =
     let engine = c.args.self.now in
     let step = c.step in
     still_of engine.words g.J.EngineBrand.identity engine.same c.args.pass.now step.new.pass c.requires.own step.ensures.own step.ensures.worker
     (stepped_files c.args.pass.now step.new.pass c.args.actor.now step.new.actor step.result c.requires.running step.ensures.steps)
 
-pub file_then-requires-clause-call : goal.file_then-requires-clause-call
-file_then-requires-clause-call g c =
+pub file-requires-clause-call : goal.file-requires-clause-call
+file-requires-clause-call g c =
     let step = c.step in
     (stepped_to c.args.pass.now step.new.pass c.args.actor.now step.new.actor step.result c.in-Some.call c.requires.running step.ensures.steps c.in-Some.is).comes
 
-pub returns-in-Some-clause-request : goal.returns-in-Some-clause-request
-returns-in-Some-clause-request g c =
+pub returns-then-may_hold-clause-request : goal.returns-then-may_hold-clause-request
+returns-then-may_hold-clause-request g c =
     let step = c.step in
-    same_on c.args.actor.now step.new.actor c.file_then.new.actor (stepped_same c.args.pass.now step.new.pass c.args.actor.now step.new.actor step.result c.requires.running step.ensures.steps) c.file_then.ensures.request
+    same_on c.args.actor.now step.new.actor c.file.new.actor (stepped_same c.args.pass.now step.new.pass c.args.actor.now step.new.actor step.result c.requires.running step.ensures.steps) c.file.ensures.request
 
-pub returns-in-Some-clause-call : goal.returns-in-Some-clause-call
-returns-in-Some-clause-call g c =
+pub returns-then-may_hold-clause-call : goal.returns-then-may_hold-clause-call
+returns-then-may_hold-clause-call g c =
     let step = c.step in
-    λ first served. c.file_then.ensures.call first (stepped_serves c.args.pass.now step.new.pass c.args.actor.now step.new.actor step.result c.requires.running step.ensures.steps first served)
+    λ first served. c.file.ensures.call first (stepped_serves c.args.pass.now step.new.pass c.args.actor.now step.new.actor step.result c.requires.running step.ensures.steps first served)
 
-pub returns-in-Some-clause-way : goal.returns-in-Some-clause-way
-returns-in-Some-clause-way g c =
+pub returns-then-may_hold-clause-way : goal.returns-then-may_hold-clause-way
+returns-then-may_hold-clause-way g c =
     let step = c.step in
-    λ way. c.file_then.ensures.way (stepped_way c.args.pass.now step.new.pass c.args.actor.now step.new.actor step.result c.requires.running step.ensures.steps c.requires.carried way)
+    λ way. c.file.ensures.way (stepped_way c.args.pass.now step.new.pass c.args.actor.now step.new.actor step.result c.requires.running step.ensures.steps c.requires.carried way)
+
+pub combine-requires-clause-own : goal.combine-requires-clause-own
+combine-requires-clause-own g c =
+    let engine = c.args.self.now in
+    let step = c.step in
+    still_of engine.words g.J.EngineBrand.identity engine.same c.args.pass.now step.new.pass c.requires.own step.ensures.own step.ensures.worker
+    (stepped_files c.args.pass.now step.new.pass c.args.actor.now step.new.actor step.result c.requires.running step.ensures.steps)
+
+pub combine-requires-clause-call : goal.combine-requires-clause-call
+combine-requires-clause-call g c =
+    let step = c.step in
+    (stepped_to c.args.pass.now step.new.pass c.args.actor.now step.new.actor step.result c.in-Some.call c.requires.running step.ensures.steps c.in-Some.is).comes
+
+pub returns-else-may_hold-clause-request : goal.returns-else-may_hold-clause-request
+returns-else-may_hold-clause-request g c =
+    let step = c.step in
+    same_on c.args.actor.now step.new.actor c.combine.new.actor (stepped_same c.args.pass.now step.new.pass c.args.actor.now step.new.actor step.result c.requires.running step.ensures.steps) c.combine.ensures.request
+
+pub returns-else-may_hold-clause-call : goal.returns-else-may_hold-clause-call
+returns-else-may_hold-clause-call g c =
+    let step = c.step in
+    λ first served. c.combine.ensures.call first (stepped_serves c.args.pass.now step.new.pass c.args.actor.now step.new.actor step.result c.requires.running step.ensures.steps first served)
+
+pub returns-else-may_hold-clause-way : goal.returns-else-may_hold-clause-way
+returns-else-may_hold-clause-way g c =
+    let step = c.step in
+    λ way. c.combine.ensures.way (stepped_way c.args.pass.now step.new.pass c.args.actor.now step.new.actor step.result c.requires.running step.ensures.steps c.requires.carried way)
 
 pub returns-then-has_planted-clause-call : goal.returns-then-has_planted-clause-call
 returns-then-has_planted-clause-call g c =

@@ -1,4 +1,4 @@
--- States what stays true from turn to turn in the loop of `GuardedFile::seal_next` (src/file_calls.rt). Used by: the proof of
+-- States what stays true from turn to turn in the loop of `GuardedFile::go_on_to` (src/file_calls.rt). Used by: the proof of
 -- that function alone. It may change freely as long as this crate checks.
 use Rattle.std.specs.Prelude.{◌≡◌}
 use Rattle.mw_core.specs.FromTable.{IsCarried, IsOfSameWorker, View}
@@ -6,7 +6,7 @@ use Rattle.mw_engine.specs.History.{IsInProgress}
 use Rattle.mw_engine.specs.Passes.{IsOneOf}
 use Rattle.mw_engine.specs.Replies.{IsOnItsWay}
 use Rattle.mw_engine.specs.Steps.{IsSameRequest}
-use Rattle.mw_engine.proofs.guarded_file.GuardedFile.seal_next.Given as goal
+use Rattle.mw_engine.proofs.guarded_file.GuardedFile.go_on_to.Given as goal
 
 -- the same request is under way or has its reply, and the file is still its tenant's
 abbrev pub invariant-loop : goal.invariant-loop

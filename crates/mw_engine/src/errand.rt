@@ -1,0 +1,24 @@
+//! A request that other threads may go on with: its pass and its machine.
+//!
+//! Used by: `errand_boxes`, `combiner`. `specs/Errands` says how a request comes back: change them together.
+use crate::brand::EngineBrand;
+use mw_actor::Actor;
+use mw_core::Pass;
+use mw_loan::Lasting;
+use std::marker::PhantomData;
+
+/// A request: its pass and its machine.
+#[derive(Drop)]
+pub(crate) struct Errand {
+    pub(crate) pass: Pass,
+    pub(crate) actor: Actor,
+}
+
+/// Relates a request that was left to what it has become: `GoesOn`.
+pub(crate) struct ErrandLasts<J>(PhantomData<J>);
+
+impl<J: EngineBrand> Lasting<Errand> for ErrandLasts<J> {
+    ghost use Rattle.mw_engine.specs.Errands.{GoesOn};
+
+    ghost lasts = { GoesOn J.identity };
+}

@@ -1,0 +1,58 @@
+//! A box for each worker, in which it leaves its request while it waits for a file.
+//!
+//! Used by: `engine`; `start`, which makes the boxes; `combiner`; `end`.
+use crate::brand::EngineBrand;
+use crate::errand::{Errand, ErrandLasts};
+use mw_loan::LoanBox;
+use mw_turns::Bell;
+use mw_words::MAX_WORKERS;
+use std::alloc::{AllocError, Global};
+use std::sync::atomic::{AtomicBool, Ordering};
+
+/// A worker's box, and the bell by which it sleeps.
+#[derive(Drop)]
+pub(crate) struct ErrandBox<J: EngineBrand> {
+    pub(crate) loan: LoanBox<Errand, ErrandLasts<J>>,
+    pub(crate) bell: Bell,
+    /// Whether another thread has served the request. That thread sets it while it holds the file's lock. It is a hint:
+    /// the box itself tells whether the request can be taken back.
+    is_done: AtomicBool,
+}
+
+impl<J: EngineBrand> ErrandBox<J> {
+    /// Makes an empty box.
+    ///
+    /// # Errors
+    ///
+    /// [`AllocError`] if memory is out.
+    fn new(alloc: Global) -> Result<ErrandBox<J>, AllocError> {
+        Ok(ErrandBox {
+            loan: LoanBox::new(alloc)?,
+            bell: Bell::new(),
+            is_done: AtomicBool::new(false),
+        })
+    }
+
+    /// Whether the request in the box was served.
+    pub(crate) fn is_done(&self) -> bool {
+        self.is_done.load(Ordering::SeqCst)
+    }
+
+    /// Notes whether the request in the box was served.
+    pub(crate) fn set_done(&self, is_done: bool) {
+        self.is_done.store(is_done, Ordering::SeqCst);
+    }
+}
+
+/// Makes an empty box for each worker.
+///
+/// # Errors
+///
+/// [`AllocError`] if memory is out.
+pub(crate) fn errand_boxes<J: EngineBrand>(alloc: Global) -> Result<Vec<ErrandBox<J>>, AllocError> {
+    let mut boxes = Vec::with_capacity(alloc, usize::from(MAX_WORKERS))?;
+    for _ in 0..MAX_WORKERS {
+        boxes.push(ErrandBox::new(alloc)?)?;
+    }
+    Ok(boxes)
+}
