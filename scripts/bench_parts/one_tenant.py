@@ -1,9 +1,10 @@
 """Times changes of one tenant by several clients, and counts the syncs of them, beside other stores with as many clients.
 
 A row is told for each store and each number of clients: changes a second; how long a change takes, half of them less and 99 of
-100 less; how many syncs the store made for a change; and how long a sync took, on average. All are medians of the turns. In a turn
-all stores run side by side, and have each load one after the other: a disk is often fast for minutes, and slow for others. The
-clients have a word each, or all have one. Of one word each client adds 1 again and again: its change is asked for until it is made,
+100 less; how many syncs the store made for a change; how long a sync took, on average; and how many times the changes of the first
+store it made in the same turn. All are medians of the turns. Of the last the quartiles are told too: half of the turns are between
+these. In a turn all stores run side by side, and have each load one after the other: a disk is often fast for minutes, and slow for
+others. The clients have a word each, or all have one. Of one word each client adds 1 again and again: its change is asked for until it is made,
 with the value that the word was found to have, and takes as long as all of this.
 
 Of each mwserve one more row is told: sixteen clients of sixteen tenants, which share nothing. A bare server that shares syncs
@@ -183,18 +184,27 @@ def figures_of(running: Running, load: Load, seconds: float) -> Figures:
 
 
 def by_turns(stores: Sequence[Store], folder: Path, library: Path, delay: int, seconds: float,
-             turns: int) -> Dict[Tuple[str, Load], Figures]:
-    """The figures of each store under each of its loads: the medians of the turns, in each of which every store is new."""
+             turns: int) -> Dict[Tuple[str, Load], List[Figures]]:
+    """The figures of each store under each of its loads, a turn each. In each turn every store is new. Every second turn has the stores
+    in the reverse order: the disk may be quicker after a pause, or for whoever comes next."""
     found: Dict[Tuple[str, Load], List[Figures]] = {}
-    for _ in range(turns):
+    for turn in range(turns):
         with ExitStack() as stack:
             rooms = [Path(stack.enter_context(tempfile.TemporaryDirectory(dir=folder))) for _ in stores]
             all_running = [(store, stack.enter_context(store.run(room, library, delay))) for room, store in zip(rooms, stores)]
+            if turn % 2:
+                all_running.reverse()
             for load in (*LOADS, ALL_APART):
                 for store, running in all_running:
                     if load in store.loads:
                         found.setdefault((store.name, load), []).append(figures_of(running, load, seconds))
-    return {key: Figures(*map(median, zip(*told))) for key, told in found.items()}
+    return found
+
+
+def beside_first(told: Sequence[Figures], first: Sequence[Figures]) -> Tuple[float, float, float]:
+    """How many times the changes of the first store another one made in the same turn: a quarter of the turns less, half, three quarters."""
+    times = [it.rate / one.rate for it, one in zip(told, first)]
+    return quantile(times, 0.25), median(times), quantile(times, 0.75)
 
 
 def time_one_tenant(programs: Sequence[Path], folder: str, seconds: float, turns: int, chart: Chart, only: Optional[int] = None,
@@ -210,13 +220,16 @@ def time_one_tenant(programs: Sequence[Path], folder: str, seconds: float, turns
         if clients:
             stores = [store._replace(loads=(Load(clients),)) for store in stores if Load(clients) in store.loads]
         for delay, disk in (DELAYS if only is None else {only: f"each sync {only} us longer"}).items():
-            row(f"one tenant, {disk}", "changes/s", "50 %, us", "99 %, us", "syncs/change", "sync, us")
-            found = by_turns(stores, Path(folder), library, delay, seconds, turns)
+            row(f"one tenant, {disk}", "changes/s", "50 %, us", "99 %, us", "syncs/change", "sync, us", "of the first", "quartiles")
+            told = by_turns(stores, Path(folder), library, delay, seconds, turns)
+            found = {key: Figures(*map(median, zip(*turn))) for key, turn in told.items()}
             names = list(dict.fromkeys(store.name for store in stores))
             for name in names:
                 row(name)
                 for load in (other for other in (*LOADS, ALL_APART) if (name, other) in found):
                     it = found[name, load]
-                    row(f"  clients: {load.text()}", number(it.rate), number(it.half), number(it.most), number(it.syncs, 2), number(it.sync))
+                    low, times, high = beside_first(told[name, load], told[names[0], load])
+                    row(f"  clients: {load.text()}", number(it.rate), number(it.half), number(it.most), number(it.syncs, 2), number(it.sync),
+                        number(times, 2), f"{number(low, 2)}-{number(high, 2)}")
             whole = [name for name in names if all((name, load) in found for load in LOADS)]
             chart.add_one_tenant(disk, [load.text() for load in LOADS], {name: [found[name, load] for load in LOADS] for name in whole})

@@ -248,7 +248,7 @@ def try_bench_of_one_tenant(folder):
     told = ran.stdout.decode()
     same((ran.returncode, told if ran.returncode else ""), (0, ""), "bench-server --one-tenant")
     ours = list(takewhile(lambda row: row.startswith("  clients: "), told.split("Mondlexi, ")[1].splitlines()[1:]))
-    rates, syncs = ({row[:NAME].split(": ")[1].strip(): float(row.split()[at].replace(",", "")) for row in ours} for at in (-5, -2))
+    rates, syncs = ({row[:NAME].split(": ")[1].strip(): float(row.split()[at].replace(",", "")) for row in ours} for at in (-7, -4))
     same((syncs["1"], syncs["16"] < 2, list(room.iterdir())), (4.0, True, []), "the syncs of a change, and what a short run leaves")
     same(rates["16"] > 1.5 * rates["1"], True, f"more changes by sixteen clients than by one: {rates}")
     print("bench-server --one-tenant: a lone client needs four syncs a change, and sixteen fewer and make more")

@@ -8,6 +8,7 @@ ghost use Rattle.mw_book.specs.FilePlaces.{IsPermutation};
 ghost use Rattle.mw_book.specs.OpenFile.{words_in, places_in, has_failed_in};
 
 use crate::place_table::PlaceTable;
+use crate::waiting::Chosen;
 use mw_file::TenantFile;
 use mw_words::{MAX_PLACES, MAX_POOL};
 
@@ -18,9 +19,9 @@ pub(crate) const SLOTS: usize = MAX_POOL as usize;
 pub(crate) const PLACES: usize = MAX_PLACES as usize;
 
 /// A tenant's file, and what is kept beside it: how many words the file has, how many of its places are used,
-/// the place of each slot's change, where the file has each place and which changes it has ahead, and whether the
-/// file has failed. The used places are the first ones. The file has failed if a call for a change has failed since it
-/// was opened, or if it didn't open. If it didn't open, no file is held.
+/// the place of each slot's change, where the file has each place and which changes it has ahead, what the latest call
+/// chose to write ahead, and whether the file has failed. The used places are the first ones. The file has failed if a
+/// call for a change has failed since it was opened, or if it didn't open. If it didn't open, no file is held.
 #[derive(Drop)]
 pub struct Book<D> {
     pub(crate) held: Option<TenantFile<D>>,
@@ -28,6 +29,7 @@ pub struct Book<D> {
     pub(crate) places: u16,
     pub(crate) place_of: [u16; SLOTS],
     pub(crate) table: PlaceTable,
+    pub(crate) chosen: Chosen,
     pub(crate) has_failed: bool,
     ghost same_words: { words_in words held ≡ words },
     ghost room: { places ≤ places_in places held },

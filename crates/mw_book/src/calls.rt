@@ -10,7 +10,7 @@ ghost use Rattle.mw_book.specs.declared.waiting.Waiting.{Waiting as WaitingAt};
 
 use crate::answers::Filed;
 use crate::book::Book;
-use crate::waiting::{Waiting, choose};
+use crate::waiting::Waiting;
 use mw_disk::Disk;
 use mw_file::{NewChange, Place};
 use mw_look::Call;
@@ -159,7 +159,7 @@ impl<D: Disk> Book<D> {
         let Some(file) = &mut self.held else {
             unreachable!()
         };
-        let mut chosen = choose(
+        self.chosen.choose(
             &self.table,
             file.states(),
             words,
@@ -168,16 +168,16 @@ impl<D: Disk> Book<D> {
             slot,
             waiting,
         );
-        chosen.changes.push(NewChange {
+        self.chosen.changes.push(NewChange {
             place: Place(number),
             entries: copy_of(entries),
         });
-        if file.prepare_all(chosen.changes.as_slice()).is_err() {
+        if file.prepare_all(self.chosen.changes.as_slice()).is_err() {
             self.has_failed = true;
             return Filed::Broken;
         }
         self.place_of[slot as usize] = place;
-        self.table = chosen.table;
+        self.table = self.chosen.table;
         Filed::Made
     }
 
@@ -194,7 +194,7 @@ impl<D: Disk> Book<D> {
         let Some(file) = &mut self.held else {
             unreachable!()
         };
-        let chosen = choose(
+        self.chosen.choose(
             &self.table,
             file.states(),
             words,
@@ -204,13 +204,13 @@ impl<D: Disk> Book<D> {
             waiting,
         );
         if file
-            .seal_with(Place(number), chosen.changes.as_slice())
+            .seal_with(Place(number), self.chosen.changes.as_slice())
             .is_err()
         {
             self.has_failed = true;
             return Filed::Broken;
         }
-        self.table = chosen.table;
+        self.table = self.chosen.table;
         Filed::Made
     }
 
@@ -234,7 +234,7 @@ impl<D: Disk> Book<D> {
         };
         let mut settled = self.table.settled_with_sealed(file.states());
         settled[place] = false;
-        let chosen = choose(
+        self.chosen.choose(
             &self.table,
             file.states(),
             words,
@@ -243,11 +243,11 @@ impl<D: Disk> Book<D> {
             slot,
             waiting,
         );
-        if file.settle_all(chosen.changes.as_slice()).is_err() {
+        if file.settle_all(self.chosen.changes.as_slice()).is_err() {
             self.has_failed = true;
             return Filed::Broken;
         }
-        self.table = chosen.table;
+        self.table = self.chosen.table;
         self.table.settled = settled;
         Filed::Made
     }

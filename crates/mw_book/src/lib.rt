@@ -33,4 +33,4 @@ pub use laws::{
     files_that_are_alike,
 };
 pub use place_table::PlaceTable;
-pub use waiting::Waiting;
+pub use waiting::{MOST_AHEAD, Waiting};

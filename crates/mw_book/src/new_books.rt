@@ -10,6 +10,7 @@ ghost use Rattle.mw_world_file.specs.Files.{file_of};
 
 use crate::book::{Book, PLACES, SLOTS};
 use crate::place_table::{PlaceTable, in_order};
+use crate::waiting::Chosen;
 use mw_disk::Disk;
 use mw_file::TenantFile;
 
@@ -34,16 +35,18 @@ impl<D: Disk> Book<D> {
             → (IsTrue (D.facts (disk_of file)).honest → RecoversTo D.facts file words []) → Represents D.facts result (file_of words) }
     {
         let words = file.words();
+        let table = PlaceTable {
+            file_place: in_order(),
+            settled: [false; PLACES],
+            ahead_for: [None; PLACES],
+        };
         Book {
             held: Some(file),
             words,
             places,
             place_of: [0; SLOTS],
-            table: PlaceTable {
-                file_place: in_order(),
-                settled: [false; PLACES],
-                ahead_for: [None; PLACES],
-            },
+            table,
+            chosen: Chosen::new(table),
             has_failed: false,
         }
     }
@@ -55,16 +58,18 @@ impl<D: Disk> Book<D> {
         ensures places { result.places ≡ places }
         ensures shows { (contents : List ℕ) → length contents ≡ words → Represents D.facts result (unopened contents) }
     {
+        let table = PlaceTable {
+            file_place: in_order(),
+            settled: [false; PLACES],
+            ahead_for: [None; PLACES],
+        };
         Book {
             held: None,
             words,
             places,
             place_of: [0; SLOTS],
-            table: PlaceTable {
-                file_place: in_order(),
-                settled: [false; PLACES],
-                ahead_for: [None; PLACES],
-            },
+            table,
+            chosen: Chosen::new(table),
             has_failed: true,
         }
     }
@@ -79,6 +84,7 @@ impl<D: Disk> Book<D> {
             places: _,
             place_of: _,
             table: _,
+            chosen: _,
             has_failed: _,
         } = self;
         match held {

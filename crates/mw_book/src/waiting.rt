@@ -26,7 +26,7 @@ pub struct Waiting {
 }
 
 /// The most changes that one call writes ahead.
-pub(crate) const MOST_AHEAD: usize = 15;
+pub const MOST_AHEAD: usize = 15;
 
 /// The most changes that one call prepares: its own, and those that it writes ahead.
 const MOST_CHANGES: usize = 16;
@@ -36,7 +36,8 @@ const _: () = prove!(MOST_AHEAD + 1 == MOST_CHANGES);
 /// The changes that one call prepares.
 pub(crate) type NewChanges = ArrayVec<NewChange, MOST_CHANGES>;
 
-/// The changes that a call writes ahead.
+/// The changes that a call writes ahead. A book has one, and each call fills it anew. It is large, so that a new one in
+/// each call would cost more than the rest of the call.
 #[derive(Drop)]
 pub(crate) struct Chosen {
     /// What the book keeps for each place after the call.
@@ -48,6 +49,47 @@ pub(crate) struct Chosen {
 }
 
 impl Chosen {
+    /// Makes one without changes.
+    pub(crate) fn new(table: PlaceTable) -> Chosen {
+        Chosen {
+            table,
+            changes: NewChanges::new(),
+            top: 0,
+        }
+    }
+
+    /// Chooses which of the waiting changes a call for this slot writes ahead: those of other slots that are well formed
+    /// and are not prepared ahead yet, each into the highest free place that is left from `low` on. What was chosen
+    /// before is forgotten.
+    pub(crate) fn choose(
+        &mut self,
+        table: &PlaceTable,
+        states: &[PlaceState],
+        words: u16,
+        places: u16,
+        low: u16,
+        slot: u8,
+        waiting: &[Waiting],
+    )
+        requires few { places ≤ MAX_PLACES }
+        requires there { places ≤ length states.now }
+        requires permuted { IsPermutation table.now.file_place places }
+        ensures chosen { AreChosen words states.now table.now places low self.new.table self.new.changes.items self.new.top }
+        ensures waiting { length self.new.changes.items ≤ length waiting.now }
+        ensures most { length self.new.changes.items ≤ MOST_AHEAD }
+        ensures ahead { AreAhead table.now self.new.table places self.new.changes.items
+            (first_ready words states.now table.now places slot (free_within states.now table.now low places) waiting.now) }
+    {
+        self.table = *table;
+        self.changes.clear();
+        self.top = places;
+        for change in waiting {
+            if self.changes.len() < MOST_AHEAD && is_new(table, states, places, slot, change) {
+                self.add(states, words, low, change);
+            }
+        }
+    }
+
     /// Chooses the highest place that is left for a change, if there is one from `low` on, and if the change is well
     /// formed.
     fn add(&mut self, states: &[PlaceState], words: u16, low: u16, change: &Waiting)
@@ -75,39 +117,6 @@ impl Chosen {
         self.table.ahead_for[place as usize] = Some(change.slot);
         self.top = place;
     }
-}
-
-/// Chooses which of the waiting changes a call for this slot writes ahead: those of other slots that are well formed and
-/// are not prepared ahead yet, each into the highest free place that is left from `low` on.
-pub(crate) fn choose(
-    table: &PlaceTable,
-    states: &[PlaceState],
-    words: u16,
-    places: u16,
-    low: u16,
-    slot: u8,
-    waiting: &[Waiting],
-) -> Chosen
-    requires few { places ≤ MAX_PLACES }
-    requires there { places ≤ length states.now }
-    requires permuted { IsPermutation table.now.file_place places }
-    ensures chosen { AreChosen words states.now table.now places low result.table result.changes.items result.top }
-    ensures waiting { length result.changes.items ≤ length waiting.now }
-    ensures most { length result.changes.items ≤ MOST_AHEAD }
-    ensures ahead { AreAhead table.now result.table places result.changes.items
-        (first_ready words states.now table.now places slot (free_within states.now table.now low places) waiting.now) }
-{
-    let mut chosen = Chosen {
-        table: *table,
-        changes: NewChanges::new(),
-        top: places,
-    };
-    for change in waiting {
-        if chosen.changes.len() < MOST_AHEAD && is_new(table, states, places, slot, change) {
-            chosen.add(states, words, low, change);
-        }
-    }
-    chosen
 }
 
 /// Tells whether a change is of another slot than this one, and is not prepared ahead.

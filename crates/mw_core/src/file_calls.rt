@@ -2,7 +2,7 @@
 //!
 //! mw_engine calls `Core::file` under the lock of the tenant's file. Its contracts use `specs/FileCalls` and
 //! `specs/Books`: change them together.
-ghost use Rattle.std.specs.Prelude.{◌≡◌, ◌≢◌, None, length};
+ghost use Rattle.std.specs.Prelude.{◌≡◌, ◌≢◌, None, [], length};
 ghost use Rattle.std.specs.Option.{option_map};
 ghost use Rattle.mw_actor.specs.ActorState as acting;
 ghost use Rattle.mw_actor.specs.Asks.{asks};
@@ -105,7 +105,8 @@ impl Core {
         if !starts_from(call, status) {
             return true;
         }
-        match book.call(call, slot, &entries_for(call, actor), waiting) {
+        let none = Entries::new();
+        match book.call(call, slot, entries_for(call, actor, &none), waiting) {
             Filed::Made => {
                 self.shared().end_call(pass, call, slot, status);
                 true
@@ -134,13 +135,18 @@ pub fn waiting_change(actor: &Actor) -> Option<Waiting>
     }
 }
 
-/// Returns the entries that a call takes: those of the request's own change for a prepare, none for any other call.
-fn entries_for(call: Call, actor: &Actor) -> Entries
-    ensures { AreTaken call result.items (acting.own_entries actor.now) }
+/// Returns the entries that a call takes: those of the request's own change for a prepare, these empty ones for any
+/// other call.
+fn entries_for<'a>(call: Call, actor: &'a Actor, none: &'a Entries) -> &'a Entries
+    requires none { none.now.items ≡ [] }
+    ensures { AreTaken call result.now.items (acting.own_entries actor.now) }
 {
     match call {
-        Call::Prepare => own_entries(actor),
-        Call::Seal | Call::Settle | Call::Cancel => Entries::new(),
+        Call::Prepare => match actor.job() {
+            Job::Get(_) => none,
+            Job::Cas(entries) => entries,
+        },
+        Call::Seal | Call::Settle | Call::Cancel => none,
     }
 }
 

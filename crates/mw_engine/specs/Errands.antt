@@ -1,6 +1,7 @@
 -- Defines how a request comes back to its thread after this or other threads went on with it. It may be just as it was left.
 -- Used by: the contracts of src/combiner.rt, the ghost type of src/errand.rt. A change here changes what these contracts say.
-use Rattle.mw_core.specs.FromTable.{IsCarried, IsOfSameWorker, View}
+use Rattle.mw_actor.specs.ActorState.{ActorState}
+use Rattle.mw_core.specs.FromTable.{IsCarried, IsOfSameWorker, Pass, View}
 use Rattle.mw_engine.specs.declared.errand.Errand.{Errand}
 use Rattle.mw_engine.specs.Brand.{Identity}
 use Rattle.mw_engine.specs.History.{IsInProgress}
@@ -10,17 +11,24 @@ use Rattle.mw_engine.specs.Steps.{IsSameRequest}
 
 module _ (identity : Identity) where
   -- The pass is the engine's and has no file pass. It carries the request, which may have its reply already.
-  pub record IsCarriedHere (errand : Errand) : Type 0 where
-    pub own : IsPassOf identity errand.pass
-    pub carried : IsCarried errand.pass errand.actor
+  pub record CarriesRequest (pass : Pass) (actor : ActorState) : Type 0 where
+    pub own : IsPassOf identity pass
+    pub carried : IsCarried pass actor
 
   -- The pass is still the engine's, of the same worker, and carries the request, which is the same one. If the request was in progress since
   -- its thread knew `first`, it still is. If it was at a point that its job can have, and its reply, if it had one, was one that the job can
   -- have, both are still so.
-  pub record GoesOn (left now : Errand) : Type 0 where
-    pub own : IsPassOf identity now.pass
-    pub carried : IsCarried now.pass now.actor
-    pub worker : IsOfSameWorker left.pass now.pass
-    pub request : IsSameRequest left.actor now.actor
-    pub in_progress : (first : View) → IsInProgress first left.pass.seat.me.0 left.actor → IsInProgress first now.pass.seat.me.0 now.actor
-    pub way : IsOnItsWay left.actor.job left.actor.point → IsOnItsWay now.actor.job now.actor.point
+  pub record RequestGoesOn (old : Pass) (was : ActorState) (new : Pass) (actor : ActorState) : Type 0 where
+    pub own : IsPassOf identity new
+    pub carried : IsCarried new actor
+    pub worker : IsOfSameWorker old new
+    pub request : IsSameRequest was actor
+    pub in_progress : (first : View) → IsInProgress first old.seat.me.0 was → IsInProgress first new.seat.me.0 actor
+    pub way : IsOnItsWay was.job was.point → IsOnItsWay actor.job actor.point
+
+  -- Both are said of a request's pass and machine, whether its thread has them or has left them in a box.
+  abbrev pub IsCarriedHere : Errand → Type 0
+  IsCarriedHere errand = CarriesRequest errand.pass errand.actor
+
+  abbrev pub GoesOn : Errand → Errand → Type 0
+  GoesOn left now = RequestGoesOn left.pass left.actor now.pass now.actor

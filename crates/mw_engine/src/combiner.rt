@@ -11,8 +11,10 @@
 //! A worker enters the room, listens to its bell, and then tries the lock. If the lock is held, its holder looks into
 //! the room after the release, and rings the bell of the worker that came first of those there. If the lock is
 //! starving, the first of its queue takes it, and does the same afterwards. A worker leaves the room only while the
-//! lock is held, so some release always follows. The holder also rings the bells of those that it has served. Apart
-//! from all this no sleep is longer than a tenth of a second, and a worker looks again after each.
+//! lock is held, so some release always follows. The holder also rings the bells of the first three that it has served.
+//! Each worker that takes its served request back rings the bell of the one three behind it, which was served before. So
+//! threads wake one after another: if all woke at once, the first reply would wait for a processor. Apart from all this
+//! no sleep is longer than a tenth of a second, and a worker looks again after each.
 //!
 //! Used by: `serving`; `copies` calls `wake_next`. Its contracts use `specs/Errands`: change them together.
 ghost use Rattle.std.specs.Prelude.{◌≡◌, ◌≢◌, None, IfOk, IfErr};
@@ -20,7 +22,7 @@ ghost use Rattle.mw_world.specs.Definition.Calls.{called_at};
 ghost use Rattle.mw_core.specs.FromTable.{IsCarried, IsOfSameWorker, View as Knowledge};
 ghost use Rattle.mw_loan.specs.Loans.{IsReceiptFor, IsReceiptOf};
 ghost use Rattle.mw_engine.specs.declared.errand.Errand.{Errand as ErrandOf};
-ghost use Rattle.mw_engine.specs.Errands.{GoesOn, IsCarriedHere};
+ghost use Rattle.mw_engine.specs.Errands.{CarriesRequest, GoesOn, IsCarriedHere, RequestGoesOn};
 ghost use Rattle.mw_engine.specs.History.{IsInProgress};
 ghost use Rattle.mw_engine.specs.Passes.{IsPassOf};
 ghost use Rattle.mw_engine.specs.Replies.{IsOnItsWay};
@@ -34,7 +36,7 @@ use crate::file_calls::Phase;
 use crate::file_lock::FileLock;
 use crate::guarded_file::GuardedFile;
 use crate::hold::Hold;
-use crate::waiting_room::Workers;
+use crate::waiting_room::{Workers, strike_off_written};
 use core::mem::replace_with;
 use mw_actor::Actor;
 use mw_core::{Pass, waiting_change};
@@ -43,6 +45,9 @@ use mw_loan::{Kept, Receipt};
 use mw_turns::FairGuard;
 use mw_words::MAX_WORKERS;
 use std::sync::Wait;
+
+/// How many of the workers that it has served a holder of the lock wakes itself.
+const WOKEN_FIRST: usize = 3;
 
 impl<J: EngineBrand, D: Disk + Drop, H: Hold + Drop> Engine<J, D, H> {
     /// Makes the call on its tenant's file to which the pass's request has come, or has another thread make it. That
@@ -59,33 +64,34 @@ impl<J: EngineBrand, D: Disk + Drop, H: Hold + Drop> Engine<J, D, H> {
         ensures way { IsOnItsWay actor.old.job actor.old.point → IsOnItsWay actor.new.job actor.new.point }
         ensures call { (first : Knowledge) → IsInProgress first pass.old.seat.me.0 actor.old → IsInProgress first pass.new.seat.me.0 actor.new }
     {
+        let Some(lock) = self.lock_of(actor.tenant()) else {
+            self.file(rt, pass, actor);
+            return;
+        };
+        if let Some(guard) = lock.lock_if_free(rt) {
+            self.serve_with_lock(rt, lock, guard, pass, actor);
+            return;
+        }
         // `replace_with` moves one value out of a `&mut`. A pass can't be copied, so the machine is.
         let own = actor.copy();
         *actor = replace_with(pass, own, |pass, actor| {
-            let Errand { pass, actor } = self.send(rt, Errand { pass, actor });
+            let Errand { pass, actor } = self.send(rt, lock, Errand { pass, actor });
             (pass, actor)
         });
     }
 
-    /// Makes the next call of a request on its file if the lock is free and nobody waits. Else leaves the request in
-    /// its worker's box, and waits until it has gone on.
-    fn send(&self, rt: &impl Wait, errand: Errand) -> Errand
+    /// Leaves a request in its worker's box, and waits until it has gone on.
+    fn send(&self, rt: &impl Wait, lock: &FileLock<J, D>, errand: Errand) -> Errand
         requires here { IsCarriedHere J.identity errand }
         requires call { called_at errand.actor.point ≢ None }
         ensures { GoesOn J.identity errand result }
     {
         let worker = errand.pass.worker();
-        let Some(lock) = self.lock_of(errand.actor.tenant()) else {
-            return self.go_oneself(rt, errand);
-        };
         let Some(own_box) = self.errands.get(usize::from(worker)) else {
             return self.go_oneself(rt, errand);
         };
-        if let Some(guard) = lock.lock_if_free(rt) {
-            return self.serve_with_lock(rt, lock, guard, errand);
-        }
         let change = waiting_change(&errand.actor);
-        own_box.set_done(false);
+        own_box.begin();
         match own_box.loan.leave(errand) {
             Ok(receipt) => {
                 lock.room.enter(rt, worker, change);
@@ -95,8 +101,8 @@ impl<J: EngineBrand, D: Disk + Drop, H: Hold + Drop> Engine<J, D, H> {
         }
     }
 
-    /// Makes the next call of a request on its file alone, and waits for the lock. It is for a lock or a box that isn't
-    /// at its number, and for a box that isn't empty. None of this happens, but no type says so.
+    /// Makes the next call of a request on its file alone, and waits for the lock. It is for a box that isn't at its
+    /// number or isn't empty. Neither happens, but no type says so.
     fn go_oneself(&self, rt: &impl Wait, errand: Errand) -> Errand
         requires here { IsCarriedHere J.identity errand }
         requires call { called_at errand.actor.point ≢ None }
@@ -151,9 +157,29 @@ impl<J: EngineBrand, D: Disk + Drop, H: Hold + Drop> Engine<J, D, H> {
         if !own_box.is_done() {
             return self.take_turn(rt, lock, own_box, worker, receipt);
         }
-        match own_box.loan.take_back(receipt, Kept::Returned) {
+        match self.take_served(own_box, receipt) {
             Ok(errand) => Ok(errand),
             Err(same) => self.take_turn(rt, lock, own_box, worker, same),
+        }
+    }
+
+    /// Takes a request back if another thread has served it, and wakes the worker that follows. Else gives the receipt
+    /// back.
+    fn take_served(
+        &self,
+        own_box: &ErrandBox<J>,
+        receipt: Receipt<Errand>,
+    ) -> Result<Errand, Receipt<Errand>>
+        requires own { IsReceiptOf own_box.now.loan.table.shared.table_id receipt }
+        ensures gone_on { (left : ErrandOf) → IsReceiptFor own_box.now.loan.table.shared.table_id left receipt → IfOk result (λ errand. GoesOn J.identity left errand) }
+        ensures kept { (left : ErrandOf) → IsReceiptFor own_box.now.loan.table.shared.table_id left receipt → IfErr result (λ same. IsReceiptFor own_box.now.loan.table.shared.table_id left same) }
+    {
+        match own_box.loan.take_back(receipt, Kept::Returned) {
+            Ok(errand) => {
+                self.ring(own_box.follower());
+                Ok(errand)
+            }
+            Err(same) => Err(same),
         }
     }
 
@@ -175,11 +201,18 @@ impl<J: EngineBrand, D: Disk + Drop, H: Hold + Drop> Engine<J, D, H> {
         };
         lock.room.leave(rt, worker);
         match own_box.loan.take_back(receipt, Kept::Waiting) {
-            Ok(errand) => Ok(self.serve_with_lock(rt, lock, guard, errand)),
+            Ok(errand) => {
+                let Errand {
+                    mut pass,
+                    mut actor,
+                } = errand;
+                self.serve_with_lock(rt, lock, guard, &mut pass, &mut actor);
+                Ok(Errand { pass, actor })
+            }
             Err(same) => {
                 drop(guard);
                 self.wake_next(rt, lock);
-                own_box.loan.take_back(same, Kept::Returned)
+                self.take_served(own_box, same)
             }
         }
     }
@@ -191,18 +224,17 @@ impl<J: EngineBrand, D: Disk + Drop, H: Hold + Drop> Engine<J, D, H> {
         rt: &impl Wait,
         lock: &FileLock<J, D>,
         guard: FairGuard<'_, GuardedFile<J, D>>,
-        errand: Errand,
-    ) -> Errand
-        requires here { IsCarriedHere J.identity errand }
-        ensures { GoesOn J.identity errand result }
+        pass: &mut Pass,
+        actor: &mut Actor,
+    )
+        requires here { CarriesRequest J.identity pass.old actor.old }
+        ensures { RequestGoesOn J.identity pass.old actor.old pass.new actor.new }
     {
         let mut guard = guard;
-        let mut errand = errand;
-        let batch = self.serve_all(rt, lock, &mut guard.value, &mut errand);
+        let batch = self.serve_all(rt, lock, &mut guard.value, pass, actor);
         drop(guard);
         self.wake_next(rt, lock);
-        self.wake_all(&batch);
-        errand
+        self.wake_first(&batch);
     }
 
     /// Makes the calls of a request, and of those that wait for the file meanwhile. Returns the workers of these.
@@ -211,19 +243,18 @@ impl<J: EngineBrand, D: Disk + Drop, H: Hold + Drop> Engine<J, D, H> {
         rt: &impl Wait,
         lock: &FileLock<J, D>,
         file: &mut GuardedFile<J, D>,
-        errand: &mut Errand,
+        pass: &mut Pass,
+        actor: &mut Actor,
     ) -> Workers
-        requires here { IsCarriedHere J.identity errand.old }
-        ensures { GoesOn J.identity errand.old errand.new }
+        requires here { CarriesRequest J.identity pass.old actor.old }
+        ensures { RequestGoesOn J.identity pass.old actor.old pass.new actor.new }
     {
         let mut batch = Workers::new();
-        self.prepare_and_seal(rt, lock, file, errand, &mut batch);
+        self.prepare_and_seal(rt, lock, file, pass, actor, &mut batch);
         self.seal_others(rt, lock, file, &mut batch);
         lock.room.take_changes(rt, &mut file.called);
-        self.make(file, errand, Phase::End);
-        for worker in batch.as_slice() {
-            self.end_other(file, *worker);
-        }
+        self.make(file, pass, actor, Phase::End);
+        self.end_others(file, &batch);
         batch
     }
 
@@ -235,16 +266,20 @@ impl<J: EngineBrand, D: Disk + Drop, H: Hold + Drop> Engine<J, D, H> {
         rt: &impl Wait,
         lock: &FileLock<J, D>,
         file: &mut GuardedFile<J, D>,
-        errand: &mut Errand,
+        pass: &mut Pass,
+        actor: &mut Actor,
         batch: &mut Workers,
     )
-        requires here { IsCarriedHere J.identity errand.old }
-        ensures { GoesOn J.identity errand.old errand.new }
+        requires here { CarriesRequest J.identity pass.old actor.old }
+        ensures { RequestGoesOn J.identity pass.old actor.old pass.new actor.new }
     {
         lock.room.take_changes(rt, &mut file.called);
-        self.make(file, errand, Phase::Prepare);
+        self.make(file, pass, actor, Phase::Prepare);
         let waiting = lock.room.take_changes(rt, &mut file.called);
-        let is_sealed = self.make(file, errand, Phase::Seal);
+        let is_sealed = self.make(file, pass, actor, Phase::Seal);
+        if is_sealed {
+            strike_off_written(&mut file.called);
+        }
         if is_sealed || batch.is_empty() {
             lock.room.take_workers(rt, waiting, batch);
         }
@@ -277,34 +312,55 @@ impl<J: EngineBrand, D: Disk + Drop, H: Hold + Drop> Engine<J, D, H> {
     ) {
         if let Some(own_box) = self.errands.get(usize::from(worker)) {
             own_box.loan.lend(Kept::Waiting, |errand| {
-                self.prepare_and_seal(rt, lock, file, errand, batch)
+                self.prepare_and_seal(rt, lock, file, &mut errand.pass, &mut errand.actor, batch)
             });
         }
     }
 
+    /// Makes the calls that end the changes of the workers of the batch, the last one's first: a worker takes its request
+    /// back only when those that it wakes can do so too.
+    fn end_others(&self, file: &mut GuardedFile<J, D>, batch: &Workers) {
+        let workers = batch.as_slice();
+        for place in (0..workers.len()).rev() {
+            let follower = workers.get(place + WOKEN_FIRST).copied();
+            self.end_other(file, workers[place], follower);
+        }
+    }
+
     /// Makes the call that ends a worker's change on the file, if that is its next call, and notes that the worker was
-    /// served.
-    fn end_other(&self, file: &mut GuardedFile<J, D>, worker: u8) {
+    /// served and whom it wakes. Wakes that one itself if the request isn't in the worker's box. It always is, but no
+    /// type says so.
+    fn end_other(&self, file: &mut GuardedFile<J, D>, worker: u8, follower: Option<u8>) {
         if let Some(own_box) = self.errands.get(usize::from(worker)) {
             let is_lent = own_box.loan.lend(Kept::Returned, |errand| {
-                self.make(file, errand, Phase::End);
+                self.make(file, &mut errand.pass, &mut errand.actor, Phase::End);
             });
             if is_lent {
-                own_box.set_done(true);
+                own_box.end(follower);
+                return;
             }
+        }
+        if let Some(worker) = follower {
+            self.ring(worker);
         }
     }
 
     /// Goes on with a request to its next call on this file, and makes that if it is of this phase. Does nothing if the
     /// file is another tenant's. Tells whether it came to such a call.
-    fn make(&self, file: &mut GuardedFile<J, D>, errand: &mut Errand, phase: Phase) -> bool
-        requires here { IsCarriedHere J.identity errand.old }
-        ensures { GoesOn J.identity errand.old errand.new }
+    fn make(
+        &self,
+        file: &mut GuardedFile<J, D>,
+        pass: &mut Pass,
+        actor: &mut Actor,
+        phase: Phase,
+    ) -> bool
+        requires here { CarriesRequest J.identity pass.old actor.old }
+        ensures { RequestGoesOn J.identity pass.old actor.old pass.new actor.new }
     {
-        if !file.is_of(&errand.actor) {
+        if !file.is_of(actor) {
             return false;
         }
-        file.go_on_to(&self.words.core, &mut errand.pass, &mut errand.actor, phase)
+        file.go_on_to(&self.words.core, pass, actor, phase)
     }
 }
 
@@ -322,9 +378,9 @@ impl<J: EngineBrand, D: Disk, H> Engine<J, D, H> {
         }
     }
 
-    /// Wakes these workers.
-    fn wake_all(&self, workers: &Workers) {
-        for worker in workers.as_slice() {
+    /// Wakes the first of the workers that were served. Each of these wakes another.
+    fn wake_first(&self, workers: &Workers) {
+        for worker in workers.as_slice().iter().take(WOKEN_FIRST) {
             self.ring(*worker);
         }
     }

@@ -7,7 +7,7 @@ use mw_loan::LoanBox;
 use mw_turns::Bell;
 use mw_words::MAX_WORKERS;
 use std::alloc::{AllocError, Global};
-use std::sync::atomic::{AtomicBool, Ordering};
+use std::sync::atomic::{AtomicBool, AtomicU8, Ordering};
 
 /// A worker's box, and the bell by which it sleeps.
 #[derive(Drop)]
@@ -17,7 +17,12 @@ pub(crate) struct ErrandBox<J: EngineBrand> {
     /// Whether another thread has served the request. That thread sets it while it holds the file's lock. It is a hint:
     /// the box itself tells whether the request can be taken back.
     is_done: AtomicBool,
+    /// The worker that this one wakes when it takes its served request back, or [`NOBODY`].
+    follower: AtomicU8,
 }
+
+/// No worker: their numbers are below [`MAX_WORKERS`].
+const NOBODY: u8 = u8::MAX;
 
 impl<J: EngineBrand> ErrandBox<J> {
     /// Makes an empty box.
@@ -30,6 +35,7 @@ impl<J: EngineBrand> ErrandBox<J> {
             loan: LoanBox::new(alloc)?,
             bell: Bell::new(),
             is_done: AtomicBool::new(false),
+            follower: AtomicU8::new(NOBODY),
         })
     }
 
@@ -38,9 +44,22 @@ impl<J: EngineBrand> ErrandBox<J> {
         self.is_done.load(Ordering::SeqCst)
     }
 
-    /// Notes whether the request in the box was served.
-    pub(crate) fn set_done(&self, is_done: bool) {
-        self.is_done.store(is_done, Ordering::SeqCst);
+    /// The number of the worker that this one wakes when it takes its served request back. If no worker has that number, it
+    /// wakes nobody.
+    pub(crate) fn follower(&self) -> u8 {
+        self.follower.load(Ordering::SeqCst)
+    }
+
+    /// Notes that the request which is about to be left in the box was not served yet.
+    pub(crate) fn begin(&self) {
+        self.is_done.store(false, Ordering::SeqCst);
+    }
+
+    /// Notes that the request in the box was served, and whom its worker wakes then.
+    pub(crate) fn end(&self, follower: Option<u8>) {
+        self.follower
+            .store(follower.unwrap_or(NOBODY), Ordering::SeqCst);
+        self.is_done.store(true, Ordering::SeqCst);
     }
 }
 

@@ -117,6 +117,9 @@ impl<J: EngineBrand, D: Disk> GuardedFile<J, D> {
     fn strike_off(&mut self, actor: &Actor)
         ensures { self.new.tenant ≡ self.old.tenant }
     {
+        if self.called.is_empty() {
+            return;
+        }
         if let Some(change) = waiting_change(actor) {
             strike_off(&mut self.called, change.slot);
         }

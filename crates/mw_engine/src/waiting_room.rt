@@ -4,6 +4,7 @@
 //! Used by: `file_lock`, `guarded_file`, `start`, `file_calls`, `combiner`. No contract says who is there: a call on a
 //! book takes the changes that it can use, and leaves the rest to their own prepares.
 use arrayvec::ArrayVec;
+use mw_book::MOST_AHEAD;
 use mw_core::Waiting;
 use mw_words::{MAX_WORKERS, copy_of};
 use std::sync::{Mutex, Wait};
@@ -61,10 +62,7 @@ impl WaitingRoom {
         let mut waits = self.waits.lock(rt);
         for waiting in waits.changes.as_slice() {
             if !called.is_full() {
-                called.push(Waiting {
-                    slot: waiting.slot,
-                    entries: copy_of(&waiting.entries),
-                });
+                called.push(copied(waiting));
             }
         }
         waits.changes.clear();
@@ -97,6 +95,21 @@ impl WaitingRoom {
     pub(crate) fn first(&self, rt: &impl Wait) -> Option<u8> {
         self.waits.lock(rt).workers.as_slice().get(0).copied()
     }
+}
+
+/// Copies a change that waits.
+fn copied(waiting: &Waiting) -> Waiting {
+    Waiting {
+        slot: waiting.slot,
+        entries: copy_of(&waiting.entries),
+    }
+}
+
+/// Strikes those off a list of changes that wait whose records a seal of another change has just written: the first ones, as
+/// many as a call writes. If there was no place for a record, the change's own prepare writes it.
+pub(crate) fn strike_off_written(called: &mut WaitingChanges) {
+    let written = called.len().min(MOST_AHEAD);
+    drop(called.drain(..written));
 }
 
 /// Strikes the change of a slot off a list of those that wait, if it is there. The last of the list takes its place.

@@ -26,7 +26,7 @@ seal_with-requires-clause-ahead g c =
     let file = c.in-Some.file in
     subst (λ words. MayPrepare words (states_of file) c.as_slice.result.now) (sym (words_held g.D.Disk.facts old file c.in-Some.is))
     (subst (λ cs. MayPrepare old.words (states_of file) cs) (sym c.as_slice.ensures.value)
-    (subst (λ states. MayPrepare old.words states c.choose-chosen.result.changes.items) c.states.ensures c.choose-chosen.ensures.chosen.may))
+    (subst (λ states. MayPrepare old.words states c.choose.new.self.changes.items) c.states.ensures c.choose.ensures.chosen.may))
 
 pub returns-then-is_err : goal.returns-then-is_err
 returns-then-is_err g c entries =
@@ -35,7 +35,7 @@ returns-then-is_err g c entries =
     seal_broken g.D.Disk.facts old _ file c.seal_with.new.self c.in-Some.is c.seal_with.ensures.later c.args.slot (omega (arith, c.ranges.slot.fits))
     (busy_in old file c.args.slot Prepared c.in-Some.is (c.requires.may c.if-self.false).sealable.prepared refl) (c.requires.may c.if-self.false).own c.if-self.false c.seal_with.result
     (subst (λ n. ChangeIsSealed g.D.Disk.facts file c.seal_with.new.self (writes_of_place (states_of file) n) c.seal_with.result) c.file_place-number.ensures c.seal_with.ensures.safe) entries
-    (length c.choose-chosen.result.changes.items) c.args.waiting.now c.choose-chosen.ensures.waiting (sym c.is_err.ensures.value ∙ c.if-is_err.true)
+    (length c.choose.new.self.changes.items) c.args.waiting.now c.choose.ensures.waiting (sym c.is_err.ensures.value ∙ c.if-is_err.true)
     (subst (λ cs. Ends g.D.Disk.facts (length cs + 2) file c.seal_with.new.self c.seal_with.result) c.as_slice.ensures.value c.seal_with.ensures.ends)
     (record { is_held = refl; is_words = refl; is_places = refl; is_place_of = refl; is_table = refl; is_failed = refl })
 
@@ -47,13 +47,13 @@ returns g c entries =
     seal_made g.D.Disk.facts old _ file c.seal_with.new.self c.in-Some.is c.seal_with.ensures.later c.args.slot (omega (arith, c.ranges.slot.fits))
     (busy_in old file c.args.slot Prepared c.in-Some.is (c.requires.may c.if-self.false).sealable.prepared refl) (c.requires.may c.if-self.false).own c.if-self.false c.seal_with.result
     (subst (λ n. ChangeIsSealed g.D.Disk.facts file c.seal_with.new.self (writes_of_place (states_of file) n) c.seal_with.result) c.file_place-number.ensures c.seal_with.ensures.safe) entries
-    c.args.waiting.now c.choose-chosen.result.table c.choose-chosen.result.changes.items c.choose-chosen.result.top
-    (subst (λ states. AreChosen old.words states old.table old.places 0 c.choose-chosen.result.table c.choose-chosen.result.changes.items c.choose-chosen.result.top) c.states.ensures c.choose-chosen.ensures.chosen)
-    c.choose-chosen.ensures.waiting
-    (subst (λ states. AreAhead old.table c.choose-chosen.result.table old.places c.choose-chosen.result.changes.items (first_ready old.words states old.table old.places c.args.slot (free_within states old.table 0 old.places) c.args.waiting.now)) c.states.ensures
-    c.choose-chosen.ensures.ahead)
+    c.args.waiting.now c.choose.new.self.table c.choose.new.self.changes.items c.choose.new.self.top
+    (subst (λ states. AreChosen old.words states old.table old.places 0 c.choose.new.self.table c.choose.new.self.changes.items c.choose.new.self.top) c.states.ensures c.choose.ensures.chosen)
+    c.choose.ensures.waiting
+    (subst (λ states. AreAhead old.table c.choose.new.self.table old.places c.choose.new.self.changes.items (first_ready old.words states old.table old.places c.args.slot (free_within states old.table 0 old.places) c.args.waiting.now)) c.states.ensures
+    c.choose.ensures.ahead)
     well
-    (ended_well g.D.Disk.facts (length c.choose-chosen.result.changes.items + 2) file c.seal_with.new.self c.seal_with.result well
+    (ended_well g.D.Disk.facts (length c.choose.new.self.changes.items + 2) file c.seal_with.new.self c.seal_with.result well
     (subst (λ cs. Ends g.D.Disk.facts (length cs + 2) file c.seal_with.new.self c.seal_with.result) c.as_slice.ensures.value c.seal_with.ensures.ends))
     (subst (λ held. stage_in_file (states_in held) old.table (place_at old c.args.slot) ≡ Prepared) c.in-Some.is (c.requires.may c.if-self.false).sealable.prepared)
     (subst (λ cs. IsSealedWith (states_of file) (states_of c.seal_with.new.self) (place_in_file old.table (place_at old c.args.slot)) cs) c.as_slice.ensures.value

@@ -41,7 +41,7 @@ settle_all-requires g c =
     let file = c.in-Some.file in
     subst (λ words. MayPrepare words (states_of file) c.as_slice.result.now) (sym (words_held g.D.Disk.facts old file c.in-Some.is))
     (subst (λ cs. MayPrepare old.words (states_of file) cs) (sym c.as_slice.ensures.value)
-    (subst (λ states. MayPrepare old.words states c.choose-chosen.result.changes.items) c.states-2.ensures c.choose-chosen.ensures.chosen.may))
+    (subst (λ states. MayPrepare old.words states c.choose.new.self.changes.items) c.states-2.ensures c.choose.ensures.chosen.may))
 
 pub returns-then-is_err : goal.returns-then-is_err
 returns-then-is_err g c entries =
@@ -50,7 +50,7 @@ returns-then-is_err g c entries =
     let bad = sym c.is_err.ensures.value ∙ c.if-is_err.true in
     settle_broken g.D.Disk.facts old _ file c.settle_all.new.self c.in-Some.is c.settle_all.ensures.later c.settle_all.ensures.safe c.args.slot (omega (arith, c.ranges.slot.fits))
     (subst (λ held. stage_in_file (states_in held) old.table (place_at old c.args.slot) ≡ Sealed) c.in-Some.is (c.requires.may c.if-self.false c.if-self-place.false)) c.if-self-place.false c.if-self.false entries
-    (length c.choose-chosen.result.changes.items) c.args.waiting.now c.choose-chosen.ensures.waiting
+    (length c.choose.new.self.changes.items) c.args.waiting.now c.choose.ensures.waiting
     (record { is_held = refl; is_words = refl; is_places = refl; is_place_of = refl; is_table = refl; is_failed = refl })
     (subst (λ cs. MetFault g.D.Disk.facts (length cs + roll_calls (states_of file)) file c.settle_all.new.self) c.as_slice.ensures.value
     (met_fault g.D.Disk.facts (length c.as_slice.result.now + roll_calls (states_of file)) file c.settle_all.new.self c.settle_all.result bad (failed_as g.D.Disk.facts old file c.in-Some.is ∙ c.if-self.false) c.settle_all.ensures.ends))
@@ -65,11 +65,11 @@ returns g c entries =
     let within = settles_within old.held old.table place (omega arith) (omega arith) (c.requires.may c.if-self.false) in
     settle_made g.D.Disk.facts old _ file c.settle_all.new.self c.in-Some.is c.settle_all.ensures.later c.settle_all.ensures.safe c.args.slot (omega (arith, c.ranges.slot.fits))
     (subst (λ held. stage_in_file (states_in held) old.table place ≡ Sealed) c.in-Some.is (c.requires.may c.if-self.false c.if-self-place.false)) c.if-self-place.false c.if-self.false entries
-    c.args.waiting.now (slice_set more place false) c.choose-chosen.result.table c.choose-chosen.result.changes.items c.choose-chosen.result.top
-    (subst (λ states. AreChosen old.words states old.table old.places 0 c.choose-chosen.result.table c.choose-chosen.result.changes.items c.choose-chosen.result.top) c.states-2.ensures c.choose-chosen.ensures.chosen)
-    c.choose-chosen.ensures.waiting
-    (subst (λ states. AreAhead old.table c.choose-chosen.result.table old.places c.choose-chosen.result.changes.items (first_ready old.words states old.table old.places c.args.slot (free_within states old.table 0 old.places) c.args.waiting.now)) c.states-2.ensures
-    c.choose-chosen.ensures.ahead)
+    c.args.waiting.now (slice_set more place false) c.choose.new.self.table c.choose.new.self.changes.items c.choose.new.self.top
+    (subst (λ states. AreChosen old.words states old.table old.places 0 c.choose.new.self.table c.choose.new.self.changes.items c.choose.new.self.top) c.states-2.ensures c.choose.ensures.chosen)
+    c.choose.ensures.waiting
+    (subst (λ states. AreAhead old.table c.choose.new.self.table old.places c.choose.new.self.changes.items (first_ready old.words states old.table old.places c.args.slot (free_within states old.table 0 old.places) c.args.waiting.now)) c.states-2.ensures
+    c.choose.ensures.ahead)
     (record { is_held = refl; is_words = refl; is_places = refl; is_place_of = refl; is_table = refl; is_failed = refl })
     (rolled_ahead (states_of file) old.table more place (omega (arith, within)) c.if-self-place.false
     (λ k. c.settled_with_sealed-settled.ensures k ∙ ap (λ states. is_settled old.table k || is_sealed_stage (stage_in_file states old.table k)) c.states.ensures))

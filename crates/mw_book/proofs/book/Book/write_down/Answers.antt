@@ -24,8 +24,8 @@ prepare_all-requires g c =
     let at = c.requires.lowest ∙ ap (λ held. vacant_place (states_in held) old.table old.places) c.in-Some.is in
     let room = subst (λ held. HasPlace (states_in held) old.table old.places) c.in-Some.is c.requires.room.room in
     subst (λ words. MayPrepare words (states_of file) c.as_slice.result.now) (sym (words_held g.D.Disk.facts old file c.in-Some.is))
-    (may_with_own old.words (states_of file) old.table c.choose-chosen.result.table old.places (c.args.place + 1) c.choose-chosen.result.changes.items c.as_slice.result.now c.choose-chosen.result.top c.args.place _
-    (subst (λ states. AreChosen old.words states old.table old.places (c.args.place + 1) c.choose-chosen.result.table c.choose-chosen.result.changes.items c.choose-chosen.result.top) c.states.ensures c.choose-chosen.ensures.chosen)
+    (may_with_own old.words (states_of file) old.table c.choose.new.self.table old.places (c.args.place + 1) c.choose.new.self.changes.items c.as_slice.result.now c.choose.new.self.top c.args.place _
+    (subst (λ states. AreChosen old.words states old.table old.places (c.args.place + 1) c.choose.new.self.table c.choose.new.self.changes.items c.choose.new.self.top) c.states.ensures c.choose.ensures.chosen)
     old.permuted (there_held g.D.Disk.facts old file c.in-Some.is) (omega (arith, at, room)) (omega arith)
     (ap (λ n. stage_in_file (states_of file) old.table n) at ∙ vacant_free (states_of file) old.table old.places room (sym (ap (is_prepared_ahead old.table) at) ∙ c.requires.none_ahead))
     c.file_place-number.ensures (ap (λ es. is_change old.words es.items) c.copy_of.ensures ∙ c.requires.room.formed) (c.as_slice.ensures.value ∙ c.push.ensures.items))
@@ -35,9 +35,9 @@ returns-then-is_err-clause-filed g c =
     let old = c.args.self.now in
     let bad = sym c.is_err.ensures.value ∙ c.if-is_err.true in
     prepare_broken g.D.Disk.facts old _ c.in-Some.file c.prepare_all.new.self c.in-Some.is c.prepare_all.ensures.later c.prepare_all.ensures.safe c.args.slot c.args.entries.now.items
-    (length c.choose-chosen.result.changes.items) c.args.waiting.now c.choose-chosen.ensures.waiting (some_vacant (states_in old.held) old.table old.places c.args.place c.requires.lowest c.requires.room.room c.requires.none_ahead)
+    (length c.choose.new.self.changes.items) c.args.waiting.now c.choose.ensures.waiting (some_vacant (states_in old.held) old.table old.places c.args.place c.requires.lowest c.requires.room.room c.requires.none_ahead)
     (record { is_held = refl; is_words = refl; is_places = refl; is_place_of = refl; is_table = refl; is_failed = refl }) c.requires.sound c.requires.none_written
-    (subst (λ n. MetFault g.D.Disk.facts n c.in-Some.file c.prepare_all.new.self) (one_longer c.choose-chosen.result.changes.items c.as_slice.result.now _ (c.as_slice.ensures.value ∙ c.push.ensures.items))
+    (subst (λ n. MetFault g.D.Disk.facts n c.in-Some.file c.prepare_all.new.self) (one_longer c.choose.new.self.changes.items c.as_slice.result.now _ (c.as_slice.ensures.value ∙ c.push.ensures.items))
     (met_fault g.D.Disk.facts (length c.as_slice.result.now + 1) c.in-Some.file c.prepare_all.new.self c.prepare_all.result bad (failed_as g.D.Disk.facts old c.in-Some.file c.in-Some.is ∙ c.requires.sound) c.prepare_all.ensures.ends))
 
 pub returns-clause-filed : goal.returns-clause-filed
@@ -46,12 +46,12 @@ returns-clause-filed g c =
     let file = c.in-Some.file in
     let well = sym c.is_err.ensures.value ∙ c.if-is_err.false in
     prepare_made g.D.Disk.facts old _ file c.prepare_all.new.self c.in-Some.is c.prepare_all.ensures.later c.prepare_all.ensures.safe c.args.slot c.args.place c.args.entries.now.items
-    c.args.waiting.now c.choose-chosen.result.table c.choose-chosen.result.changes.items c.as_slice.result.now c.choose-chosen.result.top _ (c.as_slice.ensures.value ∙ c.push.ensures.items)
+    c.args.waiting.now c.choose.new.self.table c.choose.new.self.changes.items c.as_slice.result.now c.choose.new.self.top _ (c.as_slice.ensures.value ∙ c.push.ensures.items)
     (c.requires.lowest ∙ ap (λ held. vacant_place (states_in held) old.table old.places) c.in-Some.is) c.requires.none_ahead c.requires.none_written
-    (subst (λ states. AreChosen old.words states old.table old.places (c.args.place + 1) c.choose-chosen.result.table c.choose-chosen.result.changes.items c.choose-chosen.result.top) c.states.ensures c.choose-chosen.ensures.chosen)
-    c.choose-chosen.ensures.waiting
-    (subst (λ states. AreAhead old.table c.choose-chosen.result.table old.places c.choose-chosen.result.changes.items (first_ready old.words states old.table old.places c.args.slot (free_within states old.table (c.args.place + 1) old.places) c.args.waiting.now)) c.states.ensures
-    c.choose-chosen.ensures.ahead)
+    (subst (λ states. AreChosen old.words states old.table old.places (c.args.place + 1) c.choose.new.self.table c.choose.new.self.changes.items c.choose.new.self.top) c.states.ensures c.choose.ensures.chosen)
+    c.choose.ensures.waiting
+    (subst (λ states. AreAhead old.table c.choose.new.self.table old.places c.choose.new.self.changes.items (first_ready old.words states old.table old.places c.args.slot (free_within states old.table (c.args.place + 1) old.places) c.args.waiting.now)) c.states.ensures
+    c.choose.ensures.ahead)
     c.file_place-number.ensures (ap (λ es. es.items) c.copy_of.ensures)
     (record { is_held = refl; is_words = refl; is_places = refl; is_place_of = refl; is_table = refl; is_failed = refl }) c.requires.sound (omega (arith, c.ranges.slot.fits)) (omega arith)
     (ended_well g.D.Disk.facts (length c.as_slice.result.now + 1) file c.prepare_all.new.self c.prepare_all.result well c.prepare_all.ensures.ends)

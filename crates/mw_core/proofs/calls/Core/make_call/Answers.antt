@@ -34,7 +34,7 @@ call-requires g c = record {
   may =
       may_call g.D.Disk.facts c.args.pass.now c.find_status-bits.new.pass c.args.actor.now c.args.book.now c.in-File.call c.in-File.slot c.requires.call c.requires.carried c.requires.has c.requires.agrees
       (sym c.ask.ensures.is ∙ c.in-File.is) c.find_status-bits.result c.find_status-bits.ensures.found c.in-Some.status (sym c.unpack.ensures.is ∙ c.in-Some.is)
-      c.find_status-bits.ensures.same (sym c.starts_from.ensures ∙ c.if-not-starts_from.false) c.entries_for.result.items
+      c.find_status-bits.ensures.same (sym c.starts_from.ensures ∙ c.if-not-starts_from.false) c.entries_for.result.now.items
       (subst (λ config. config.pool ≤ MAX_POOL) (sym c.requires.own.config) c.args.self.now.shared.made.pool.1) c.entries_for.ensures;
 }
 
@@ -42,7 +42,7 @@ pub end_call-requires-clause-may : goal.end_call-requires-clause-may
 end_call-requires-clause-may g c =
     may_end g.D.Disk.facts c.args.pass.now c.find_status-bits.new.pass c.args.actor.now c.args.book.now c.in-File.call c.in-File.slot c.requires.call c.requires.carried c.requires.has c.requires.agrees
     (sym c.ask.ensures.is ∙ c.in-File.is) c.find_status-bits.result c.find_status-bits.ensures.found c.in-Some.status (sym c.unpack.ensures.is ∙ c.in-Some.is)
-    c.find_status-bits.ensures.same (sym c.starts_from.ensures ∙ c.if-not-starts_from.false) (length c.args.waiting.now) c.call.new.self c.entries_for.result.items c.entries_for.ensures c.call.result c.call.ensures.places
+    c.find_status-bits.ensures.same (sym c.starts_from.ensures ∙ c.if-not-starts_from.false) (length c.args.waiting.now) c.call.new.self c.entries_for.result.now.items c.entries_for.ensures c.call.result c.call.ensures.places
     c.call.ensures.ends c.call.ensures.moments c.in-Made.is
 
 pub fault-requires : goal.fault-requires
@@ -51,7 +51,7 @@ fault-requires g c = record {
   may =
       may_fault g.D.Disk.facts c.args.pass.now c.find_status-bits.new.pass c.args.actor.now c.args.book.now c.in-File.call c.in-File.slot c.requires.call c.requires.carried c.requires.has c.requires.agrees
       (sym c.ask.ensures.is ∙ c.in-File.is) c.find_status-bits.result c.find_status-bits.ensures.found c.in-Some.status (sym c.unpack.ensures.is ∙ c.in-Some.is)
-      c.find_status-bits.ensures.same (sym c.starts_from.ensures ∙ c.if-not-starts_from.false) (length c.args.waiting.now) c.call.new.self c.entries_for.result.items c.entries_for.ensures c.call.result c.call.ensures.places
+      c.find_status-bits.ensures.same (sym c.starts_from.ensures ∙ c.if-not-starts_from.false) (length c.args.waiting.now) c.call.new.self c.entries_for.result.now.items c.entries_for.ensures c.call.result c.call.ensures.places
       c.call.ensures.ends c.call.ensures.moments c.tenant.result c.tenant.ensures (not_made c.call.result c.in-Broken.is);
 }
 
@@ -59,14 +59,14 @@ pub returns-in-Made-clause-made : goal.returns-in-Made-clause-made
 returns-in-Made-clause-made g c =
     (ended_well g.D.Disk.facts c.args.pass.now c.find_status-bits.new.pass c.args.actor.now c.args.book.now c.in-File.call c.in-File.slot c.requires.call c.requires.carried c.requires.has c.requires.agrees
     (sym c.ask.ensures.is ∙ c.in-File.is) c.find_status-bits.result c.find_status-bits.ensures.found c.in-Some.status (sym c.unpack.ensures.is ∙ c.in-Some.is)
-    c.find_status-bits.ensures.same (sym c.starts_from.ensures ∙ c.if-not-starts_from.false) (length c.args.waiting.now) c.call.new.self c.entries_for.result.items c.entries_for.ensures c.call.result c.call.ensures.places
+    c.find_status-bits.ensures.same (sym c.starts_from.ensures ∙ c.if-not-starts_from.false) (length c.args.waiting.now) c.call.new.self c.entries_for.result.now.items c.entries_for.ensures c.call.result c.call.ensures.places
     c.call.ensures.ends c.call.ensures.moments c.end_call.new.pass c.in-Made.is c.end_call.ensures.went c.end_call.ensures.event).0
 
 pub returns-in-Made-clause-agrees : goal.returns-in-Made-clause-agrees
 returns-in-Made-clause-agrees g c =
     (ended_well g.D.Disk.facts c.args.pass.now c.find_status-bits.new.pass c.args.actor.now c.args.book.now c.in-File.call c.in-File.slot c.requires.call c.requires.carried c.requires.has c.requires.agrees
     (sym c.ask.ensures.is ∙ c.in-File.is) c.find_status-bits.result c.find_status-bits.ensures.found c.in-Some.status (sym c.unpack.ensures.is ∙ c.in-Some.is)
-    c.find_status-bits.ensures.same (sym c.starts_from.ensures ∙ c.if-not-starts_from.false) (length c.args.waiting.now) c.call.new.self c.entries_for.result.items c.entries_for.ensures c.call.result c.call.ensures.places
+    c.find_status-bits.ensures.same (sym c.starts_from.ensures ∙ c.if-not-starts_from.false) (length c.args.waiting.now) c.call.new.self c.entries_for.result.now.items c.entries_for.ensures c.call.result c.call.ensures.places
     c.call.ensures.ends c.call.ensures.moments c.end_call.new.pass c.in-Made.is c.end_call.ensures.went c.end_call.ensures.event).1
 
 pub returns-in-Broken : goal.returns-in-Broken
@@ -80,11 +80,11 @@ returns-in-Broken g c = record {
   made =
       (ended_badly g.D.Disk.facts c.args.pass.now c.find_status-bits.new.pass c.args.actor.now c.args.book.now c.in-File.call c.in-File.slot c.requires.call c.requires.carried c.requires.has c.requires.agrees
       (sym c.ask.ensures.is ∙ c.in-File.is) c.find_status-bits.result c.find_status-bits.ensures.found c.in-Some.status (sym c.unpack.ensures.is ∙ c.in-Some.is)
-      c.find_status-bits.ensures.same (sym c.starts_from.ensures ∙ c.if-not-starts_from.false) (length c.args.waiting.now) c.call.new.self c.entries_for.result.items c.entries_for.ensures c.call.result c.call.ensures.places
+      c.find_status-bits.ensures.same (sym c.starts_from.ensures ∙ c.if-not-starts_from.false) (length c.args.waiting.now) c.call.new.self c.entries_for.result.now.items c.entries_for.ensures c.call.result c.call.ensures.places
       c.call.ensures.ends c.call.ensures.moments c.fault.new.pass (not_made c.call.result c.in-Broken.is) c.fault.ensures.went c.fault.ensures.event).0;
   agrees =
       (ended_badly g.D.Disk.facts c.args.pass.now c.find_status-bits.new.pass c.args.actor.now c.args.book.now c.in-File.call c.in-File.slot c.requires.call c.requires.carried c.requires.has c.requires.agrees
       (sym c.ask.ensures.is ∙ c.in-File.is) c.find_status-bits.result c.find_status-bits.ensures.found c.in-Some.status (sym c.unpack.ensures.is ∙ c.in-Some.is)
-      c.find_status-bits.ensures.same (sym c.starts_from.ensures ∙ c.if-not-starts_from.false) (length c.args.waiting.now) c.call.new.self c.entries_for.result.items c.entries_for.ensures c.call.result c.call.ensures.places
+      c.find_status-bits.ensures.same (sym c.starts_from.ensures ∙ c.if-not-starts_from.false) (length c.args.waiting.now) c.call.new.self c.entries_for.result.now.items c.entries_for.ensures c.call.result c.call.ensures.places
       c.call.ensures.ends c.call.ensures.moments c.fault.new.pass (not_made c.call.result c.in-Broken.is) c.fault.ensures.went c.fault.ensures.event).1;
 }
