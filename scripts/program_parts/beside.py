@@ -239,8 +239,9 @@ def try_bench(folder):
 
 
 def try_bench_of_one_tenant(folder):
-    """A short run of it tells that a lone client needs four syncs a change, and sixteen clients less than two; and that these make
-    more changes. If a thread that makes their calls didn't wake them, they would make far fewer. Nothing else is looked at."""
+    """A short run of it tells that a lone client needs four syncs a change, and sixteen clients less than one and a half; and that these
+    make more changes. If a thread that makes their calls didn't wake them, they would make far fewer. If a worker that was woken didn't
+    wake the next, they would need 1.7 syncs. Nothing else is looked at."""
     room = folder / "bench-one-tenant"
     room.mkdir()
     ran = subprocess.run([TOP / "scripts/bench-server", "--one-tenant", "--delay", "200", "--seconds", "0.3", "--turns", "1", "--folder", room],
@@ -249,7 +250,7 @@ def try_bench_of_one_tenant(folder):
     same((ran.returncode, told if ran.returncode else ""), (0, ""), "bench-server --one-tenant")
     ours = list(takewhile(lambda row: row.startswith("  clients: "), told.split("Mondlexi, ")[1].splitlines()[1:]))
     rates, syncs = ({row[:NAME].split(": ")[1].strip(): float(row.split()[at].replace(",", "")) for row in ours} for at in (-7, -4))
-    same((syncs["1"], syncs["16"] < 2, list(room.iterdir())), (4.0, True, []), "the syncs of a change, and what a short run leaves")
+    same((syncs["1"], syncs["16"] < 1.5, list(room.iterdir())), (4.0, True, []), "the syncs of a change, and what a short run leaves")
     same(rates["16"] > 1.5 * rates["1"], True, f"more changes by sixteen clients than by one: {rates}")
     print("bench-server --one-tenant: a lone client needs four syncs a change, and sixteen fewer and make more")
 
