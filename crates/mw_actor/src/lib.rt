@@ -21,11 +21,11 @@
 //!                     +-----decide no---> No --cancel--> DoneNo
 //! ```
 //!
-//! The definitions, in the order of reading: `specs/ActorState` (a request), `specs/Asks` (its step at each
-//! point), `specs/Program` (where it goes from there, with `Admission`, `Inspection`, `Help`, `ReleasePhase`
-//! and `RequestEnds` as its parts), and `specs/Ranges` (which numbers are in range). `specs/Parts` divides the
-//! points among the functions of the code. `specs/Stages` and `specs/Balance` group them by what the request
-//! holds there. What holds of all runs of a request is in mw_law_requests.
+//! The definitions, in the order of reading: `specs/ActorState` (a request), `specs/Asks` (its step at each point),
+//! `specs/Program` (where it goes from there, with `Admission`, `Inspection`, `Help`, `ReleasePhase` and `RequestEnds` as its
+//! parts), and `specs/Ranges` (which numbers are in range). `specs/Parts` divides the points among the functions of the code.
+//! `specs/Stages` and `specs/Balance` group them by what the request holds there. What holds of all runs of a request is in
+//! mw_law_runs.
 //!
 //! mw_core makes these steps on the shared words of threads, and mw_simulator on a world in memory. docs/STEPS tells
 //! the algorithm; a change of it is a change of `specs/Program`, and of the laws of the world.

@@ -1,7 +1,6 @@
 //! Sends one request over a connection, and reads its reply.
 //!
-//! Used by: `administrator`, `client`, `report`, mw_load. It may change with `specs/Exchanges`, which its contracts
-//! cite.
+//! Used by: `administrator`, `client`, `report`, mwbench. It may change with `specs/Exchanges`, which its contracts cite.
 ghost use Rattle.std.specs.Prelude.{◌≡◌, ◌++◌, [], ◌∷◌, codes, IfSome};
 ghost use Rattle.std.specs.Io.KnownBytes.{Consumes};
 ghost use Rattle.mw_line.specs.Replies.{text_of};

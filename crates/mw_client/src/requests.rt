@@ -1,7 +1,6 @@
 //! Writes the line that a client sends for a request.
 //!
-//! Used by: `administrator`, `conversation`, mw_load. A new request needs a case here and in `specs/Grammar` of
-//! mw_line.
+//! Used by: `administrator`, `conversation`, mwbench. A new request needs a case here and in `specs/Grammar` of mw_line.
 ghost use Rattle.std.specs.Prelude.{◌≡◌, ◌+◌, ◌*◌, ◌≤◌, ◌<◌, ◌++◌, [], All, decimal, flat_map, length};
 ghost use Rattle.mw_line.specs.Grammar.{Get, spaced, spelling};
 ghost use Rattle.mw_line.specs.Limits.{command_of};

@@ -1,6 +1,6 @@
 //! Connects to a server over TCP, or by a local socket.
 //!
-//! Used by: mw_load, tests. No contract is about sockets. docs/CLIENTS describes [`connect`]: change both together.
+//! Used by: mwbench, tests. No contract is about sockets. docs/CLIENTS describes [`connect`]: change both together.
 use crate::administrator::Administrator;
 use crate::client::Client;
 use crate::meanings::Failure;

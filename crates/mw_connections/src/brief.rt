@@ -1,8 +1,8 @@
 //! Connections of clients that stay for one request and its answer: the listener that gives them, and their stream.
 //!
-//! mw_programs listens for them, and mw_http_server serves them. Two limits of time run from the moment when the client comes,
-//! one for all reads and one for all writes, whatever the client sends meanwhile. How much of a limit is left is calculated
-//! in `time_limits.rt`. Nothing is proved of sockets. [`FAREWELL`] may have another number.
+//! mw_programs listens for them, and mw_server_pages serves them. Two limits of time run from the moment when the client comes,
+//! one for all reads and one for all writes, whatever the client sends meanwhile. How much of a limit is left is calculated in
+//! `time_limits.rt`. Nothing is proved of sockets. [`FAREWELL`] may have another number.
 ghost use Rattle.std.specs.Prelude.{None};
 ghost use Rattle.std.specs.Io.{ReadsAtMost, WritesAtMost};
 

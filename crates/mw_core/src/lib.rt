@@ -13,7 +13,7 @@
 //! what `try_look` does, and `specs/Reasons` what the steps found if a read begins again. `specs/Books` says when a
 //! book and a file token agree.
 //!
-//! Used by: mw_engine, mw_table_bench, mw_table_tests.
+//! Used by: mw_engine, mw_table_tests.
 //!
 //! [`Book`]: mw_book::Book
 #![tactic(auto)]

@@ -1,7 +1,7 @@
 //! Makes one round of a read: up to its reply, or back to its first point.
 //!
-//! mw_engine reads by `try_look`, and so does mw_table_bench. A new reason to begin again needs a case in
-//! [`WhyAgain`] and in `specs/Reasons`.
+//! mw_engine reads by `try_look`, and so does mw_table_tests. A new reason to begin again needs a case in [`WhyAgain`] and in
+//! `specs/Reasons`.
 ghost use Rattle.std.specs.Prelude.{◌≡◌, true, false, is_some, None};
 ghost use Rattle.mw_look.specs.declared.observations.Observation.TheVariants.{SawGate, SawWord, Lost};
 ghost use Rattle.mw_look.specs.Program.{Reading};

@@ -2,7 +2,7 @@
 //!
 //! Nothing else uses it: it may change with what it tests.
 use crate::http_peers::{CountedPages, Failing};
-use mw_http_server::{Exchanged, exchange};
+use mw_server_pages::{Exchanged, exchange};
 use mw_session::{Duplex, RecordedStream};
 use mw_test_peers::{Failure, Page, Sender};
 use std::io::{ErrorKind, Read, Write};

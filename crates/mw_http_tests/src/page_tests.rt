@@ -3,9 +3,9 @@
 //! Nothing else uses it: it may change with what it tests.
 use crate::http_peers::{HandClock, OneFile};
 use mw_http::{ContentType, Route, Status};
-use mw_http_server::Pages;
-use mw_meters::Meters;
-use mw_pages::{Curve, LimitKind, NearLimit, Point, Recent, health_text, status_page};
+use mw_server_pages::Pages;
+use mw_metrics::Meters;
+use mw_server_pages::{Curve, LimitKind, NearLimit, Point, Recent, health_text, status_page};
 use mw_report::TenantFigures;
 use mw_server_pages::{Capacity, NoCopy, ServerPages, Version};
 use mw_test_server::Shelf;

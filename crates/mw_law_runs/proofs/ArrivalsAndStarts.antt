@@ -28,13 +28,13 @@ use Rattle.mw_world.specs.Definition.Restarts.{restart, restarted}
 use Rattle.mw_world.specs.Definition.State.{State, WorkerState, TenantState, IsConfig, tenant_state_at, started, no_tenant, tenant_at, tenants_of}
 use Rattle.mw_world.specs.Definition.Requests.{came, gave}
 use Rattle.mw_world.specs.Definition.World.{come, hand, handed, may_come}
-use Rattle.mw_law_moves.specs.StepMoves.{SameMemory}
-use Rattle.mw_law_moves.proofs.Shared.{is_shared, memory_is_shared}
-use Rattle.mw_law_moves.proofs.MemoryAtStart.{starts_have_memory}
-use Rattle.mw_law_moves.proofs.StepsKeepMemory.{comes_leave, hands_leave, restarts_have}
-use Rattle.mw_law_moves.proofs.WorkerPermissions.{events_tell_points}
-use Rattle.mw_law_counts.proofs.RunsKeepCounts.{openings_stand, step_keeps}
-use Rattle.mw_law_counts.proofs.Startable.{may_start}
+use Rattle.mw_law_runs.specs.Moves.StepMoves.{SameMemory}
+use Rattle.mw_law_runs.proofs.Moves.Shared.{is_shared, memory_is_shared}
+use Rattle.mw_law_runs.proofs.Moves.MemoryAtStart.{starts_have_memory}
+use Rattle.mw_law_runs.proofs.Moves.StepsKeepMemory.{comes_leave, hands_leave, restarts_have}
+use Rattle.mw_law_runs.proofs.Moves.WorkerPermissions.{events_tell_points}
+use Rattle.mw_law_runs.proofs.Counts.RunsKeepCounts.{openings_stand, step_keeps}
+use Rattle.mw_law_runs.proofs.Counts.Startable.{may_start}
 use Rattle.mw_law_runs.proofs.Knowledge.Updates.Preservation.{upd_here, upd_else}
 use Rattle.mw_law_runs.specs.Obligations.{WordsHaveReleasers, IsOwnerOf, IsCleanerOf}
 use Rattle.mw_law_runs.specs.Laws.{ComesKeepSound, HandsKeepSound, RestartsKeepSound, StartsAreSound}

@@ -1,7 +1,7 @@
 -- In every run, steps on words of 64 bits do what the definition says of values. What a request's next step expects and leaves
 -- is in range.
--- Used by: the law runs_are_bit_exact, mw_law_calls, mw_rule, mw_table. Its statements may change with mw_law_calls, mw_rule
--- and mw_table; its proofs may change freely.
+-- Used by: the law runs_are_bit_exact, mw_rule, mw_table. Its statements may change with mw_rule and mw_table; its proofs may
+-- change freely.
 use Rattle.std.specs.Prelude.{ℕ, ◌≡◌, ◌≤◌, ◌<◌, ◌+◌, ◌-◌, ◌*◌, ◌%◌, ◌^◌, Bool, true, false, All, Some}
 use Rattle.std.proofs.Common.{refl, sym, ap, subst, ◌∙◌, arith}
 use Rattle.mw_words.specs.declared.doors.Door.{Door}
@@ -32,11 +32,11 @@ use Rattle.mw_world.specs.Claim.BitExactness.{EveryRunIsBitExact, IsRightAs, IsR
 use Rattle.mw_look.specs.declared.steps.Shape.TheVariants.{Fetch}
 use Rattle.mw_world.specs.Definition.Counts.{pins_held, waits_at}
 use Rattle.mw_world.specs.Definition.State.{State}
-use Rattle.mw_law_counts.proofs.GateSteps.{has_pin, has_waited}
+use Rattle.mw_law_runs.proofs.Counts.GateSteps.{has_pin, has_waited}
 use Rattle.mw_law_runs.specs.Knowledge.Facts.{AtEntry}
 use Rattle.mw_law_runs.specs.Knowledge.Informed.{IsInformed}
 use Rattle.mw_law_runs.specs.Knowledge.Points.{without_point}
-use Rattle.mw_law_moves.specs.Guards.{IsLive}
+use Rattle.mw_law_runs.specs.Moves.Guards.{IsLive}
 use Rattle.mw_law_runs.specs.RunInvariant.{IsSound}
 use Rattle.mw_law_runs.proofs.ExpectedInRange.{entry_in_range, expected_fits, held_fits, of_either, slot_fits}
 use Rattle.mw_law_runs.proofs.Obligations.Pins.{counted_once}

@@ -11,9 +11,9 @@ use Rattle.mw_world.specs.Claim.Invariant.{IsOfCaller}
 use Rattle.mw_world.specs.Definition.Calls.{Called, called_at}
 use Rattle.mw_world.specs.Definition.Counts.{pins_held}
 use Rattle.mw_world.specs.Definition.State.{State}
-use Rattle.mw_law_counts.proofs.GateSteps.{has_pin}
+use Rattle.mw_law_runs.proofs.Counts.GateSteps.{has_pin}
 use Rattle.mw_law_runs.specs.Knowledge.NextState.{KnowsItsPoint}
-use Rattle.mw_law_moves.specs.Guards.{IsLive}
+use Rattle.mw_law_runs.specs.Moves.Guards.{IsLive}
 use Rattle.mw_law_runs.specs.RunInvariant.{IsSound}
 use Rattle.mw_law_runs.proofs.Obligations.Pins.{counted_once, none_some, some_same, target_pinned}
 use Rattle.mw_law_runs.proofs.RequestsInWorlds.{rest_on}

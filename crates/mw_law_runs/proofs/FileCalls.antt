@@ -23,17 +23,17 @@ use Rattle.mw_world.specs.Definition.Extent.{has_slot}
 use Rattle.mw_world.specs.Definition.Events.{File as FileEvent}
 use Rattle.mw_world.specs.Definition.State.{State, WorkerState}
 use Rattle.mw_world.specs.Definition.Turns.{Made, moved, next_attempt}
-use Rattle.mw_law_moves.specs.Guards.{Guards}
-use Rattle.mw_law_moves.specs.Memory.{Memory}
-use Rattle.mw_law_moves.specs.Moves.{SetDoor, made_all}
-use Rattle.mw_law_moves.specs.Rely.{Rely}
-use Rattle.mw_law_moves.specs.StepMoves.{SameMemory, broken_moves, call_observation, faulted, moves_called, moves_of_call, next_of, set_intent, status_moves}
-use Rattle.mw_law_moves.proofs.CallMoves.{calls_are_moves}
-use Rattle.mw_law_moves.proofs.MovesKeepMemory.{moves_keep}
-use Rattle.mw_law_moves.proofs.Relied.{others_rely_on_all}
-use Rattle.mw_law_moves.proofs.Shared.{memory_is_shared, reliance_is_shared}
-use Rattle.mw_law_moves.proofs.WorkerPermissions.{events_tell_points}
-use Rattle.mw_law_counts.proofs.RunsKeepCounts.{step_keeps}
+use Rattle.mw_law_runs.specs.Moves.Guards.{Guards}
+use Rattle.mw_law_runs.specs.Moves.Memory.{Memory}
+use Rattle.mw_law_runs.specs.Moves.Moves.{SetDoor, made_all}
+use Rattle.mw_law_runs.specs.Moves.Rely.{Rely}
+use Rattle.mw_law_runs.specs.Moves.StepMoves.{SameMemory, broken_moves, call_observation, faulted, moves_called, moves_of_call, next_of, set_intent, status_moves}
+use Rattle.mw_law_runs.proofs.Moves.CallMoves.{calls_are_moves}
+use Rattle.mw_law_runs.proofs.Moves.MovesKeepMemory.{moves_keep}
+use Rattle.mw_law_runs.proofs.Moves.Relied.{others_rely_on_all}
+use Rattle.mw_law_runs.proofs.Moves.Shared.{memory_is_shared, reliance_is_shared}
+use Rattle.mw_law_runs.proofs.Moves.WorkerPermissions.{events_tell_points}
+use Rattle.mw_law_runs.proofs.Counts.RunsKeepCounts.{step_keeps}
 use Rattle.mw_law_runs.specs.Knowledge.Informed.{IsInformed}
 use Rattle.mw_law_runs.specs.Knowledge.Laws.{StaysTaken}
 use Rattle.mw_law_runs.proofs.Knowledge.Updates.Preservation.{gates_same, upd_here, upd_else}

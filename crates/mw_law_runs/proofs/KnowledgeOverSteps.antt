@@ -24,9 +24,9 @@ use Rattle.mw_world.specs.Definition.Cells.{Cells}
 use Rattle.mw_look.specs.declared.steps.Shape.TheVariants.{Exchange, Store, Fetch}
 use Rattle.mw_world.specs.Definition.Counts.{frees_at}
 use Rattle.mw_world.specs.Definition.State.{State}
-use Rattle.mw_law_moves.specs.Moves.{made_all}
-use Rattle.mw_law_moves.specs.Rely.{Rely}
-use Rattle.mw_law_moves.specs.StepMoves.{give_up_moves, set_intent}
+use Rattle.mw_law_runs.specs.Moves.Moves.{made_all}
+use Rattle.mw_law_runs.specs.Moves.Rely.{Rely}
+use Rattle.mw_law_runs.specs.Moves.StepMoves.{give_up_moves, set_intent}
 use Rattle.mw_law_runs.specs.Knowledge.Informed.{IsInformed, ChangesNoWord, ChangesAWord}
 use Rattle.mw_law_runs.specs.Knowledge.Laws.{StaysTaken}
 use Rattle.mw_law_runs.specs.Knowledge.Points.{without_point}

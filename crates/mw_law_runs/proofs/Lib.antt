@@ -20,3 +20,6 @@ pub mod ShortRuns
 pub mod Statuses
 pub mod GuardedEvents
 pub mod StepsKeepInvariant
+pub mod Requests
+pub mod Moves
+pub mod Counts

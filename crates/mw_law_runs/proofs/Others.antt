@@ -7,8 +7,8 @@ use Rattle.mw_actor.specs.ActorState.{ActorState}
 use Rattle.mw_world.specs.declared.config.Config.{Config}
 use Rattle.mw_world.specs.Definition.Counts.{pins_held, frees_at}
 use Rattle.mw_world.specs.Definition.State.{State}
-use Rattle.mw_law_moves.specs.Rely.{Rely}
-use Rattle.mw_law_counts.proofs.Room.{who-frees-is-alone}
+use Rattle.mw_law_runs.specs.Moves.Rely.{Rely}
+use Rattle.mw_law_runs.proofs.Counts.Room.{who-frees-is-alone}
 use Rattle.mw_law_runs.specs.Knowledge.Laws.{StaysTaken}
 use Rattle.mw_law_runs.specs.Knowledge.Points.{without_point}
 use Rattle.mw_law_runs.proofs.Knowledge.Stability.{others_keep_own}

@@ -14,9 +14,9 @@ use Rattle.mw_world.specs.Definition.Events.{WorldEvent, Come, Step as StepEvent
 use Rattle.mw_world.specs.Definition.State.{State}
 use Rattle.mw_world.specs.Definition.Turns.{turn}
 use Rattle.mw_world.specs.Definition.World.{step}
-use Rattle.mw_law_moves.specs.StepMoves.{SameMemory}
-use Rattle.mw_law_moves.proofs.StepsKeepMemory.{comes_leave, hands_leave}
-use Rattle.mw_law_counts.proofs.Sums.{over_at, of_actor}
+use Rattle.mw_law_runs.specs.Moves.StepMoves.{SameMemory}
+use Rattle.mw_law_runs.proofs.Moves.StepsKeepMemory.{comes_leave, hands_leave}
+use Rattle.mw_law_runs.proofs.Counts.Sums.{over_at, of_actor}
 use Rattle.mw_law_runs.specs.Knowledge.Laws.{StaysTaken}
 use Rattle.mw_law_runs.specs.Laws.{IsNoStart, IsPinHolder, KeepsItsNumber, PinnedGatesKeepTheirNumbers}
 use Rattle.mw_law_runs.specs.RunInvariant.{IsSound}

@@ -23,13 +23,13 @@ use Rattle.mw_actor.specs.declared.points.Task.{Task}
 use Rattle.mw_actor.specs.ActorState.{ActorState}
 use Rattle.mw_actor.specs.Help.{others_read}
 use Rattle.mw_actor.specs.Program.{goes}
-use Rattle.mw_law_requests.proofs.StageLaws.{goes_leads}
+use Rattle.mw_law_runs.proofs.Requests.StageLaws.{goes_leads}
 use Rattle.mw_actor.specs.Stages.{Stage, Reading, Outside, Entering, Seeking, Claiming, WritingStatus, WritingCount, WritingAddr, WritingExpected, WritingNew, Preparing, Checking, Inspecting, Holding, Deciding, Working, Nearing, Pinning, Fetching, Leaving, Freeing, Lowering, GivingUp, stage, Resumes, OnTask, Scans, Leads}
 use Rattle.mw_world.specs.Definition.Cells.{Cells, read, AllFit}
 use Rattle.mw_look.specs.declared.steps.Shape.{Shape}
 use Rattle.mw_look.specs.declared.steps.Shape.TheVariants.{Exchange, Store, Fetch}
 use Rattle.mw_look.specs.Shapes.{shape_of}
-use Rattle.mw_law_counts.specs.Exact.{IsLookInRange}
+use Rattle.mw_law_runs.specs.Counts.Exact.{IsLookInRange}
 use Rattle.mw_law_runs.specs.Knowledge.Informed.{IsPointFor, Changes}
 use Rattle.mw_law_runs.proofs.StepEnds.{Ends}
 

@@ -19,9 +19,9 @@ use Rattle.mw_world.specs.Definition.Counts.{frees_at}
 use Rattle.mw_world.specs.Definition.History.{standing_at, permission_at}
 use Rattle.mw_world.specs.Claim.Invariant.{IsOfWorker}
 use Rattle.mw_world.specs.Definition.State.{State}
-use Rattle.mw_law_counts.specs.Ready.{IsReady}
-use Rattle.mw_law_counts.specs.CountInvariant.{CountsRestOn, IsFirstToLeave}
-use Rattle.mw_law_counts.proofs.Exact.{exchanges-are-exact}
+use Rattle.mw_law_runs.specs.Counts.Ready.{IsReady}
+use Rattle.mw_law_runs.specs.Counts.CountInvariant.{CountsRestOn, IsFirstToLeave}
+use Rattle.mw_law_runs.proofs.Counts.Exact.{exchanges-are-exact}
 use Rattle.mw_law_runs.specs.Knowledge.NextState.{KnowsItsPoint}
 use Rattle.mw_law_runs.specs.Obligations.{HaveTheirRequests}
 use Rattle.mw_law_runs.specs.Laws.{CountsHaveRest}

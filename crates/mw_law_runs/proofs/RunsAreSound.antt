@@ -1,8 +1,8 @@
 -- After every run the world is sound (`IsSound`): the invariants of shared words and counts hold, and each request knows its
 -- point's facts.
 -- Used by: the laws runs_are_sound and events_keep_sound, BitExactness, Pinned, Places/PlaceInvariant, ShortRuns, Statuses,
--- mw_law_store, mw_law_calls, mw_rule, mw_table, mw_core, mw_engine. Its statements may change with mw_law_store, mw_law_calls,
--- mw_rule, mw_table, mw_core and mw_engine; its proofs may change freely.
+-- mw_law_store, mw_rule, mw_table, mw_core, mw_engine. Its statements may change with mw_law_store, mw_rule, mw_table, mw_core
+-- and mw_engine; its proofs may change freely.
 use Rattle.std.specs.Prelude.{ℕ, ◌≡◌, true, List, [], ◌∷◌, Option, Some, None}
 use Rattle.std.specs.Option.{option_and_then}
 use Rattle.std.proofs.Common.{refl, sym, subst}
@@ -21,8 +21,8 @@ use Rattle.mw_world.specs.Definition.State.{State, IsConfig, IsStart, TenantStar
 use Rattle.mw_world.specs.Definition.Requests.{came, gave}
 use Rattle.mw_world.specs.Definition.Turns.{turn}
 use Rattle.mw_world.specs.Definition.World.{come, hand, handed, may_come, run, step}
-use Rattle.mw_law_counts.proofs.Room.{doors-count-the-taken, who-waits-has-room}
-use Rattle.mw_law_counts.proofs.Startable.{may_start, start_tells}
+use Rattle.mw_law_runs.proofs.Counts.Room.{doors-count-the-taken, who-waits-has-room}
+use Rattle.mw_law_runs.proofs.Counts.Startable.{may_start, start_tells}
 use Rattle.mw_law_runs.proofs.Obligations.RequestObligations.{requests_release_their_words}
 use Rattle.mw_law_runs.specs.Files.{AreEntries, FileFits, FilesFit}
 use Rattle.mw_law_runs.specs.Laws.{EventsKeepSound, RoomIsLeft, RunsAreSound, SoundWorldsAreRight}

@@ -7,10 +7,10 @@ use Rattle.mw_world.specs.declared.config.Config.{Config}
 use Rattle.mw_world.specs.Definition.Cells.{Cells}
 use Rattle.mw_world.specs.Definition.History.{History}
 use Rattle.mw_world.specs.Definition.State.{State}
-use Rattle.mw_law_moves.specs.Memory.{Memory}
-use Rattle.mw_law_moves.specs.StepMoves.{SameMemory}
-use Rattle.mw_law_moves.proofs.Relied.{others_rely_on_all}
-use Rattle.mw_law_moves.proofs.Shared.{reliance_is_shared}
+use Rattle.mw_law_runs.specs.Moves.Memory.{Memory}
+use Rattle.mw_law_runs.specs.Moves.StepMoves.{SameMemory}
+use Rattle.mw_law_runs.proofs.Moves.Relied.{others_rely_on_all}
+use Rattle.mw_law_runs.proofs.Moves.Shared.{reliance_is_shared}
 use Rattle.mw_law_runs.specs.Knowledge.Points.{without_point}
 use Rattle.mw_law_runs.specs.Knowledge.NextState.{KnowsItsPoint}
 use Rattle.mw_law_runs.proofs.Knowledge.Updates.Preservation.{carries_on, keeps_all, gates_same}

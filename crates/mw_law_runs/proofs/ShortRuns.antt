@@ -38,9 +38,9 @@ use Rattle.mw_world.specs.Definition.Restarts.{restarted}
 use Rattle.mw_world.specs.Definition.State.{State, WorkerState, IsConfig, tenants_of, world_at}
 use Rattle.mw_world.specs.Definition.Turns.{Made, turn, turned, may_make, moved, made_of, next_attempt}
 use Rattle.mw_world.specs.Definition.World.{run, step}
-use Rattle.mw_law_moves.specs.StepMoves.{SameMemory}
-use Rattle.mw_law_moves.proofs.StepsKeepMemory.{comes_leave, hands_leave}
-use Rattle.mw_law_counts.proofs.Startable.{may_start}
+use Rattle.mw_law_runs.specs.Moves.StepMoves.{SameMemory}
+use Rattle.mw_law_runs.proofs.Moves.StepsKeepMemory.{comes_leave, hands_leave}
+use Rattle.mw_law_runs.proofs.Counts.Startable.{may_start}
 use Rattle.mw_law_runs.specs.Knowledge.NextState.{KnowsItsPoint}
 use Rattle.mw_law_runs.specs.Files.{FilesFit}
 use Rattle.mw_law_runs.specs.RunInvariant.{IsSound}

@@ -1,6 +1,6 @@
 -- A request is at a call on its file, and its change has the status from which the call starts. Then no other worker changes
 -- that status, except by a call on the same file.
--- Used by: callers_status_stays, mw_law_calls. Its statements may change with mw_law_calls; its proofs may change freely.
+-- Used by: callers_status_stays, mw_rule. Its statements may change with mw_rule; its proofs may change freely.
 use Rattle.std.specs.Prelude.{ℕ, ◌≡◌, ◌≢◌, ◌⊎◌, ◌==◌, ◌++◌, Bool, true, false, not, cond, ◌&&◌, is_some, if◌then◌else◌, [], ◌∷◌, Option, Some, None}
 use Rattle.std.proofs.Common.{refl, sym, ap, subst, ◌∙◌, inl, inr, arith}
 use Rattle.std.proofs.lemmas.Bool.Decides.{nat_tests}
@@ -39,10 +39,10 @@ use Rattle.mw_world.specs.Definition.Events.{WorldEvent, Step as StepEvent, File
 use Rattle.mw_world.specs.Definition.State.{State}
 use Rattle.mw_world.specs.Definition.Turns.{turn, turned, may_make, moved, made_of}
 use Rattle.mw_world.specs.Definition.World.{step}
-use Rattle.mw_law_moves.specs.Moves.{SetDoor, made_all}
-use Rattle.mw_law_moves.specs.StepMoves.{broken_moves, faulted, moves_called, moves_of_call, next_of, set_intent, status_moves}
-use Rattle.mw_law_moves.proofs.CallMoves.{calls_are_moves}
-use Rattle.mw_law_moves.proofs.StepsKeepMemory.{exchanges_are_typed}
+use Rattle.mw_law_runs.specs.Moves.Moves.{SetDoor, made_all}
+use Rattle.mw_law_runs.specs.Moves.StepMoves.{broken_moves, faulted, moves_called, moves_of_call, next_of, set_intent, status_moves}
+use Rattle.mw_law_runs.proofs.Moves.CallMoves.{calls_are_moves}
+use Rattle.mw_law_runs.proofs.Moves.StepsKeepMemory.{exchanges_are_typed}
 use Rattle.mw_law_runs.specs.Knowledge.Informed.{IsInformed}
 use Rattle.mw_law_runs.specs.Knowledge.NextState.{KnowsItsPoint}
 use Rattle.mw_law_runs.proofs.Knowledge.Updates.Preservation.{upd_else}

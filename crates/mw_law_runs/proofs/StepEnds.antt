@@ -23,10 +23,10 @@ use Rattle.mw_look.specs.Shapes.{shape_of}
 use Rattle.mw_world.specs.Definition.Changes.{changed, done, fetched}
 use Rattle.mw_world.specs.Definition.State.{State, WorkerState, TenantState}
 use Rattle.mw_world.specs.Definition.Turns.{turn, turned, may_make, moved, made_of}
-use Rattle.mw_law_moves.specs.Moves.{Move, made_all}
-use Rattle.mw_law_moves.specs.StepMoves.{SameMemory, moves_of_turn, moves_told}
-use Rattle.mw_law_moves.proofs.StepsKeepMemory.{exchanges_are_typed}
-use Rattle.mw_law_moves.proofs.TurnMoves.{point_turns}
+use Rattle.mw_law_runs.specs.Moves.Moves.{Move, made_all}
+use Rattle.mw_law_runs.specs.Moves.StepMoves.{SameMemory, moves_of_turn, moves_told}
+use Rattle.mw_law_runs.proofs.Moves.StepsKeepMemory.{exchanges_are_typed}
+use Rattle.mw_law_runs.proofs.Moves.TurnMoves.{point_turns}
 use Rattle.mw_law_runs.specs.Knowledge.Informed.{IsInformed, ChangesNoWord, Changes, ChangesAWord}
 use Rattle.mw_law_runs.specs.Knowledge.NextState.{told}
 use Rattle.mw_law_runs.proofs.Knowledge.Updates.Preservation.{upd_here, upd_else}

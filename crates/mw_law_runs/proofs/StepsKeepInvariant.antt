@@ -13,15 +13,15 @@ use Rattle.mw_world.specs.Definition.Counts.{frees_at}
 use Rattle.mw_world.specs.Definition.Events.{Step as StepEvent}
 use Rattle.mw_world.specs.Definition.State.{State}
 use Rattle.mw_world.specs.Definition.Turns.{turn, may_make, next_attempt}
-use Rattle.mw_law_moves.specs.Guards.{Guards}
-use Rattle.mw_law_moves.specs.Memory.{Memory}
-use Rattle.mw_law_moves.specs.Rely.{Rely}
-use Rattle.mw_law_moves.specs.StepMoves.{moves_told}
-use Rattle.mw_law_moves.proofs.MovesKeepMemory.{moves_keep}
-use Rattle.mw_law_moves.proofs.Relied.{others_rely_on_all}
-use Rattle.mw_law_moves.proofs.Shared.{memory_is_shared, reliance_is_shared}
-use Rattle.mw_law_moves.proofs.WorkerPermissions.{events_tell_points}
-use Rattle.mw_law_counts.proofs.RunsKeepCounts.{step_keeps}
+use Rattle.mw_law_runs.specs.Moves.Guards.{Guards}
+use Rattle.mw_law_runs.specs.Moves.Memory.{Memory}
+use Rattle.mw_law_runs.specs.Moves.Rely.{Rely}
+use Rattle.mw_law_runs.specs.Moves.StepMoves.{moves_told}
+use Rattle.mw_law_runs.proofs.Moves.MovesKeepMemory.{moves_keep}
+use Rattle.mw_law_runs.proofs.Moves.Relied.{others_rely_on_all}
+use Rattle.mw_law_runs.proofs.Moves.Shared.{memory_is_shared, reliance_is_shared}
+use Rattle.mw_law_runs.proofs.Moves.WorkerPermissions.{events_tell_points}
+use Rattle.mw_law_runs.proofs.Counts.RunsKeepCounts.{step_keeps}
 use Rattle.mw_law_runs.specs.Knowledge.Informed.{IsInformed}
 use Rattle.mw_law_runs.specs.Knowledge.Laws.{StaysTaken}
 use Rattle.mw_law_runs.specs.Knowledge.NextState.{KnowsItsPoint, told, world_told}

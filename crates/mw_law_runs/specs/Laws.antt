@@ -16,8 +16,8 @@ use Rattle.mw_world.specs.Definition.State.{State, IsConfig, IsStart, TenantStar
 use Rattle.mw_world.specs.Definition.Turns.{turn}
 use Rattle.mw_world.specs.Definition.World.{come, hand, step}
 use Rattle.mw_world.specs.Claim.Headline.{IsExecution}
-use Rattle.mw_law_counts.specs.Laws.{HasRoom}
-use Rattle.mw_law_counts.specs.CountInvariant.{CountsRestOn}
+use Rattle.mw_law_runs.specs.Counts.Laws.{HasRoom}
+use Rattle.mw_law_runs.specs.Counts.CountInvariant.{CountsRestOn}
 use Rattle.mw_law_runs.specs.Files.{FilesFit}
 use Rattle.mw_law_runs.specs.RunInvariant.{IsSound, IsRightButForFiles}
 

@@ -5,3 +5,6 @@ pub mod Obligations
 pub mod ObligationLaws
 pub mod Places
 pub mod RunInvariant
+pub mod Requests
+pub mod Moves
+pub mod Counts

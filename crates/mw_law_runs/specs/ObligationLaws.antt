@@ -9,11 +9,11 @@ use Rattle.mw_world.specs.declared.config.Config.{Config}
 use Rattle.mw_world.specs.Definition.Calls.{Called, called_at}
 use Rattle.mw_world.specs.Claim.Invariant.{HeldWordsHaveReleasers}
 use Rattle.mw_world.specs.Definition.State.{State}
-use Rattle.mw_law_moves.specs.Guards.{Guards}
-use Rattle.mw_law_moves.specs.Moves.{made_all}
-use Rattle.mw_law_moves.specs.StepMoves.{SameMemory, moves_of_call, moves_told, next_of}
-use Rattle.mw_law_moves.specs.Steps.{PointsAreTold}
-use Rattle.mw_law_counts.specs.CountInvariant.{CountsStand}
+use Rattle.mw_law_runs.specs.Moves.Guards.{Guards}
+use Rattle.mw_law_runs.specs.Moves.Moves.{made_all}
+use Rattle.mw_law_runs.specs.Moves.StepMoves.{SameMemory, moves_of_call, moves_told, next_of}
+use Rattle.mw_law_runs.specs.Moves.Steps.{PointsAreTold}
+use Rattle.mw_law_runs.specs.Counts.CountInvariant.{CountsStand}
 use Rattle.mw_law_runs.specs.Knowledge.Informed.{ChangesNoWord, ChangesAWord}
 use Rattle.mw_law_runs.specs.Knowledge.LastPins.{MayLeave}
 use Rattle.mw_law_runs.specs.Knowledge.NextState.{told, world_told}

@@ -1,16 +1,15 @@
 -- Defines a sound world: what holds of a world at every moment of a run, except about its files and its marks.
--- Used by: specs/Laws, mw_law_store, mw_law_calls, mw_rule, mw_table. Contracts use it through these: a change here changes
--- what they say.
+-- Used by: specs/Laws, mw_law_store, mw_rule, mw_table. Contracts use it through these: a change here changes what they say.
 use Rattle.std.specs.Prelude.{ℕ, ◌≡◌, Some}
 use Rattle.mw_actor.specs.ActorState.{ActorState}
 use Rattle.mw_actor.specs.Ranges.{IsInRange}
 use Rattle.mw_world.specs.declared.config.Config.{Config}
 use Rattle.mw_world.specs.Claim.Invariant.{RequestsAreTheirWorkers, ChangesClaimTheirSlots, SlotsTellTheirChanges, ReferencesArePinned, AttemptsAreTheirWorkers, WordsFollowTheirChanges, StaleHelpersLose, HeldWordsHaveReleasers, CountsAreRight}
 use Rattle.mw_world.specs.Definition.State.{State}
-use Rattle.mw_law_moves.specs.Memory.{Memory}
-use Rattle.mw_law_moves.specs.Steps.{PointsAreTold}
-use Rattle.mw_law_counts.specs.Exact.{IsLookInRange}
-use Rattle.mw_law_counts.specs.CountInvariant.{CountsStand}
+use Rattle.mw_law_runs.specs.Moves.Memory.{Memory}
+use Rattle.mw_law_runs.specs.Moves.Steps.{PointsAreTold}
+use Rattle.mw_law_runs.specs.Counts.Exact.{IsLookInRange}
+use Rattle.mw_law_runs.specs.Counts.CountInvariant.{CountsStand}
 use Rattle.mw_law_runs.specs.Knowledge.Informed.{IsPointFor}
 use Rattle.mw_law_runs.specs.Knowledge.NextState.{KnowsItsPoint}
 use Rattle.mw_law_runs.specs.Obligations.{WordsHaveReleasers}

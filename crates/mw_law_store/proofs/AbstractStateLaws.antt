@@ -1,7 +1,7 @@
 -- A line added at the end of a tenant's history leaves the abstract states (words and sealed changes) before it. A late mark
 -- leaves all of them.
 -- Used by: the law words_are_of_marks, HistoryMatchLaws, LastLines, ReplyPlaceLaws, Histories, PlacesAfterLine, other pages,
--- mw_law_calls, mw_rule. Its statements may change with mw_law_calls and mw_rule; its proofs may change freely.
+-- mw_rule. Its statements may change with mw_rule; its proofs may change freely.
 use Rattle.std.specs.Prelude.{ℕ, zero, suc, ◌≡◌, ◌<◌, ◌≤◌, ◌⊎◌, List, [], ◌∷◌, length, slice_get, slice_set, Option, Some, None}
 use Rattle.std.proofs.Common.{refl, sym, ap, ◌∙◌, inl, inr}
 use Rattle.std.proofs.Math.ListN.{take}
@@ -11,7 +11,7 @@ use Rattle.std.proofs.lemmas.Option.{same_Some, none-some, slice_get_within}
 use Rattle.mw_lone.specs.declared.marks.Mark.{Mark}
 use Rattle.mw_lone.specs.declared.marks.Mark.TheVariants.{Ask, Admit, Busy, Look, Miss, Seal, SealFail, FileFail, GiveUp, Retire, Reply as HandOut, Restart}
 use Rattle.mw_world_file.proofs.KeptPlaces.{get_written, get_others}
-use Rattle.mw_law_late.specs.LateMarks.{more}
+use Rattle.mw_law_store.specs.Late.LateMarks.{more}
 use Rattle.mw_law_store.specs.Laws.{LinesAreAbstractStates}
 use Rattle.mw_law_store.specs.AbstractStates.{AbstractState, after_mark, after_line, abstract_state_of, abstract_state_at}
 

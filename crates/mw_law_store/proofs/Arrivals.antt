@@ -12,8 +12,8 @@ use Rattle.mw_words.specs.declared.replies.Reply.TheVariants.{Val, Yes as SaysYe
 use Rattle.mw_words.specs.Change.{is_well_formed}
 use Rattle.mw_lone.specs.Store.{Store, RequestState, request, with_request, asked as new_request}
 use Rattle.mw_lone.proofs.SoundStores.{get-insert_same, get-insert_other}
-use Rattle.mw_law_late.specs.MarkEffects.{Asks, HandsOut}
-use Rattle.mw_law_late.specs.LateMarks.{IsNumbered}
+use Rattle.mw_law_store.specs.Late.MarkEffects.{Asks, HandsOut}
+use Rattle.mw_law_store.specs.Late.LateMarks.{IsNumbered}
 use Rattle.mw_look.specs.declared.points.Point.{Point as ReadPoint}
 use Rattle.mw_look.specs.declared.points.Point.TheVariants.{Replied as RepliedOfRead}
 use Rattle.mw_look.specs.Program.{Reading, replied as read_replied, reply_at as read_reply_at}

@@ -1,6 +1,6 @@
 -- After every run, no worker's next attempt has a number above the worn one (the last number), also when that was used up.
--- Used by: the law attempts_are_numbers, Numbers, mw_law_calls, mw_rule. Its statements may change with mw_law_calls and
--- mw_rule; its proofs may change freely.
+-- Used by: the law attempts_are_numbers, Numbers, mw_rule. Its statements may change with mw_rule; its proofs may change
+-- freely.
 use Rattle.std.specs.Prelude.{ℕ, ◌≡◌, ◌≢◌, ◌≤◌, ◌⊎◌, ◌==◌, ◌&&◌, Bool, true, false, not, cond, is_some, List, Option, Some, None}
 use Rattle.std.proofs.Common.{refl, sym, ap, subst, ◌∙◌, inl, inr, arith}
 use Rattle.mw_words.specs.declared.jobs.Entry.{Entry}
@@ -29,8 +29,8 @@ use Rattle.mw_world.specs.Definition.Restarts.{restarted}
 use Rattle.mw_world.specs.Definition.State.{State, WorkerState}
 use Rattle.mw_world.specs.Definition.Turns.{Made, turn, turned, may_make, moved, made_of, next_attempt}
 use Rattle.mw_world.specs.Definition.World.{step}
-use Rattle.mw_law_counts.proofs.Startable.{may_start}
-use Rattle.mw_law_moves.proofs.StepsKeepMemory.{comes_leave, hands_leave}
+use Rattle.mw_law_runs.proofs.Counts.Startable.{may_start}
+use Rattle.mw_law_runs.proofs.Moves.StepsKeepMemory.{comes_leave, hands_leave}
 use Rattle.mw_law_runs.proofs.Knowledge.Updates.Preservation.{upd_here, upd_else}
 use Rattle.mw_law_runs.specs.RunInvariant.{IsSound}
 use Rattle.mw_law_runs.proofs.Numbers.{same_or_other}

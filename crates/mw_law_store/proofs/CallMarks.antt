@@ -10,7 +10,7 @@ use Rattle.mw_words.specs.declared.statuses.Status.{Status}
 use Rattle.mw_words.specs.declared.statuses.Status.TheVariants.{YesDirty, Yes}
 use Rattle.mw_words.specs.Change.{fits, put}
 use Rattle.mw_lone.specs.Store.{Store, request, with_reply, entries_of}
-use Rattle.mw_law_late.specs.MarkEffects.{Fits, Writes, FailsToWrite, Fails}
+use Rattle.mw_law_store.specs.Late.MarkEffects.{Fits, Writes, FailsToWrite, Fails}
 use Rattle.mw_look.specs.declared.observations.Observation.{Observation}
 use Rattle.mw_look.specs.declared.steps.Call.{Call}
 use Rattle.mw_actor.specs.declared.points.Slot.{Slot}

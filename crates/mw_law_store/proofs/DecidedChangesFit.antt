@@ -20,8 +20,8 @@ use Rattle.mw_world.specs.Claim.Invariant.{MayBe}
 use Rattle.mw_world.specs.Definition.History.{expected, has, new}
 use Rattle.mw_world.specs.Definition.Logical.{held_value}
 use Rattle.mw_world.specs.Definition.State.{State, tenant_at, tenants_of}
-use Rattle.mw_law_moves.specs.Values.{told_at, value_told}
-use Rattle.mw_law_moves.proofs.ValuesFromHistory.{words_tell}
+use Rattle.mw_law_runs.specs.Moves.Values.{told_at, value_told}
+use Rattle.mw_law_runs.proofs.Moves.ValuesFromHistory.{words_tell}
 use Rattle.mw_law_runs.specs.Knowledge.Facts.{IsKnown}
 use Rattle.mw_law_runs.proofs.Knowledge.Reads.Memory.{has_word_at}
 use Rattle.mw_law_runs.specs.RunInvariant.{IsSound}

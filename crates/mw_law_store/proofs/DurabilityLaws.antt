@@ -16,9 +16,9 @@ use Rattle.mw_lone.specs.declared.marks.Mark.{Mark}
 use Rattle.mw_lone.specs.declared.marks.Mark.TheVariants.{Ask, Admit, Busy, Look, Miss, Seal, SealFail, FileFail, GiveUp, Retire, Reply as HandOut, Restart}
 use Rattle.mw_lone.specs.Store.{Store, RequestState, request, asked, due_reply, entries_of, step, outgoing, run as run_of_store, replies_from}
 use Rattle.mw_lone.proofs.SoundStores.{Requests}
-use Rattle.mw_law_late.specs.MarkEffects.{Does, HandsOut}
-use Rattle.mw_law_late.proofs.MarkEffectLaws.{marks-do}
-use Rattle.mw_law_late.proofs.RequestsOfMarks.{requests_of}
+use Rattle.mw_law_store.specs.Late.MarkEffects.{Does, HandsOut}
+use Rattle.mw_law_store.proofs.Late.MarkEffectLaws.{marks-do}
+use Rattle.mw_law_store.proofs.Late.RequestsOfMarks.{requests_of}
 use Rattle.mw_law_store.specs.Durability.{change_of, changes_of, put_all, is_start, no_start, IsDurableIn, begun, SealsAreDurable}
 use Rattle.mw_law_store.specs.AbstractStates.{AbstractState, first_abstract_state, doubt_at, after_mark, after_marks}
 use Rattle.mw_law_store.proofs.Replies.{replies_step}

@@ -1,7 +1,7 @@
 -- After every run, each reply has its place among its tenant's marks and sealed changes. The proof takes it from the store
 -- alone that simulates the tenant.
--- Used by: the law replies_have_places, Quotas, MarksOfEvents, ReplyPlaceLaws, mw_law_calls, mw_rule. Its statements may change
--- with mw_law_calls and mw_rule; its proofs may change freely.
+-- Used by: the law replies_have_places, Quotas, MarksOfEvents, ReplyPlaceLaws, mw_rule. Its statements may change with mw_rule;
+-- its proofs may change freely.
 use Rattle.std.specs.Prelude.{ℕ, ◌≡◌, ◌<◌, List, [], ◌∷◌, ◌++◌, Option, Some, None}
 use Rattle.std.proofs.Common.{refl, sym, ap, subst, ◌∙◌, append_assoc, append-nil, ◌⊎◌, inl, inr, arith}
 use Rattle.std.proofs.lemmas.List.{length-set}
@@ -12,7 +12,7 @@ use Rattle.mw_words.specs.declared.replies.Reply.TheVariants.{Val, Yes as SaysYe
 use Rattle.mw_lone.specs.declared.marks.Mark.{Mark}
 use Rattle.mw_lone.specs.declared.marks.Mark.TheVariants.{Ask, Admit, Busy, Look, Miss, Seal, SealFail, FileFail, GiveUp, Retire, Reply as HandOut, Restart}
 use Rattle.mw_lone.specs.Store.{Store, request}
-use Rattle.mw_law_late.specs.LateMarks.{more}
+use Rattle.mw_law_store.specs.Late.LateMarks.{more}
 use Rattle.mw_world.specs.declared.config.Config.{Config}
 use Rattle.mw_world.specs.Claim.Headline.{IsExecution}
 use Rattle.mw_world.specs.Definition.Events.{WorldEvent}

@@ -13,8 +13,8 @@ use Rattle.mw_words.specs.Change.{fits, word_at}
 use Rattle.mw_lone.specs.declared.marks.Mark.{Mark}
 use Rattle.mw_lone.specs.declared.marks.Mark.TheVariants.{Ask, Admit, Busy, Look, Miss, Seal, SealFail, FileFail, GiveUp, Retire, Reply as HandOut, Restart}
 use Rattle.mw_lone.specs.Store.{Store, RequestState, request, asked, with_reply, entries_of}
-use Rattle.mw_law_late.specs.MarkEffects.{Looks, Misses, Writes}
-use Rattle.mw_law_late.specs.LateMarks.{more, IsNumbered}
+use Rattle.mw_law_store.specs.Late.MarkEffects.{Looks, Misses, Writes}
+use Rattle.mw_law_store.specs.Late.LateMarks.{more, IsNumbered}
 use Rattle.mw_law_store.specs.RelaxedSteps.{NoLabel, Says, ReservesPlace, MarksLate, RelaxedStep, Decides}
 use Rattle.mw_law_store.specs.Laws.{LabelsKeepHistoryMatch}
 use Rattle.mw_law_store.specs.AbstractStates.{AbstractState, after_mark, abstract_state_of, IsAskedBefore, CouldCome, HasPlace}

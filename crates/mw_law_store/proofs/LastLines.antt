@@ -14,7 +14,7 @@ use Rattle.mw_lone.specs.declared.marks.Mark.{Mark}
 use Rattle.mw_lone.specs.declared.marks.Mark.TheVariants.{Seal}
 use Rattle.mw_lone.specs.Store.{Store, RequestState, request}
 use Rattle.mw_lone.proofs.SoundStores.{Requests, get-insert_same, get-insert_other}
-use Rattle.mw_law_late.specs.LateMarks.{more}
+use Rattle.mw_law_store.specs.Late.LateMarks.{more}
 use Rattle.mw_law_store.specs.AbstractStates.{AbstractState, after_mark, after_line, abstract_state_of, abstract_state_at, IsAskedBefore, HasPlace}
 use Rattle.mw_law_store.specs.HistoryMatches.{HistoryMatch, AreSinceStart, IsSealedIn}
 use Rattle.mw_law_store.proofs.AbstractStateLaws.{abstract_state_more, abstract_state_all, abstract_state_before, got_within, got_which}

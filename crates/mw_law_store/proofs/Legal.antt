@@ -16,12 +16,12 @@ use Rattle.mw_lone.specs.declared.marks.Mark.{Mark}
 use Rattle.mw_lone.specs.declared.marks.Mark.TheVariants.{Look, Miss, Restart}
 use Rattle.mw_lone.specs.Store.{Store, RequestState, request, entries_of, store_after_start, step, run as run_of_store}
 use Rattle.mw_lone.proofs.KeptRuns.{run-extend}
-use Rattle.mw_law_late.specs.MarkEffects.{Restarts}
-use Rattle.mw_law_late.specs.LateMarks.{marks_in, more, step_line, IsNumbered, IsReservedFor}
-use Rattle.mw_law_late.proofs.MarkEffectLaws.{doing-marks}
-use Rattle.mw_law_late.proofs.ReservedPlaces.{place-is-reserved, reserved-beside-line, reserved-beside-late}
-use Rattle.mw_law_late.proofs.Lines.{lines-extend, empty-place, run-append}
-use Rattle.mw_law_late.proofs.LateAnswers.{late-mark}
+use Rattle.mw_law_store.specs.Late.MarkEffects.{Restarts}
+use Rattle.mw_law_store.specs.Late.LateMarks.{marks_in, more, step_line, IsNumbered, IsReservedFor}
+use Rattle.mw_law_store.proofs.Late.MarkEffectLaws.{doing-marks}
+use Rattle.mw_law_store.proofs.Late.ReservedPlaces.{place-is-reserved, reserved-beside-line, reserved-beside-late}
+use Rattle.mw_law_store.proofs.Late.Lines.{lines-extend, empty-place, run-append}
+use Rattle.mw_law_store.proofs.Late.LateAnswers.{late-mark}
 use Rattle.mw_law_store.specs.RelaxedSteps.{StoreLabel, NoLabel, Says, ReservesPlace, MarksLate, LabelStep, lines_after}
 
 -- a late mark has a place that was reserved for it

@@ -52,3 +52,4 @@ pub mod ReadRetryLaws
 pub mod WordValues
 pub mod WornNumbers
 pub mod LastLines
+pub mod Late

@@ -9,7 +9,7 @@ use Rattle.mw_words.specs.declared.statuses.Status.{Status}
 use Rattle.mw_words.specs.declared.statuses.Status.TheVariants.{Open, No}
 use Rattle.mw_words.specs.Change.{word_at}
 use Rattle.mw_lone.specs.Store.{Store, RequestState, request, with_request, with_reply, is_cas}
-use Rattle.mw_law_late.specs.MarkEffects.{Admits, RefusesBusy, GivesUp, Looks, Retires}
+use Rattle.mw_law_store.specs.Late.MarkEffects.{Admits, RefusesBusy, GivesUp, Looks, Retires}
 use Rattle.mw_look.specs.declared.observations.Observation.{Observation}
 use Rattle.mw_actor.specs.declared.points.Slot.{Slot}
 use Rattle.mw_actor.specs.ActorState.{ActorState, entry_at}

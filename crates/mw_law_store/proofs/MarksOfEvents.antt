@@ -37,7 +37,7 @@ use Rattle.mw_world.specs.Definition.Restarts.{restarted}
 use Rattle.mw_world.specs.Definition.State.{State, WorkerState, TenantState, marks_in, marks_of, world_at}
 use Rattle.mw_world.specs.Definition.Turns.{Made, made_of, may_make, moved, turn, turned}
 use Rattle.mw_world.specs.Definition.World.{come, hand, handed, may_come, run, step}
-use Rattle.mw_law_counts.proofs.Startable.{may_start}
+use Rattle.mw_law_runs.proofs.Counts.Startable.{may_start}
 use Rattle.mw_law_store.proofs.Files.TurnFiles.{follows}
 use Rattle.mw_law_runs.proofs.Knowledge.Updates.Preservation.{upd_here, upd_else}
 use Rattle.mw_law_runs.proofs.GuardedEvents.{guarded, if_slot}

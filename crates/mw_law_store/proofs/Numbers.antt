@@ -29,8 +29,8 @@ use Rattle.mw_world.specs.Definition.Restarts.{restarted}
 use Rattle.mw_world.specs.Definition.State.{State, WorkerState}
 use Rattle.mw_world.specs.Definition.Turns.{turn, turned, may_make}
 use Rattle.mw_world.specs.Definition.World.{come, hand, handed, may_come, step}
-use Rattle.mw_law_counts.proofs.Startable.{may_start}
-use Rattle.mw_law_moves.proofs.StepsKeepMemory.{comes_leave, hands_leave}
+use Rattle.mw_law_runs.proofs.Counts.Startable.{may_start}
+use Rattle.mw_law_runs.proofs.Moves.StepsKeepMemory.{comes_leave, hands_leave}
 use Rattle.mw_law_runs.proofs.Knowledge.Updates.Preservation.{upd_here, upd_else}
 use Rattle.mw_law_runs.specs.Obligations.{OneStepped}
 use Rattle.mw_law_runs.specs.RunInvariant.{IsSound}

@@ -11,7 +11,7 @@ use Rattle.mw_words.specs.Change.{word_at}
 use Rattle.mw_lone.specs.declared.marks.Mark.{Mark}
 use Rattle.mw_lone.specs.declared.marks.Mark.TheVariants.{Ask, Admit, Busy, Look, Miss, Seal, SealFail, FileFail, GiveUp, Retire, Reply as HandOut, Restart}
 use Rattle.mw_lone.specs.Store.{entries_of}
-use Rattle.mw_law_late.specs.LateMarks.{more}
+use Rattle.mw_law_store.specs.Late.LateMarks.{more}
 use Rattle.mw_law_store.specs.AbstractStates.{AbstractState, IsAskedBefore, CouldLook, CouldMiss, SealsAt, HasPlace, CouldCome}
 use Rattle.mw_law_store.proofs.AbstractStateLaws.{abstract_state_before, abstract_state_late, IsMild, got_before, got_within, got_which, got_late, got_late_which}
 

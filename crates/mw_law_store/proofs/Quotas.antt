@@ -1,5 +1,5 @@
 -- Only a start changes a tenant's quota, and no event changes how many record places its file has.
--- Used by: the law quotas_are_told, mw_law_calls. Its statements may change with mw_law_calls; its proofs may change freely.
+-- Used by: the law quotas_are_told, mw_rule. Its statements may change with mw_rule; its proofs may change freely.
 use Rattle.std.specs.Prelude.{ℕ, zero, suc, ◌≡◌, ◌≢◌, ◌⊎◌, ◌++◌, List, [], ◌∷◌, Option, Some, None}
 use Rattle.std.specs.Option.{unwrap_or}
 use Rattle.std.proofs.Common.{refl, sym, ap, subst, ◌∙◌, inl, inr, arith}
@@ -18,7 +18,7 @@ use Rattle.mw_world.specs.Definition.Restarts.{quotas_then, restarted}
 use Rattle.mw_world.specs.Definition.State.{State, TenantState, TenantStart, QuotasFit, marks_in, marks_of, places_of, quotas_of, quotas_together, tenants_of}
 use Rattle.mw_world.specs.Definition.Turns.{turn}
 use Rattle.mw_world.specs.Definition.World.{hand, step}
-use Rattle.mw_law_counts.proofs.Startable.{may_start}
+use Rattle.mw_law_runs.proofs.Counts.Startable.{may_start}
 use Rattle.mw_law_runs.proofs.Knowledge.Updates.Preservation.{upd_here, upd_else}
 use Rattle.mw_law_runs.proofs.Numbers.{same_or_other}
 use Rattle.mw_law_runs.proofs.RunsAreSound.{runs_are_sound}

@@ -22,7 +22,7 @@ use Rattle.mw_world.specs.Definition.Restarts.{restarted}
 use Rattle.mw_world.specs.Definition.State.{State, WorkerState, TenantStart, IsConfig, world_at}
 use Rattle.mw_world.specs.Definition.Turns.{Made, moved, next_attempt, turn}
 use Rattle.mw_world.specs.Definition.World.{come, hand, handed, may_come, run, step}
-use Rattle.mw_law_counts.proofs.Startable.{may_start}
+use Rattle.mw_law_runs.proofs.Counts.Startable.{may_start}
 use Rattle.mw_law_runs.proofs.Knowledge.Updates.Preservation.{upd_else, upd_here}
 use Rattle.mw_law_runs.specs.Files.{FilesFit}
 use Rattle.mw_law_runs.specs.RunInvariant.{IsSound}

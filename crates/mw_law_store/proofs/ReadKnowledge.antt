@@ -31,10 +31,10 @@ use Rattle.mw_world.specs.declared.config.Config.{Config}
 use Rattle.mw_world.specs.Claim.Obligations.{IsEntryAt, IsFrom}
 use Rattle.mw_world.specs.Definition.History.{History, entry_for, expected, new}
 use Rattle.mw_world.specs.Definition.State.{State, tenant_at}
-use Rattle.mw_law_moves.specs.Guards.{IsLive}
-use Rattle.mw_law_moves.specs.Memory.{Memory}
-use Rattle.mw_law_moves.specs.Rely.{Rely}
-use Rattle.mw_law_moves.proofs.EntryValues.{entry_found}
+use Rattle.mw_law_runs.specs.Moves.Guards.{IsLive}
+use Rattle.mw_law_runs.specs.Moves.Memory.{Memory}
+use Rattle.mw_law_runs.specs.Moves.Rely.{Rely}
+use Rattle.mw_law_runs.proofs.Moves.EntryValues.{entry_found}
 use Rattle.mw_law_runs.specs.Knowledge.Facts.{CameBy, IsKnown}
 use Rattle.mw_law_runs.specs.Knowledge.Informed.{ChangesAWord, ChangesNoWord}
 use Rattle.mw_law_runs.specs.Knowledge.Live.{AreLiveInRead}

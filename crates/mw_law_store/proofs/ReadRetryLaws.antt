@@ -1,6 +1,6 @@
 -- In every run, a read begins again only for one of the three reasons in `specs/ReadRetries`.
--- Used by: the law reads_turn_back_for_three_reasons, mw_law_calls, mw_rule. Its statements may change with mw_law_calls and
--- mw_rule; its proofs may change freely.
+-- Used by: the law reads_turn_back_for_three_reasons, mw_rule. Its statements may change with mw_rule; its proofs may change
+-- freely.
 use Rattle.std.specs.Prelude.{ℕ, zero, suc, ◌≡◌, ◌<◌, ◌≤◌, ◌⊎◌, ◌+◌, ◌-◌, ◌*◌, ◌==◌, ◌&&◌, not, Bool, true, false, cond, nat_le, nat_lt, if◌then◌else◌, List, length, Option, Some, None}
 use Rattle.std.proofs.Common.{refl, sym, ap, subst, ◌∙◌, inl, inr, arith}
 use Rattle.std.proofs.lemmas.Bool.Decides.{nat_tests}
@@ -40,7 +40,7 @@ use Rattle.mw_world.specs.Definition.Changes.{done}
 use Rattle.mw_world.specs.Definition.Counts.{counted, over_workers, pin_of, pins_held}
 use Rattle.mw_world.specs.Definition.Events.{WorldEvent}
 use Rattle.mw_world.specs.Definition.State.{State, TenantStart, WorkerState, tenant_at}
-use Rattle.mw_law_moves.specs.Guards.{IsLive}
+use Rattle.mw_law_runs.specs.Moves.Guards.{IsLive}
 use Rattle.mw_law_runs.specs.Knowledge.Facts.{CameBy, IsKnown}
 use Rattle.mw_law_runs.specs.Knowledge.Live.{AreLive, AreLiveInRead}
 use Rattle.mw_law_runs.specs.Knowledge.Points.{Knows, ReadKnows}

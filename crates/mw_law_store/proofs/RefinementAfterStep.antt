@@ -7,7 +7,7 @@ use Rattle.std.proofs.lemmas.Bool.{cases_eq}
 use Rattle.std.proofs.lemmas.Bool.Decides.{nat_tests}
 use Rattle.mw_words.specs.declared.jobs.Job.{Job}
 use Rattle.mw_lone.specs.Store.{Store, RequestState, request}
-use Rattle.mw_law_late.specs.LateMarks.{IsNumbered}
+use Rattle.mw_law_store.specs.Late.LateMarks.{IsNumbered}
 use Rattle.mw_look.specs.declared.observations.Observation.{Observation}
 use Rattle.mw_actor.specs.ActorState.{ActorState}
 use Rattle.mw_world_file.specs.Files.{File}

@@ -12,10 +12,10 @@ use Rattle.mw_lone.specs.declared.marks.Mark.{Mark}
 use Rattle.mw_lone.specs.declared.marks.Mark.TheVariants.{Ask, Admit, Busy, Look, Miss, Seal, SealFail, FileFail, GiveUp, Retire, Reply as HandOut, Restart}
 use Rattle.mw_lone.specs.Store.{Store, RequestState, with_reply, due_reply, step, outgoing, run as run_of_store, replies_from}
 use Rattle.mw_lone.proofs.SoundStores.{get-insert_other}
-use Rattle.mw_law_late.specs.LateMarks.{marks_in, names, IsNumbered, WouldAnswer}
-use Rattle.mw_law_late.proofs.RequestsOfMarks.{replies-commute}
-use Rattle.mw_law_late.proofs.RequestNumbers.{number-step}
-use Rattle.mw_law_late.proofs.LateAnswers.{answers, decided, not-done, IsDone}
+use Rattle.mw_law_store.specs.Late.LateMarks.{marks_in, names, IsNumbered, WouldAnswer}
+use Rattle.mw_law_store.proofs.Late.RequestsOfMarks.{replies-commute}
+use Rattle.mw_law_store.proofs.Late.RequestNumbers.{number-step}
+use Rattle.mw_law_store.proofs.Late.LateAnswers.{answers, decided, not-done, IsDone}
 use Rattle.mw_law_store.specs.Laws.{LateMarksLeaveReplies}
 use Rattle.mw_law_store.proofs.AbstractStateLaws.{not_empty}
 

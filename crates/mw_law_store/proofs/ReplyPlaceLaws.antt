@@ -1,7 +1,7 @@
 -- In every run, each reply is right at some place among its tenant's sealed changes, and that place isn't before the request
 -- came.
--- Used by: the laws replies_are_linearized, requests_have_begun and sealed_changes_go_on, mw_law_calls, mw_rule. Its statements
--- may change with mw_law_calls and mw_rule; its proofs may change freely.
+-- Used by: the laws replies_are_linearized, requests_have_begun and sealed_changes_go_on, mw_rule. Its statements may change
+-- with mw_rule; its proofs may change freely.
 use Rattle.std.specs.Prelude.{ℕ, ◌≡◌, ◌≢◌, ◌<◌, ◌≤◌, ◌++◌, true, is_none, List, [], ◌∷◌, length, slice_get, Option, Some, None}
 use Rattle.std.proofs.Common.{refl, sym, ap, subst, ◌∙◌, inl, inr, arith}
 use Rattle.std.proofs.lemmas.Bool.{cases_eq}
@@ -25,7 +25,7 @@ use Rattle.mw_world.specs.Definition.Restarts.{restarted}
 use Rattle.mw_world.specs.Definition.State.{State, WorkerState, TenantState, TenantStart, marks_of, tenants_of, world_at}
 use Rattle.mw_world.specs.Definition.Turns.{Made, made_of, moved, turn}
 use Rattle.mw_world.specs.Definition.World.{asked, hand, may_come, run, step}
-use Rattle.mw_law_counts.proofs.Startable.{may_start}
+use Rattle.mw_law_runs.proofs.Counts.Startable.{may_start}
 use Rattle.mw_law_runs.proofs.Knowledge.Updates.Preservation.{upd_here, upd_else}
 use Rattle.mw_law_runs.proofs.RunsAreSound.{runs_are_sound}
 use Rattle.mw_law_runs.proofs.GuardedEvents.{first_holds, guarded, second_holds}

@@ -22,7 +22,7 @@ use Rattle.mw_actor.specs.ActorState.{ActorState, entry_of}
 use Rattle.mw_world.specs.Definition.History.{History, entry_for}
 use Rattle.mw_world.specs.Definition.Logical.{held_value}
 use Rattle.mw_world.specs.Definition.State.{State, WorkerState}
-use Rattle.mw_law_moves.specs.Rely.{Rely}
+use Rattle.mw_law_runs.specs.Moves.Rely.{Rely}
 use Rattle.mw_law_runs.specs.Knowledge.Facts.{CameBy}
 use Rattle.mw_law_runs.specs.Knowledge.Points.{Knows, ReadKnows}
 use Rattle.mw_law_store.specs.RelaxedSteps.{StoreLabel, NoLabel, Says, ReservesPlace, MarksLate, lines_after, RelaxedLabelStep}

@@ -9,7 +9,7 @@ use Rattle.mw_words.specs.declared.jobs.Entry.{Entry}
 use Rattle.mw_words.specs.Change.{put}
 use Rattle.mw_words.specs.declared.limits.TheConstants.{MAX_QUOTA}
 use Rattle.mw_lone.specs.Store.{Store, entries_in_doubt, is_quota, store_after_start}
-use Rattle.mw_law_late.specs.MarkEffects.{IsInDoubt, Restarts}
+use Rattle.mw_law_store.specs.Late.MarkEffects.{IsInDoubt, Restarts}
 use Rattle.mw_world.specs.declared.config.Config.{Config}
 use Rattle.mw_world.specs.Definition.Events.{Found}
 use Rattle.mw_world.specs.Definition.Restarts.{takes, may_find, may_fail, may_interrupt, may_be_found, opened_file, found_of, quota_then, under_way, doubt_then, is_sealed_then, interrupted_request, reopened, restarted, restart}
@@ -17,7 +17,7 @@ use Rattle.mw_world.specs.Definition.State.{State, tenants_of}
 use Rattle.mw_law_store.specs.Files.Files.{HasFiles}
 use Rattle.mw_law_store.proofs.Files.ArrivalsAndStarts.{among_all}
 use Rattle.mw_law_runs.specs.RunInvariant.{IsSound}
-use Rattle.mw_law_counts.proofs.Startable.{may_start, start_tells}
+use Rattle.mw_law_runs.proofs.Counts.Startable.{may_start, start_tells}
 use Rattle.mw_law_runs.proofs.GuardedEvents.{first_holds, second_holds}
 use Rattle.mw_law_store.proofs.StartSimulation.{started_refines, leaves_in_doubt, could_be_cut}
 use Rattle.mw_law_store.specs.WorldFacts.{HasWorldFacts}

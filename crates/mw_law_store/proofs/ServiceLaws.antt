@@ -11,8 +11,8 @@ use Rattle.mw_words.specs.declared.replies.Reply.TheVariants.{Worn}
 use Rattle.mw_lone.specs.declared.marks.Mark.{Mark}
 use Rattle.mw_lone.specs.declared.marks.Mark.TheVariants.{Restart as IsRestart}
 use Rattle.mw_lone.specs.Store.{Store, step as step_of_store, run as run_of_store, replies_from, outgoing as outgoing_mark}
-use Rattle.mw_law_late.specs.LateMarks.{IsNumbered}
-use Rattle.mw_law_late.proofs.Lines.{empty-place, mark-more, run-append}
+use Rattle.mw_law_store.specs.Late.LateMarks.{IsNumbered}
+use Rattle.mw_law_store.proofs.Late.Lines.{empty-place, mark-more, run-append}
 use Rattle.mw_look.specs.declared.points.Point.{Point as ReadPoint}
 use Rattle.mw_look.specs.declared.points.Point.TheVariants.{Replied as RepliedOfRead}
 use Rattle.mw_look.specs.Program.{reply_at as reply_of_read}
@@ -26,7 +26,7 @@ use Rattle.mw_world.specs.Definition.Events.{Found, WorldEvent, Come, Step, File
 use Rattle.mw_world.specs.Definition.Restarts.{restart, restarted, found_of, quota_then, under_way, interrupted_request, doubt_then, takes}
 use Rattle.mw_world.specs.Definition.State.{State, IsConfig, IsStart, TenantStart, tenants_of, tenant_at, marks_in, marks_of, store_at, world_at}
 use Rattle.mw_world.specs.Definition.World.{step, run, outgoing, reply_for, replies_to}
-use Rattle.mw_law_counts.proofs.Startable.{may_start}
+use Rattle.mw_law_runs.proofs.Counts.Startable.{may_start}
 use Rattle.mw_law_store.specs.Simulation.{IsSimulatedBy, SimulatesStep, IsLegalTo}
 use Rattle.mw_law_store.specs.RelaxedSteps.{StoreLabel, NoLabel, Says, ReservesPlace, MarksLate, lines_after, RelaxedLabelStep, given_out}
 use Rattle.mw_law_runs.specs.Files.{FilesFit}

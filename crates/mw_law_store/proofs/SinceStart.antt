@@ -8,7 +8,7 @@ use Rattle.mw_words.specs.declared.jobs.Job.{Job}
 use Rattle.mw_lone.specs.declared.marks.Mark.{Mark}
 use Rattle.mw_lone.specs.declared.marks.Mark.TheVariants.{Ask, Admit, Busy, Look, Miss, Seal, SealFail, FileFail, GiveUp, Retire, Reply as HandOut, Restart}
 use Rattle.mw_lone.specs.Store.{Store}
-use Rattle.mw_law_late.specs.LateMarks.{more}
+use Rattle.mw_law_store.specs.Late.LateMarks.{more}
 use Rattle.mw_law_store.specs.RelaxedSteps.{Says, RelaxedStep}
 use Rattle.mw_law_store.specs.AbstractStates.{AbstractState}
 use Rattle.mw_law_store.specs.HistoryMatches.{AreSinceStart, MayBeLabeled}

@@ -13,7 +13,7 @@ use Rattle.mw_words.specs.declared.statuses.Status.{Status}
 use Rattle.mw_words.specs.declared.statuses.Status.TheVariants.{Draft, YesDirty}
 use Rattle.mw_words.specs.Change.{fits, word_at}
 use Rattle.mw_lone.specs.Store.{Store, RequestState, request, entries_of, entries_in_doubt}
-use Rattle.mw_law_late.specs.MarkEffects.{CouldBeInterrupted}
+use Rattle.mw_law_store.specs.Late.MarkEffects.{CouldBeInterrupted}
 use Rattle.mw_look.specs.declared.steps.Call.TheVariants.{Seal as SealCall}
 use Rattle.mw_actor.specs.declared.points.Point.{Point}
 use Rattle.mw_actor.specs.declared.points.Point.TheVariants.{Prepare, Seal, Settle, Cancel}
@@ -30,7 +30,7 @@ use Rattle.mw_world.specs.Definition.Calls.{place_for, can_be_made, starts_from,
 use Rattle.mw_world.specs.Definition.Extent.{has_slot}
 use Rattle.mw_world.specs.Definition.Restarts.{stopped_at, may_be_cut, may_interrupt, under_way, doubt_then, interrupted_request}
 use Rattle.mw_world.specs.Definition.State.{State, TenantState, TenantStart, tenant_state_at, store_at, world_at, started, tenant_at, tenants_of}
-use Rattle.mw_law_moves.specs.Guards.{IsLive}
+use Rattle.mw_law_runs.specs.Moves.Guards.{IsLive}
 use Rattle.mw_law_runs.specs.RunInvariant.{IsSound, IsSoundRequest}
 use Rattle.mw_law_runs.proofs.GuardedEvents.{first_holds, second_holds}
 use Rattle.mw_law_store.specs.Files.Files.{HasFiles}

@@ -15,8 +15,8 @@ use Rattle.mw_lone.specs.declared.marks.Mark.{Mark}
 use Rattle.mw_lone.specs.declared.marks.Mark.TheVariants.{Ask, Admit, Busy, Look, Miss, Seal, SealFail, FileFail, GiveUp, Retire, Reply as HandOut, Restart}
 use Rattle.mw_lone.specs.Store.{Store, RequestState, new_store, request, entries_of, entries_in_doubt, step, run as run_of_store}
 use Rattle.mw_lone.proofs.SoundStores.{Requests, get-insert_same, get-insert_other}
-use Rattle.mw_law_late.specs.MarkEffects.{Does, CouldBeInterrupted}
-use Rattle.mw_law_late.proofs.MarkEffectLaws.{marks-do}
+use Rattle.mw_law_store.specs.Late.MarkEffects.{Does, CouldBeInterrupted}
+use Rattle.mw_law_store.proofs.Late.MarkEffectLaws.{marks-do}
 use Rattle.mw_law_store.specs.Durability.{begun}
 use Rattle.mw_law_store.specs.RelaxedSteps.{RelaxedStep}
 use Rattle.mw_law_store.specs.Laws.{WordsAreOfMarks}

@@ -36,9 +36,9 @@ use Rattle.mw_world.specs.Definition.Restarts.{restarted}
 use Rattle.mw_world.specs.Definition.State.{State}
 use Rattle.mw_world.specs.Definition.Turns.{may_make, made_of, moved, turn, turned}
 use Rattle.mw_world.specs.Definition.World.{step}
-use Rattle.mw_law_counts.proofs.Startable.{may_start}
-use Rattle.mw_law_counts.specs.Ready.{IsReadReady}
-use Rattle.mw_law_moves.proofs.StepsKeepMemory.{comes_leave, hands_leave}
+use Rattle.mw_law_runs.proofs.Counts.Startable.{may_start}
+use Rattle.mw_law_runs.specs.Counts.Ready.{IsReadReady}
+use Rattle.mw_law_runs.proofs.Moves.StepsKeepMemory.{comes_leave, hands_leave}
 use Rattle.mw_law_runs.specs.Knowledge.Informed.{IsInformed}
 use Rattle.mw_law_runs.specs.RunInvariant.{IsSound}
 use Rattle.mw_law_runs.proofs.Obligations.Pins.{none_some}

@@ -29,7 +29,7 @@ use Rattle.mw_world.specs.declared.step_labels.StepLabel.{StepLabel}
 use Rattle.mw_world.specs.declared.step_labels.StepLabel.TheVariants.{Nothing, Admitted, Claimed, Freed, Lowered as IsLowered}
 use Rattle.mw_world.specs.Definition.Cells.{Cells, write}
 use Rattle.mw_world.specs.Definition.StepLabels.{door_label, inspect_label, resolve_label, release_label, give_up_label, read_door_label, read_word_label, read_status_label, answer_label, recheck_label, read_label, read_point, won_label, exchange_label, label_of}
-use Rattle.mw_law_counts.specs.Ready.{IsReady, IsReadReady}
+use Rattle.mw_law_runs.specs.Counts.Ready.{IsReady, IsReadReady}
 use Rattle.mw_law_runs.proofs.Knowledge.Updates.Preservation.{upd_here, upd_else}
 use Rattle.mw_law_runs.proofs.StepEnds.{Ends}
 use Rattle.mw_law_store.proofs.Stepped.{Left, same_gates, same_doors, live_same, live_set}

@@ -28,7 +28,7 @@ use Rattle.mw_world.specs.declared.step_labels.Phase.TheVariants.{Acquired}
 use Rattle.mw_world.specs.Definition.History.{expected, new}
 use Rattle.mw_world.specs.Definition.Logical.{held_value}
 use Rattle.mw_world.specs.Definition.State.{State, tenant_at}
-use Rattle.mw_law_moves.specs.Values.{value_told}
+use Rattle.mw_law_runs.specs.Moves.Values.{value_told}
 use Rattle.mw_law_runs.specs.Knowledge.Facts.{IsKnown}
 use Rattle.mw_law_runs.proofs.Knowledge.Guards.Memory.{index_of}
 use Rattle.mw_law_runs.proofs.Knowledge.Reads.Memory.{status_told}

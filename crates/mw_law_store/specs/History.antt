@@ -1,7 +1,6 @@
 -- Defines the place of each reply among its tenant's marks and sealed changes. It holds of every run, also when a number was
 -- used up. The history of the running server is built on it.
--- Used by: the laws of src/laws.rt, specs/Laws, specs/ReplyPlaces, mw_law_calls, mw_rule. A change here changes what these laws
--- say.
+-- Used by: the laws of src/laws.rt, specs/Laws, specs/ReplyPlaces, mw_rule. A change here changes what these laws say.
 use Rattle.std.specs.Prelude.{ℕ, ◌≡◌, ◌<◌, ◌≤◌, ◌⊎◌, ◌++◌, Bool, List, [], ◌∷◌, length, slice_get, Option, Some}
 use Rattle.mw_words.specs.declared.replies.Reply.{Reply}
 use Rattle.mw_words.specs.Change.{put}

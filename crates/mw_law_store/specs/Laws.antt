@@ -6,7 +6,7 @@ use Rattle.mw_words.specs.declared.replies.Reply.{Reply}
 use Rattle.mw_words.specs.declared.statuses.Status.TheVariants.{YesDirty}
 use Rattle.mw_lone.specs.declared.marks.Mark.{Mark}
 use Rattle.mw_lone.specs.Store.{Store, RequestState, run as run_of_store, replies_from}
-use Rattle.mw_law_late.specs.LateMarks.{marks_in, IsReservedFor, IsNumbered, IsOpen}
+use Rattle.mw_law_store.specs.Late.LateMarks.{marks_in, IsReservedFor, IsNumbered, IsOpen}
 use Rattle.mw_actor.specs.declared.points.Slot.{Slot}
 use Rattle.mw_world.specs.declared.config.Config.{Config}
 use Rattle.mw_world.specs.Claim.Headline.{IsExecution}
@@ -14,7 +14,7 @@ use Rattle.mw_world.specs.Definition.Events.{Found, WorldEvent}
 use Rattle.mw_world.specs.Definition.Restarts.{restart}
 use Rattle.mw_world.specs.Definition.State.{State, IsConfig, IsStart, TenantStart, tenants_of, world_at}
 use Rattle.mw_world.specs.Definition.World.{step}
-use Rattle.mw_law_moves.specs.Guards.{IsLive}
+use Rattle.mw_law_runs.specs.Moves.Guards.{IsLive}
 use Rattle.mw_law_runs.specs.Files.{FilesFit}
 use Rattle.mw_law_runs.specs.RunInvariant.{IsSound}
 use Rattle.mw_law_store.specs.Files.Files.{HasFiles}

@@ -16,3 +16,4 @@ pub mod HistoryMatches
 pub mod Refinement
 pub mod ReadRetries
 pub mod Worn
+pub mod Late

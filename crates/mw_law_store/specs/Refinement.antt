@@ -1,12 +1,12 @@
 -- Defines the refinement relation between a tenant's part of a world and its store alone (the reference model). It names no
 -- mark and no line, and it also holds when numbers are used up.
--- Used by: specs/Simulation, mw_law_calls, mw_rule. Contracts use it through these: a change here changes what they say.
+-- Used by: specs/Simulation, mw_rule. Contracts use it through these: a change here changes what they say.
 use Rattle.std.specs.Prelude.{ℕ, ◌≡◌, ◌≢◌, true, false, List, Option, Some, None}
 use Rattle.mw_words.specs.declared.jobs.Entry.{Entry}
 use Rattle.mw_words.specs.declared.jobs.Job.{Job}
 use Rattle.mw_words.specs.declared.replies.Reply.{Reply}
 use Rattle.mw_lone.specs.Store.{Store, RequestState, request, entries_of, is_cas}
-use Rattle.mw_law_late.specs.LateMarks.{IsNumbered}
+use Rattle.mw_law_store.specs.Late.LateMarks.{IsNumbered}
 use Rattle.mw_actor.specs.declared.points.Slot.{Slot}
 use Rattle.mw_actor.specs.ActorState.{ActorState}
 use Rattle.mw_world.specs.Definition.Cells.{Cells}

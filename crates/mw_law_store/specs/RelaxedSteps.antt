@@ -7,8 +7,8 @@ use Rattle.mw_words.specs.declared.replies.Reply.{Reply}
 use Rattle.mw_lone.specs.declared.marks.Mark.{Mark}
 use Rattle.mw_lone.specs.declared.marks.Mark.TheVariants.{Retire, Reply as HandOut}
 use Rattle.mw_lone.specs.Store.{Store, RequestState, request, with_request, with_reply, outgoing}
-use Rattle.mw_law_late.specs.MarkEffects.{Does}
-use Rattle.mw_law_late.specs.LateMarks.{IsOpen, more}
+use Rattle.mw_law_store.specs.Late.MarkEffects.{Does}
+use Rattle.mw_law_store.specs.Late.LateMarks.{IsOpen, more}
 
 -- A change gives its slot back, once. Unlike a legal Retire this needs no reply: a change gives back its slot without one if a
 -- number was used up and it found no slot.

@@ -1,6 +1,6 @@
 -- Defines what holds of a reserved place: an empty place in a tenant's history, which a worker fills later with a late mark
 -- (event). In every run, the tenant's words at that place allow the mark. The mark is legal there (`IsReservedFor` of
--- mw_law_late) in runs that exhaust no version counter.
+-- mw_law_store) in runs that exhaust no version counter.
 -- Used by: specs/Simulation. The laws cite it through specs/Simulation: a change here changes what they say.
 use Rattle.std.specs.Prelude.{ℕ, ◌≡◌, ◌≢◌, Bool, true, false, List, slice_get, Option, Some, None}
 use Rattle.mw_words.specs.declared.jobs.Entry.{Entry}
@@ -9,7 +9,7 @@ use Rattle.mw_words.specs.declared.statuses.Status.{Status}
 use Rattle.mw_lone.specs.declared.marks.Mark.{Mark}
 use Rattle.mw_lone.specs.declared.marks.Mark.TheVariants.{Look, Miss}
 use Rattle.mw_lone.specs.Store.{Store}
-use Rattle.mw_law_late.specs.LateMarks.{IsReservedFor}
+use Rattle.mw_law_store.specs.Late.LateMarks.{IsReservedFor}
 use Rattle.mw_look.specs.declared.points.Trail.{Trail}
 use Rattle.mw_look.specs.declared.points.Trail.TheVariants.{Held as ByHeld, Planted as ByPlanted}
 use Rattle.mw_look.specs.declared.points.Point.{Point as ReadPoint}
@@ -87,7 +87,7 @@ pub record Reserved (state : State) (tenant : ℕ) (start : AbstractState) : Typ
       → actor.tenant ≡ tenant → another.tenant ≡ tenant → keeps actor.point ≡ true → keeps another.point ≡ true → (state.worker_states worker).kept ≢ (state.worker_states other).kept
 
 -- The lines before a worker's reserved place are a legal run from this store on, and the mark would be legal there
--- (`IsReservedFor` of mw_law_late).
+-- (`IsReservedFor` of mw_law_store).
 abbrev pub LegalAt : History → Store → List (Option Mark) → WorkerState → ActorState → Point → Type 0
 LegalAt past base lines worker_state actor point =
     PlacedAt past (λ value. IsReservedFor base lines worker_state.kept (Look worker_state.request) worker_state.request (Val value))

@@ -4,7 +4,7 @@
 //! the file's call gave.
 ghost use Rattle.std.specs.Prelude.{◌≡◌};
 
-use mw_meters::Stopwatch;
+use mw_metrics::Stopwatch;
 use mw_metrics::{DeviceCall, TenantCounters};
 use std::fs::{Metadata, OpenFile};
 use std::io::{self, ErrorKind};

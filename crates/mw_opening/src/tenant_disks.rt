@@ -13,7 +13,7 @@ use crate::tracked_file::TrackedFile;
 use crate::watched_file::{LastError, LastErrors, WatchedFile};
 use mw_disk::{Disk, FileDisk};
 use mw_file::TenantFile;
-use mw_meters::Meters;
+use mw_metrics::Meters;
 use mw_metrics::TenantCounters;
 use mw_words::MAX_TENANTS;
 use std::fs::{File, OpenOptions, TryLockError};

@@ -12,7 +12,7 @@ use mw_config::Listening;
 use mw_connections::{
     ClientListener, Closer, MeteredListener, Patient, RoomWatch, TimeLimits, listen_at, port_of,
 };
-use mw_http_server::Pages;
+use mw_server_pages::Pages;
 use mw_metrics::ServerCounters;
 use mw_opening::note_cause;
 use mw_session::Service;

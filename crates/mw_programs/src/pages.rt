@@ -7,7 +7,7 @@ use crate::clients::tell_at;
 use crate::serving::ServeFault;
 use mw_config::Listening;
 use mw_connections::{BriefLimits, BriefListener, Closer, listen_briefly};
-use mw_http_server::{Pages, serve_pages};
+use mw_server_pages::{Pages, serve_pages};
 use mw_main::VERSION;
 use mw_server_pages::Version;
 use std::fs::File;

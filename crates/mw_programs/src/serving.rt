@@ -18,7 +18,7 @@ use log::{Log, warn};
 use mw_config::{ArgFault, Args, Listening, Mode, Refusal, TenantLine, read_args};
 use mw_disk::Disk;
 use mw_engine::{Engine, EngineBrand, EngineParts, NoHold, Pass};
-use mw_meters::Meters;
+use mw_metrics::Meters;
 use mw_opening::{
     Cause, FileStates, LastErrors, LockedFiles, Notes, OpenedParts, OpensDisks, ReadFault,
     TenantsFault, are_all_open, note_cause, open_parts, open_plain, read_tenants_file,

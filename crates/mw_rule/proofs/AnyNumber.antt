@@ -16,11 +16,11 @@ use Rattle.mw_world.specs.Definition.State.{State, tenants_of, world_at}
 use Rattle.mw_world.specs.Definition.Turns.{moved}
 use Rattle.mw_world.specs.Definition.World.{run, step}
 use Rattle.mw_world.proofs.RunsExtend.{run-extends}
-use Rattle.mw_law_calls.specs.FileTokens.{TellsCall, TellsFile, file_told}
-use Rattle.mw_law_calls.specs.CallStarts.{CanStart, HasWords, IsAtCall}
-use Rattle.mw_law_calls.proofs.CallEndLaws.{calls_meet_faults}
-use Rattle.mw_law_calls.proofs.CallStartLaws.{calls_can_start, calls_have_words}
-use Rattle.mw_law_calls.proofs.TokensTellCalls.{file_tokens_tell_calls}
+use Rattle.mw_rule.specs.Calls.FileTokens.{TellsCall, TellsFile, file_told}
+use Rattle.mw_rule.specs.Calls.CallStarts.{CanStart, HasWords, IsAtCall}
+use Rattle.mw_rule.proofs.Calls.CallEndLaws.{calls_meet_faults}
+use Rattle.mw_rule.proofs.Calls.CallStartLaws.{calls_can_start, calls_have_words}
+use Rattle.mw_rule.proofs.Calls.TokensTellCalls.{file_tokens_tell_calls}
 use Rattle.mw_rule.specs.declared.views.Finished.{Finished}
 use Rattle.mw_rule.specs.declared.views.HeldFile.{HeldFile}
 use Rattle.mw_rule.specs.declared.views.WorkerToken.{WorkerToken}

@@ -7,7 +7,7 @@ use Rattle.std.proofs.lemmas.Option.{none-some, same_Some}
 use Rattle.mw_words.specs.declared.replies.Reply.{Reply}
 use Rattle.mw_words.specs.declared.replies.Reply.TheVariants.{Yes as SaysYes}
 use Rattle.mw_lone.specs.Store.{entries_of}
-use Rattle.mw_law_calls.specs.FromLaws.{IsRightAt, SealedChange}
+use Rattle.mw_rule.specs.FromLaws.{IsRightAt, SealedChange}
 use Rattle.mw_rule.specs.declared.views.Finished.{Finished}
 use Rattle.mw_rule.specs.declared.views.View.{View}
 use Rattle.mw_rule.specs.Laws.{ChangesAreOwn}

@@ -12,8 +12,8 @@ use Rattle.mw_world.specs.Definition.Events.{WorldEvent, Come, Step, File as Fil
 use Rattle.mw_world.specs.Definition.Restarts.{may_all_be_found, quotas_then, restarted}
 use Rattle.mw_world.specs.Definition.State.{State, TenantStart, TenantState, may_be_quotas, places_of, tenants_of, world_at}
 use Rattle.mw_world.specs.Definition.World.{asked, run, step}
-use Rattle.mw_law_calls.proofs.EventsOfWorkers.{call_leads, come_leads, hand_leads, let_there, turn_leads}
-use Rattle.mw_law_calls.proofs.FromLaws.{same_or_other, upd_else, upd_here}
+use Rattle.mw_rule.proofs.Calls.EventsOfWorkers.{call_leads, come_leads, hand_leads, let_there, turn_leads}
+use Rattle.mw_rule.proofs.FromLaws.{same_or_other, upd_else, upd_here}
 use Rattle.mw_rule.specs.KnownRuns.{plain}
 use Rattle.mw_rule.specs.RunBehind.{arrivals, arrives}
 use Rattle.mw_rule.specs.Rule.{weight}

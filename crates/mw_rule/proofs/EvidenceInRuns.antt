@@ -20,8 +20,8 @@ use Rattle.mw_world.specs.Claim.Headline.{IsExecution}
 use Rattle.mw_world.specs.Definition.Events.{WorldEvent}
 use Rattle.mw_world.specs.Definition.State.{State, TenantStart}
 use Rattle.mw_world.specs.Definition.Turns.{next_attempt}
-use Rattle.mw_law_calls.specs.FromLaws.{IsSound}
-use Rattle.mw_law_calls.proofs.FromLaws.{runs_are_sound}
+use Rattle.mw_rule.specs.FromLaws.{IsSound}
+use Rattle.mw_rule.proofs.FromLaws.{runs_are_sound}
 use Rattle.mw_rule.specs.declared.views.WorkerToken.{WorkerToken}
 use Rattle.mw_rule.specs.Steps.{comes, stepped, actor_after}
 use Rattle.mw_rule.specs.Evidence.{HasEvidenceAt}

@@ -21,8 +21,8 @@ use Rattle.mw_world.specs.Definition.Events.{WorldEvent, File as FileEvent}
 use Rattle.mw_world.specs.Definition.State.{State, TenantStart, WorkerState}
 use Rattle.mw_world.specs.Definition.Turns.{Made, moved}
 use Rattle.mw_world.specs.Definition.World.{run}
-use Rattle.mw_law_calls.proofs.WorldAfterCalls.{requests_go_on_from_calls}
-use Rattle.mw_law_calls.proofs.FromLaws.{on_with, requests_stay_begun, upd_else, upd_here}
+use Rattle.mw_rule.proofs.Calls.WorldAfterCalls.{requests_go_on_from_calls}
+use Rattle.mw_rule.proofs.FromLaws.{on_with, requests_stay_begun, upd_else, upd_here}
 use Rattle.mw_rule.specs.declared.views.WorkerEvent.TheVariants.{Called}
 use Rattle.mw_rule.specs.declared.views.WorkerToken.{WorkerToken}
 use Rattle.mw_rule.specs.FileCalls.{went, went_as}

@@ -18,9 +18,9 @@ use Rattle.mw_world.specs.Definition.Cells.{Cells, read}
 use Rattle.mw_world.specs.Definition.Events.{WorldEvent, File as FileEvent}
 use Rattle.mw_world.specs.Definition.State.{State, TenantStart}
 use Rattle.mw_world.specs.Definition.Turns.{Made, moved}
-use Rattle.mw_law_calls.specs.OtherEvents.{AreBesideFile}
-use Rattle.mw_law_calls.specs.CallEnds.{CallEnds}
-use Rattle.mw_law_calls.proofs.FromLaws.{same_or_other}
+use Rattle.mw_rule.specs.Calls.OtherEvents.{AreBesideFile}
+use Rattle.mw_rule.specs.Calls.CallEnds.{CallEnds}
+use Rattle.mw_rule.proofs.FromLaws.{same_or_other}
 use Rattle.mw_rule.specs.declared.views.HeldFile.{HeldFile}
 use Rattle.mw_rule.specs.declared.views.WorkerToken.{WorkerToken}
 use Rattle.mw_rule.specs.declared.views.View.{View}

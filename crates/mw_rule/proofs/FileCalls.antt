@@ -25,14 +25,14 @@ use Rattle.mw_world.specs.Claim.BitExactness.{IsBitExact}
 use Rattle.mw_world.specs.Definition.Calls.{Called as CallOn, breaks, can_be_made, device_calls, doubt_of, faults, goes_well, is_made, place_for, skips, starts_from}
 use Rattle.mw_world.specs.Definition.Events.{WorldEvent, File as FileEvent}
 use Rattle.mw_world.specs.Definition.State.{TenantStart}
-use Rattle.mw_law_calls.specs.CallEnds.{exchange_of, fault_of, load_of}
-use Rattle.mw_law_calls.specs.FileTokens.{TellsFile, file_told, file_token_broken, file_token_filed}
-use Rattle.mw_law_calls.specs.CallStarts.{CanStart, IsAtCall}
-use Rattle.mw_law_calls.specs.declared.file_token.FileToken.{FileToken}
-use Rattle.mw_law_calls.proofs.CallEndLaws.{calls_end_well, calls_find_faults, calls_meet_faults, calls_skip}
-use Rattle.mw_law_calls.proofs.TokensAfterCalls.{file_tokens_follow_calls, file_tokens_follow_faults}
-use Rattle.mw_law_calls.proofs.CallStartLaws.{calls_can_start}
-use Rattle.mw_law_calls.proofs.FromLaws.{runs_are_bit_exact}
+use Rattle.mw_rule.specs.Calls.CallEnds.{exchange_of, fault_of, load_of}
+use Rattle.mw_rule.specs.Calls.FileTokens.{TellsFile, file_told, file_token_broken, file_token_filed}
+use Rattle.mw_rule.specs.Calls.CallStarts.{CanStart, IsAtCall}
+use Rattle.mw_rule.specs.declared.file_token.FileToken.{FileToken}
+use Rattle.mw_rule.proofs.Calls.CallEndLaws.{calls_end_well, calls_find_faults, calls_meet_faults, calls_skip}
+use Rattle.mw_rule.proofs.Calls.TokensAfterCalls.{file_tokens_follow_calls, file_tokens_follow_faults}
+use Rattle.mw_rule.proofs.Calls.CallStartLaws.{calls_can_start}
+use Rattle.mw_rule.proofs.FromLaws.{runs_are_bit_exact}
 use Rattle.mw_rule.specs.declared.views.Finished.{Finished}
 use Rattle.mw_rule.specs.declared.views.HeldFile.{HeldFile}
 use Rattle.mw_rule.specs.declared.views.View.{View}

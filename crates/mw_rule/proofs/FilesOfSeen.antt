@@ -2,9 +2,9 @@
 -- Used by: the law knowledge_stays_right. It may change freely as long as this crate checks.
 use Rattle.std.specs.Prelude.{◌≡◌}
 use Rattle.std.proofs.Common.{sym, ◌∙◌}
-use Rattle.mw_law_calls.specs.FileTokens.{file_told}
-use Rattle.mw_law_calls.specs.FromLaws.{put_sealed}
-use Rattle.mw_law_calls.proofs.FromLaws.{sealed_are_right}
+use Rattle.mw_rule.specs.Calls.FileTokens.{file_told}
+use Rattle.mw_rule.specs.FromLaws.{put_sealed}
+use Rattle.mw_rule.proofs.FromLaws.{sealed_are_right}
 use Rattle.mw_rule.specs.Laws.{FilesAreOfSeen}
 use Rattle.mw_rule.specs.Prefixes.{seen_at}
 use Rattle.mw_rule.specs.Rule.{HoldsFile, words_given}

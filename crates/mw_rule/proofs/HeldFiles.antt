@@ -12,10 +12,10 @@ use Rattle.mw_world.specs.Definition.Events.{WorldEvent, Come, Step}
 use Rattle.mw_world.specs.Definition.State.{State, TenantStart}
 use Rattle.mw_world.specs.Definition.World.{run}
 use Rattle.mw_world_file.specs.Files.{File}
-use Rattle.mw_law_calls.specs.OtherEvents.{AreBesideFile}
-use Rattle.mw_law_calls.specs.FileTokens.{TellsFile}
-use Rattle.mw_law_calls.proofs.OtherEventLaws.{others_leave_files_long}
-use Rattle.mw_law_calls.proofs.StableStatusLaws.{statuses_wait_long}
+use Rattle.mw_rule.specs.Calls.OtherEvents.{AreBesideFile}
+use Rattle.mw_rule.specs.Calls.FileTokens.{TellsFile}
+use Rattle.mw_rule.proofs.Calls.OtherEventLaws.{others_leave_files_long}
+use Rattle.mw_rule.proofs.Calls.StableStatusLaws.{statuses_wait_long}
 use Rattle.mw_rule.specs.declared.views.FoundStatus.{FoundStatus}
 use Rattle.mw_rule.specs.declared.views.HeldFile.{HeldFile}
 use Rattle.mw_rule.specs.RunEvents.{hand_out}

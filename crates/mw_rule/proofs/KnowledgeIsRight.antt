@@ -10,8 +10,8 @@ use Rattle.mw_world.specs.declared.config.Config.{Config}
 use Rattle.mw_world.specs.Claim.Headline.{IsExecution}
 use Rattle.mw_world.specs.Definition.Events.{WorldEvent}
 use Rattle.mw_world.specs.Definition.State.{State, TenantStart, tenants_of}
-use Rattle.mw_law_calls.specs.FromLaws.{IsBeginning, IsRightAt, SealedChange, sealed_of, words_at_start}
-use Rattle.mw_law_calls.proofs.FromLaws.{places_stay_right, sealed_are_right}
+use Rattle.mw_rule.specs.FromLaws.{IsBeginning, IsRightAt, SealedChange, sealed_of, words_at_start}
+use Rattle.mw_rule.proofs.FromLaws.{places_stay_right, sealed_are_right}
 use Rattle.mw_rule.specs.declared.views.Finished.{Finished}
 use Rattle.mw_rule.specs.declared.views.View.{View}
 use Rattle.mw_rule.specs.Steps.{IsPrefix}

@@ -15,12 +15,12 @@ use Rattle.mw_world.specs.Definition.Calls.{Called as CallOn, called_at, starts_
 use Rattle.mw_world.specs.Definition.Events.{WorldEvent}
 use Rattle.mw_world.specs.Definition.State.{TenantState, TenantStart, tenants_of}
 use Rattle.mw_world.specs.Definition.Turns.{Made, tenant_state_after, moved}
-use Rattle.mw_law_calls.specs.FileTokens.{TellsCall, TellsFile, file_told}
-use Rattle.mw_law_calls.specs.CallStarts.{HasWords, IsAtCall}
-use Rattle.mw_law_calls.specs.declared.file_token.FileToken.{FileToken}
-use Rattle.mw_law_calls.proofs.CallStartLaws.{calls_have_words}
-use Rattle.mw_law_calls.proofs.TokensTellCalls.{file_tokens_tell_calls}
-use Rattle.mw_law_calls.proofs.FromLaws.{upd_here}
+use Rattle.mw_rule.specs.Calls.FileTokens.{TellsCall, TellsFile, file_told}
+use Rattle.mw_rule.specs.Calls.CallStarts.{HasWords, IsAtCall}
+use Rattle.mw_rule.specs.declared.file_token.FileToken.{FileToken}
+use Rattle.mw_rule.proofs.Calls.CallStartLaws.{calls_have_words}
+use Rattle.mw_rule.proofs.Calls.TokensTellCalls.{file_tokens_tell_calls}
+use Rattle.mw_rule.proofs.FromLaws.{upd_here}
 use Rattle.mw_rule.specs.declared.views.HeldFile.{HeldFile}
 use Rattle.mw_rule.specs.declared.views.View.{View}
 use Rattle.mw_rule.specs.FileCalls.{Calls, places_held}

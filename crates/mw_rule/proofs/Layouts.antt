@@ -8,7 +8,7 @@ use Rattle.mw_words.specs.declared.places.At.TheVariants.{Door as AtDoor, Gate a
 use Rattle.mw_words.specs.declared.limits.TheConstants.{MAX_ENTRIES, MAX_WORDS}
 use Rattle.mw_world.specs.declared.config.Tenant.{Tenant}
 use Rattle.mw_world.specs.Definition.State.{no_tenant, tenant_at, tenants_of}
-use Rattle.mw_law_calls.proofs.FromLaws.{first_holds, second_holds}
+use Rattle.mw_rule.proofs.FromLaws.{first_holds, second_holds}
 use Rattle.mw_rule.specs.Layout.{PlacesAreInTable, PlacesAreWithin, PlacesStandApart}
 
 -- a read past a list's end gives the value for that

@@ -31,3 +31,4 @@ pub mod StoreAloneLaws
 pub mod Totals
 pub mod ViewAfterStep
 pub mod Words
+pub mod Calls

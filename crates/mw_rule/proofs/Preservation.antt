@@ -16,8 +16,8 @@ use Rattle.mw_world.specs.Definition.Cells.{Cells, read}
 use Rattle.mw_world.specs.Definition.Extent.{has_place}
 use Rattle.mw_world.specs.Definition.Events.{WorldEvent}
 use Rattle.mw_world.specs.Definition.State.{State, TenantStart, IsConfig, world_at}
-use Rattle.mw_law_calls.proofs.FromLaws.{same_or_other}
-use Rattle.mw_law_calls.specs.OtherEvents.{AreBesideFile}
+use Rattle.mw_rule.proofs.FromLaws.{same_or_other}
+use Rattle.mw_rule.specs.Calls.OtherEvents.{AreBesideFile}
 use Rattle.mw_rule.specs.declared.views.View.{View}
 use Rattle.mw_rule.specs.KnownRuns.{KnownRun, ExtendsKnownRun, known_run_of}
 use Rattle.mw_rule.specs.Layout.{index_of, words_of}

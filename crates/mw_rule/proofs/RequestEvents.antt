@@ -30,8 +30,8 @@ use Rattle.mw_world.specs.Definition.LabelEffects.{more, with_labels}
 use Rattle.mw_world.specs.Definition.State.{State, TenantStart, WorkerState, tenant_at, tenants_of}
 use Rattle.mw_world.specs.Definition.Turns.{may_make, made_of, moved, next_attempt, turn, turned}
 use Rattle.mw_world.specs.Definition.World.{begun, asked, hand, handed, may_come, run, step}
-use Rattle.mw_law_calls.proofs.FromLaws.{asks_stand_once, attempts_are_numbers, on_with, replies_are_linearized, requests_begin, requests_stay_begun, runs_are_simulated, same_or_other, upd_else, upd_here}
-use Rattle.mw_law_calls.specs.FromLaws.{AreApart, IsRightAt, IsRightSince, AbstractState, sealed_of, words_at_start}
+use Rattle.mw_rule.proofs.FromLaws.{asks_stand_once, attempts_are_numbers, on_with, replies_are_linearized, requests_begin, requests_stay_begun, runs_are_simulated, same_or_other, upd_else, upd_here}
+use Rattle.mw_rule.specs.FromLaws.{AreApart, IsRightAt, IsRightSince, AbstractState, sealed_of, words_at_start}
 use Rattle.mw_rule.specs.declared.views.WorkerEvent.{WorkerEvent}
 use Rattle.mw_rule.specs.declared.views.WorkerEvent.TheVariants.{Came, Stepped, Handed}
 use Rattle.mw_rule.specs.declared.views.Finished.{Finished}

@@ -8,7 +8,7 @@ use Rattle.mw_world.specs.declared.config.Config.{Config}
 use Rattle.mw_world.specs.Claim.Headline.{IsExecution}
 use Rattle.mw_world.specs.Definition.Events.{WorldEvent}
 use Rattle.mw_world.specs.Definition.State.{State, TenantStart, tenants_of, world_at}
-use Rattle.mw_law_calls.specs.FromLaws.{AreNoStarts, sealed_of}
+use Rattle.mw_rule.specs.FromLaws.{AreNoStarts, sealed_of}
 use Rattle.mw_rule.specs.declared.views.HeldFile.{HeldFile}
 use Rattle.mw_rule.specs.declared.views.View.{View}
 use Rattle.mw_rule.specs.KnownRuns.{KnownRun, known_run_of}

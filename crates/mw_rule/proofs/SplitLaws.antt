@@ -18,8 +18,8 @@ use Rattle.mw_world.specs.Definition.Cells.{read}
 use Rattle.mw_world.specs.Definition.Extent.{has_place}
 use Rattle.mw_world.specs.Definition.Events.{WorldEvent}
 use Rattle.mw_world.specs.Definition.State.{State, TenantStart, WorkerState, tenants_of, world_at}
-use Rattle.mw_law_calls.proofs.FromLaws.{requests_have_begun, same_or_other}
-use Rattle.mw_law_calls.specs.FromLaws.{IsBeginning, SealedChange, sealed_of}
+use Rattle.mw_rule.proofs.FromLaws.{requests_have_begun, same_or_other}
+use Rattle.mw_rule.specs.FromLaws.{IsBeginning, SealedChange, sealed_of}
 use Rattle.mw_rule.specs.declared.views.PlainLoad.{PlainLoad}
 use Rattle.mw_rule.specs.declared.views.HeldFile.{HeldFile}
 use Rattle.mw_rule.specs.declared.views.View.{View}

@@ -34,8 +34,8 @@ use Rattle.mw_world.specs.Definition.Extent.{has_place}
 use Rattle.mw_world.specs.Definition.Events.{WorldEvent, Come}
 use Rattle.mw_world.specs.Definition.State.{TenantStart, State, tenant_at, tenants_of}
 use Rattle.mw_world.specs.Definition.Turns.{may_make}
-use Rattle.mw_law_calls.specs.FromLaws.{IsBeginning, SealedChange, sealed_of}
-use Rattle.mw_law_calls.proofs.FromLaws.{reads_find_their_way, runs_are_bit_exact}
+use Rattle.mw_rule.specs.FromLaws.{IsBeginning, SealedChange, sealed_of}
+use Rattle.mw_rule.proofs.FromLaws.{reads_find_their_way, runs_are_bit_exact}
 use Rattle.mw_rule.specs.declared.views.Finished.{Finished}
 use Rattle.mw_rule.specs.declared.views.WorkerToken.{WorkerToken}
 use Rattle.mw_rule.specs.declared.views.View.{View}

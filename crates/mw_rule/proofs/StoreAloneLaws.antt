@@ -8,7 +8,7 @@ use Rattle.mw_world.specs.declared.config.Config.{Config}
 use Rattle.mw_world.specs.Claim.Headline.{IsRun}
 use Rattle.mw_world.specs.Definition.Events.{WorldEvent}
 use Rattle.mw_world.specs.Definition.State.{State, TenantStart, tenants_of, world_at}
-use Rattle.mw_law_calls.proofs.FromLaws.{every_run_is_durably_linearizable, runs_hold_changes}
+use Rattle.mw_rule.proofs.FromLaws.{every_run_is_durably_linearizable, runs_hold_changes}
 use Rattle.mw_rule.specs.declared.views.Finished.{Finished}
 use Rattle.mw_rule.specs.Rule.{Each, IsFinished, IsHandedOut}
 use Rattle.mw_rule.specs.StoreAlone.{FinishedAreOfStoreAlone, IsOfStoreAlone}

@@ -17,10 +17,10 @@ use Rattle.mw_world.specs.Definition.Calls.{Called as CallOn, called_at}
 use Rattle.mw_world.specs.Definition.Cells.{Cells}
 use Rattle.mw_world.specs.Definition.Events.{WorldEvent}
 use Rattle.mw_world.specs.Definition.State.{State, TenantStart, tenants_of, world_at}
-use Rattle.mw_law_calls.specs.OtherEvents.{AreBesideFile}
-use Rattle.mw_law_calls.proofs.CallStartLaws.{calls_have_words}
-use Rattle.mw_law_calls.proofs.FromLaws.{runs_are_bit_exact}
-use Rattle.mw_law_calls.specs.FromLaws.{IsBeginning, SealedChange, sealed_of}
+use Rattle.mw_rule.specs.Calls.OtherEvents.{AreBesideFile}
+use Rattle.mw_rule.proofs.Calls.CallStartLaws.{calls_have_words}
+use Rattle.mw_rule.proofs.FromLaws.{runs_are_bit_exact}
+use Rattle.mw_rule.specs.FromLaws.{IsBeginning, SealedChange, sealed_of}
 use Rattle.mw_rule.specs.declared.views.Finished.{Finished}
 use Rattle.mw_rule.specs.declared.views.HeldFile.{HeldFile}
 use Rattle.mw_rule.specs.declared.views.WorkerToken.{WorkerToken}

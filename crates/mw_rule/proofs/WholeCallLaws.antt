@@ -11,7 +11,7 @@ use Rattle.mw_look.specs.declared.observations.Observation.TheVariants.{Filed}
 use Rattle.mw_actor.specs.Program.{replied, tells}
 use Rattle.mw_world.specs.declared.config.Config.{Config}
 use Rattle.mw_world.specs.Definition.State.{tenants_of}
-use Rattle.mw_law_calls.proofs.WorldAfterCalls.{requests_go_on_from_calls}
+use Rattle.mw_rule.proofs.Calls.WorldAfterCalls.{requests_go_on_from_calls}
 use Rattle.mw_rule.specs.declared.views.Finished.{Finished}
 use Rattle.mw_rule.specs.declared.views.WorkerEvent.TheVariants.{Came, Stepped, Called}
 use Rattle.mw_rule.specs.declared.views.HeldFile.{HeldFile}

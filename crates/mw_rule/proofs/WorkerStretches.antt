@@ -14,8 +14,8 @@ use Rattle.mw_world.specs.Claim.Headline.{IsExecution}
 use Rattle.mw_world.specs.Definition.Events.{WorldEvent}
 use Rattle.mw_world.specs.Definition.State.{State, TenantState, TenantStart, WorkerState, tenants_of, world_at}
 use Rattle.mw_world.specs.Definition.World.{step, run}
-use Rattle.mw_law_calls.proofs.FromLaws.{events_are_simulated, got_within, runs_are_simulated, runs_are_sound, same_or_other, seals_stay_long, upd_else, upd_here}
-use Rattle.mw_law_calls.specs.FromLaws.{AreNoStarts, HasBegun, IsBeginning, AbstractState, SealedChange, SealsHaveGoneOn, after_marks, first_abstract_state, abstract_state_at, abstract_state_of, sealed_of, start_of}
+use Rattle.mw_rule.proofs.FromLaws.{events_are_simulated, got_within, runs_are_simulated, runs_are_sound, same_or_other, seals_stay_long, upd_else, upd_here}
+use Rattle.mw_rule.specs.FromLaws.{AreNoStarts, HasBegun, IsBeginning, AbstractState, SealedChange, SealsHaveGoneOn, after_marks, first_abstract_state, abstract_state_at, abstract_state_of, sealed_of, start_of}
 use Rattle.mw_rule.specs.declared.views.Finished.{Finished}
 use Rattle.mw_rule.specs.declared.views.WorkerToken.{WorkerToken}
 use Rattle.mw_rule.specs.declared.views.View.{View}

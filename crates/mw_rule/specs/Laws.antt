@@ -18,9 +18,9 @@ use Rattle.mw_world.specs.Claim.Headline.{IsExecution}
 use Rattle.mw_world.specs.Definition.Calls.{Called as CallOn, device_calls, is_made}
 use Rattle.mw_world.specs.Definition.Events.{WorldEvent}
 use Rattle.mw_world.specs.Definition.State.{State, TenantStart, WorkerState, tenants_of}
-use Rattle.mw_law_calls.specs.CallEnds.{exchange_of, fault_of}
-use Rattle.mw_law_calls.specs.FileTokens.{file_told}
-use Rattle.mw_law_calls.specs.FromLaws.{put_sealed}
+use Rattle.mw_rule.specs.Calls.CallEnds.{exchange_of, fault_of}
+use Rattle.mw_rule.specs.Calls.FileTokens.{file_told}
+use Rattle.mw_rule.specs.FromLaws.{put_sealed}
 use Rattle.mw_rule.specs.declared.views.Finished.{Finished}
 use Rattle.mw_rule.specs.declared.views.HeldFile.{HeldFile}
 use Rattle.mw_rule.specs.declared.views.View.{View}

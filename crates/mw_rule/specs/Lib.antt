@@ -14,3 +14,4 @@ pub mod RunBehind
 pub mod StoreAlone
 pub mod Prefixes
 pub mod Ways
+pub mod Calls

@@ -1,10 +1,10 @@
 -- Defines what a thread has seen of the tenants' sealed changes, and what a start gave them.
--- Used by: many specs of this crate, mw_table, mw_core, mw_engine, mw_table_bench. Contracts use it through these: a change
+-- Used by: many specs of this crate, mw_table, mw_core, mw_engine, mw_table_tests. Contracts use it through these: a change
 -- here changes what they say.
 use Rattle.std.specs.Prelude.{ℕ, zero, suc, true, ◌≡◌, ◌≤◌, ◌<◌, List, [], ◌∷◌, ◌++◌, slice_index_or, Option, Some, None}
 use Rattle.mw_actor.specs.ActorState.{ActorState}
 use Rattle.mw_world.specs.Definition.State.{State, TenantStart}
-use Rattle.mw_law_calls.specs.FromLaws.{HasBegun, IsBeginning, SealedChange, words_at_start}
+use Rattle.mw_rule.specs.FromLaws.{HasBegun, IsBeginning, SealedChange, words_at_start}
 
 -- one tenant's changes, from a list with each tenant's; of a tenant past its end none
 abbrev pub seen_at : List (List SealedChange) → ℕ → List SealedChange

@@ -1,8 +1,8 @@
 -- Defines the rule (invariant) of the table, the array of atomic words that threads share. Between any two steps, some run of
 -- the world (the model of a whole server), called the table's run, leads to the words in the table. What each thread knows is
 -- true after that run.
--- Used by: the ghost types of src/rule.rt, many specs of this crate, mw_table, mw_core, mw_engine, mw_world_table,
--- mw_table_tests. A change here changes what the contracts of mw_table say.
+-- Used by: the ghost types of src/rule.rt, many specs of this crate, mw_table, mw_core, mw_engine, mw_table_tests. A change
+-- here changes what the contracts of mw_table say.
 use Rattle.std.specs.Prelude.{ℕ, ◌+◌, ◌≡◌, ◌≢◌, ◌≤◌, ◌<◌, ◌==◌, ◌&&◌, ◌⊎◌, Bool, true, false, cond, List, [], ◌∷◌, ◌++◌, length, slice_get, slice_index, Option, Some, None}
 use mathlib.Core.Option.{some}
 use lib.ListN.{get_elem?}
@@ -19,9 +19,9 @@ use Rattle.mw_world.specs.Definition.Extent.{has_place}
 use Rattle.mw_world.specs.Definition.Events.{WorldEvent, Come, Step, File, Hand, Restart}
 use Rattle.mw_world.specs.Definition.State.{State, TenantStart, tenants_of, world_at}
 use Rattle.mw_world.specs.Definition.World.{replies_to}
-use Rattle.mw_law_calls.specs.FromLaws.{AreNoStarts, IsRightAt, SealedChange, sealed_of, words_after}
-use Rattle.mw_law_calls.specs.FileTokens.{TellsFile}
-use Rattle.mw_law_calls.specs.CallStarts.{IsAtCall}
+use Rattle.mw_rule.specs.FromLaws.{AreNoStarts, IsRightAt, SealedChange, sealed_of, words_after}
+use Rattle.mw_rule.specs.Calls.FileTokens.{TellsFile}
+use Rattle.mw_rule.specs.Calls.CallStarts.{IsAtCall}
 use Rattle.mw_rule.specs.declared.views.WorkerEvent.{WorkerEvent}
 use Rattle.mw_rule.specs.declared.views.WorkerEvent.TheVariants.{Came, Stepped, Called, Handed}
 use Rattle.mw_rule.specs.declared.views.Finished.{Finished}

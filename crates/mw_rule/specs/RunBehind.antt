@@ -8,7 +8,7 @@ use Rattle.mw_words.specs.declared.replies.Reply.{Reply}
 use Rattle.mw_world.specs.Claim.Headline.{IsExecution}
 use Rattle.mw_world.specs.Definition.Events.{WorldEvent, Come, Step, File, Hand, Restart}
 use Rattle.mw_world.specs.Definition.State.{State, TenantStart, tenants_of, world_at}
-use Rattle.mw_law_calls.specs.FromLaws.{AreNoStarts, sealed_of}
+use Rattle.mw_rule.specs.FromLaws.{AreNoStarts, sealed_of}
 use Rattle.mw_rule.specs.declared.views.WorkerEvent.{WorkerEvent}
 use Rattle.mw_rule.specs.declared.views.WorkerEvent.TheVariants.{Came, Stepped, Called, Handed}
 use Rattle.mw_rule.specs.declared.views.WorkerToken.{WorkerToken}

@@ -23,8 +23,8 @@ use Rattle.mw_world.specs.declared.config.Config.{Config}
 use Rattle.mw_world.specs.Definition.Calls.{Called as CallOn, device_calls, is_made, starts_from}
 use Rattle.mw_world.specs.Definition.Events.{WorldEvent, Come, Step, File as FileEvent, Hand}
 use Rattle.mw_world.specs.Definition.State.{TenantStart, tenants_of}
-use Rattle.mw_law_calls.specs.CallEnds.{exchange_of, fault_of}
-use Rattle.mw_law_calls.specs.FileTokens.{file_told}
+use Rattle.mw_rule.specs.Calls.CallEnds.{exchange_of, fault_of}
+use Rattle.mw_rule.specs.Calls.FileTokens.{file_told}
 use Rattle.mw_rule.specs.declared.views.HeldFile.{HeldFile}
 use Rattle.mw_rule.specs.declared.views.View.{View}
 use Rattle.mw_rule.specs.Steps.{LearnsFirstStep, IsNextStep, LearnsPlainLoad, MayCome, IsPrefix, LearnsStep, actor_after}

@@ -1,6 +1,6 @@
 -- Defines what a step on a shared word requires of the thread that makes it, and what the thread learns from it.
--- Used by: many specs of this crate, mw_table, mw_core, mw_engine, mw_table_bench, mw_table_tests. A change here changes what
--- contracts there say.
+-- Used by: many specs of this crate, mw_table, mw_core, mw_engine, mw_table_tests. A change here changes what contracts there
+-- say.
 use Rattle.std.specs.Prelude.{ℕ, ◌≡◌, ◌≤◌, ◌<◌, true, List, [], ◌∷◌, ◌++◌, map, length, Option, Some, None}
 use Rattle.mw_words.specs.declared.jobs.Job.{Job}
 use Rattle.mw_words.specs.declared.places.At.{At}
@@ -25,8 +25,8 @@ use Rattle.mw_world.specs.Definition.Extent.{has_place}
 use Rattle.mw_world.specs.Definition.Events.{WorldEvent}
 use Rattle.mw_world.specs.Definition.State.{State, TenantStart, tenant_at, tenants_of}
 use Rattle.mw_world.specs.Definition.Turns.{may_make, next_attempt}
-use Rattle.mw_law_calls.specs.CallStarts.{HasWords}
-use Rattle.mw_law_calls.specs.FromLaws.{FindsItsWay, SealedChange, sealed_of}
+use Rattle.mw_rule.specs.Calls.CallStarts.{HasWords}
+use Rattle.mw_rule.specs.FromLaws.{FindsItsWay, SealedChange, sealed_of}
 use Rattle.mw_rule.specs.declared.views.WorkerEvent.TheVariants.{Came, Stepped, Handed}
 use Rattle.mw_rule.specs.declared.views.Finished.{Finished}
 use Rattle.mw_rule.specs.declared.views.WorkerToken.{WorkerToken}

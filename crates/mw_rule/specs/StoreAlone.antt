@@ -9,7 +9,7 @@ use Rattle.mw_world.specs.Claim.Headline.{HasNumbers, IsDurablyLinearizable}
 use Rattle.mw_world.specs.Definition.Events.{WorldEvent}
 use Rattle.mw_world.specs.Definition.State.{State, TenantStart, marks_of, store_at, tenants_of, world_at}
 use Rattle.mw_world.specs.Definition.World.{run}
-use Rattle.mw_law_calls.specs.FromLaws.{IsDurableIn, changes_of, first_abstract_state, put_all}
+use Rattle.mw_rule.specs.FromLaws.{IsDurableIn, changes_of, first_abstract_state, put_all}
 use Rattle.mw_rule.specs.declared.views.Finished.{Finished}
 use Rattle.mw_rule.specs.declared.views.View.{View}
 use Rattle.mw_rule.specs.Rule.{Each, IsRight}

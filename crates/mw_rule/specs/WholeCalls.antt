@@ -11,8 +11,8 @@ use Rattle.mw_actor.specs.Program.{replied, tells}
 use Rattle.mw_world.specs.declared.config.Config.{Config}
 use Rattle.mw_world.specs.Definition.Calls.{Called as CallOn, called_at}
 use Rattle.mw_world.specs.Definition.State.{TenantStart, WorkerState}
-use Rattle.mw_law_calls.specs.declared.file_token.FileToken.{FileToken}
-use Rattle.mw_law_calls.specs.FromLaws.{IsRightAt}
+use Rattle.mw_rule.specs.declared.file_token.FileToken.{FileToken}
+use Rattle.mw_rule.specs.FromLaws.{IsRightAt}
 use Rattle.mw_rule.specs.declared.views.HeldFile.{HeldFile}
 use Rattle.mw_rule.specs.declared.views.WorkerToken.{WorkerToken}
 use Rattle.mw_rule.specs.declared.views.View.{View}

@@ -23,9 +23,9 @@ use Rattle.mw_world.specs.Definition.Cells.{read}
 use Rattle.mw_world.specs.Definition.Extent.{has_place}
 use Rattle.mw_world.specs.Definition.Events.{WorldEvent, Come, File as FileEvent}
 use Rattle.mw_world.specs.Definition.State.{TenantStart, State, world_at}
-use Rattle.mw_law_calls.specs.CallEnds.{exchange_of, fault_of}
-use Rattle.mw_law_calls.specs.FileTokens.{file_told}
-use Rattle.mw_law_calls.specs.FromLaws.{AreNoStarts}
+use Rattle.mw_rule.specs.Calls.CallEnds.{exchange_of, fault_of}
+use Rattle.mw_rule.specs.Calls.FileTokens.{file_told}
+use Rattle.mw_rule.specs.FromLaws.{AreNoStarts}
 use Rattle.mw_rule.specs.declared.views.HeldFile.{HeldFile}
 use Rattle.mw_rule.specs.declared.views.View.{View}
 use Rattle.mw_rule.specs.Steps.{LearnsFirstStep, IsNextStep, LearnsPlainLoad, MayCome, LearnsStep}

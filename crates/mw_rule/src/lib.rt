@@ -9,21 +9,32 @@
 //!   replies BUSY, FAULT and WORN rest on.
 //! - `specs/Steps`: what a step requires of the thread that makes it, and what the thread learns. `specs/FileCalls`:
 //!   the same for a call on a file. `specs/WholeCalls`: the same for a whole request.
+//! - `specs/Calls`: how calls on tenants' files end on words that threads share: which step on one shared word is a call's
+//!   event, and what stays until then. Also the file token, the ghost capability to call one file, which one thread has
+//!   at a time.
 //! - `specs/Splits`: how threads split and merge what they know.
 //! - `specs/Laws`, `specs/RunEvents`, `specs/WordActions` and `specs/StoreAlone`: what is proved of all these.
 //!
 //! `mw_table` makes the steps.
 //!
-//! Used by: mw_table, mw_world_table. A change of `specs/Rule` or `specs/Steps` changes what the contracts of mw_table
+//! Used by: mw_table, mw_service, mw_law_threads, mw_table_tests. A change of `specs/Rule` or `specs/Steps` changes what the contracts of mw_table
 //! say. A new kind of step needs a case in `specs/Ways` and `way_of` (`src/ways.rt`) if it is a new fetch.
 #![tactic(auto)]
 
+mod call_laws;
+mod file_token;
 mod indexes;
 mod laws;
 mod rule;
 mod views;
 mod ways;
 
+pub use call_laws::{
+    calls_are_made_by_file_token, calls_can_start, calls_change_no_more, calls_end,
+    calls_end_by_file_token, calls_have_words, file_tokens_follow_files, file_tokens_tell_files,
+    file_tokens_tell_tenants, others_leave_files, requests_go_on_from_calls, statuses_wait,
+};
+pub use file_token::{FileToken, PlaceKept};
 pub use indexes::{LINE, SLOT_WIDE, SLOTS_FROM, index_of};
 pub use laws::{
     calls_are_noted, file_calls_are_events, file_calls_keep_the_rule,

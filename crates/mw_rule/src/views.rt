@@ -2,8 +2,8 @@
 //!
 //! Used by: `rule`, mw_table. `specs/Rule` says when a view is true: change it with a field.
 
+use crate::file_token::FileToken;
 use mw_actor::Actor;
-use mw_law_calls::FileToken;
 use mw_look::{Got, Op};
 use mw_words::{Entry, Job, Reply, Status};
 use mw_world::Config;
@@ -81,7 +81,7 @@ pub struct Sealed {
 }
 
 impl Model for Sealed {
-    ghost use Rattle.mw_law_calls.specs.FromLaws.{SealedChange};
+    ghost use Rattle.mw_rule.specs.FromLaws.{SealedChange};
 
     ghost Value = { SealedChange };
 

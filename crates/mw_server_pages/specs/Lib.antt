@@ -1,2 +1,11 @@
 pub mod Copies
 pub mod Shown
+pub mod Escapes
+pub mod Health
+pub mod Limits
+pub mod Recents
+pub mod Spans
+pub mod StatusPage
+pub mod Calls
+pub mod Exchanges
+pub mod Clients

@@ -9,13 +9,13 @@ use Rattle.mw_http.specs.declared.heads.ContentType.TheVariants as kind
 use Rattle.mw_http.specs.declared.status.Status.{Status}
 use Rattle.mw_http.specs.declared.status.Status.TheVariants as status
 use Rattle.mw_http.specs.Targets as target
-use Rattle.mw_http_server.specs.declared.pages.Page.{Page}
-use Rattle.mw_http_server.specs.Calls.{Call, Dates, Shows}
-use Rattle.mw_meters.specs.Counted.{IsTextOf}
-use Rattle.mw_pages.specs.Health.{health, is_up}
-use Rattle.mw_pages.specs.declared.limits.NearLimit.{NearLimit}
-use Rattle.mw_pages.specs.declared.recents.Recent.{Recent}
-use Rattle.mw_pages.specs.StatusPage as status_page
+use Rattle.mw_server_pages.specs.declared.pages.Page.{Page}
+use Rattle.mw_server_pages.specs.Calls.{Call, Dates, Shows}
+use Rattle.mw_metrics.specs.Counted.{IsTextOf}
+use Rattle.mw_server_pages.specs.Health.{health, is_up}
+use Rattle.mw_server_pages.specs.declared.limits.NearLimit.{NearLimit}
+use Rattle.mw_server_pages.specs.declared.recents.Recent.{Recent}
+use Rattle.mw_server_pages.specs.StatusPage as status_page
 use Rattle.mw_server_pages.specs.declared.file_copies.NoCopy.TheVariants as no_copy
 use Rattle.mw_server_pages.specs.Copies.{Copy}
 use Rattle.mw_report.specs.declared.figures.Figures.{Figures}

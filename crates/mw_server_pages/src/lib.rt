@@ -1,16 +1,47 @@
-//! The pages of a server: its state, its figures, and whether it is well, by the service of a session and the server's meters;
-//! and copies of its tenants' files.
+//! The pages of a server: its state, its figures, and whether it is well, by the service of a session and the server's counters;
+//! copies of its tenants' files; and the service of HTTP clients that ask for them, one at a time, each with one request.
 //!
-//! mw_programs makes [`ServerPages`], and implements [`FileCopies`] for it. mw_http_server asks the pages. mw_pages and
-//! mw_meters write the texts. `specs/Shown` says what is shown at each place.
+//! [`ServerPages`] has all that is shown at each place, and a program implements [`FileCopies`] for it. `specs/Shown` says what is
+//! shown. The page is one file of HTML and SVG, without a script, and reads well in a terminal too; it and the text that says
+//! whether all tenants are up are pure functions of the figures of an administrator's report. `specs/StatusPage` and `specs/Health`
+//! define them. mw_metrics writes the text of the figures.
+//!
+//! [`exchange`] receives a request from a client's stream, asks [`Pages`] for what it asks for, and writes the answer. A
+//! head that is wrong or too long, or another method than `GET` and `HEAD`, is answered by the status that mw_http gives it,
+//! and one that comes too late by 408; the pages are asked for the date alone. If the client sends no whole head, or a read
+//! fails, nothing is written. [`serve_pages`] does this for each client that a listener gives, and closes its connection.
+//! mw_connections has the streams and the limits of time. `specs/Exchanges` says what was read, asked and written,
+//! `specs/Clients` which clients were served.
+//!
+//! Used by: mw_programs, and tests.
 #![tactic(auto)]
 
 mod date;
+mod exchanges;
 mod file_copies;
+mod health;
+mod limits;
 mod near;
+mod pages;
+mod receiving;
+mod recents;
 mod samples;
+mod server;
 mod server_pages;
+mod spans;
+mod status;
+mod tenant_rows;
+mod text;
+mod writing;
 
+pub use exchanges::{Exchanged, exchange};
 pub use file_copies::{FileCopies, NoCopy};
+pub use health::{MAX_HEALTH, are_up, health_text};
+pub use limits::{LimitKind, MAX_LIMITS, NearLimit};
 pub use near::Capacity;
+pub use pages::{Date, Page, Pages};
+pub use recents::{CURVE_HEIGHT, CURVE_WIDTH, Curve, MAX_POINTS, Point, Recent};
+pub use server::{PAUSE, serve_pages};
 pub use server_pages::{ServerPages, Version};
+pub use status::status_page;
+pub use text::{MAX_PAGE, MAX_VERSION};

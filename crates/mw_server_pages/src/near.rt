@@ -2,9 +2,9 @@
 //!
 //! `server_pages` asks for them. No contract says which are near: it is tested.
 
+use crate::limits::{LimitKind, MAX_LIMITS, NearLimit};
 use arrayvec::ArrayVec;
-use mw_meters::Meters;
-use mw_pages::{LimitKind, MAX_LIMITS, NearLimit};
+use mw_metrics::Meters;
 use mw_report::{Figures, TenantFigures};
 use mw_words::Name;
 

@@ -2,9 +2,9 @@
 //!
 //! `server_pages` takes a sample when it is asked for figures. No contract says what the curves show: it is tested.
 
+use crate::recents::{CURVE_HEIGHT, CURVE_WIDTH, Curve, MAX_POINTS, Point, Recent};
 use arrayvec::ArrayVec;
-use mw_meters::Meters;
-use mw_pages::{CURVE_HEIGHT, CURVE_WIDTH, Curve, MAX_POINTS, Point, Recent};
+use mw_metrics::Meters;
 use mw_report::{Figures, TenantFigures};
 use mw_words::{MAX_TENANTS, Name};
 use std::alloc::{AllocError, Global};

@@ -2,22 +2,26 @@
 //!
 //! mw_programs makes them. `specs/Shown` says what is shown: change both together, and docs/HTTP.
 ghost use Rattle.std.specs.Prelude.{◌≡◌, ◌≤◌, [], length, IfOk};
-ghost use Rattle.mw_pages.specs.declared.limits.TheConstants.{MAX_LIMITS};
+ghost use Rattle.mw_server_pages.specs.declared.limits.TheConstants.{MAX_LIMITS};
 ghost use Rattle.mw_words.specs.declared.limits.TheConstants.{MAX_TENANTS};
 ghost use Rattle.mw_http.specs.Targets.{place_of};
-ghost use Rattle.mw_http_server.specs.Calls.{Call};
+ghost use Rattle.mw_server_pages.specs.Calls.{Call};
 ghost use Rattle.mw_report.specs.Table.{AreWithinLimits};
 ghost use Rattle.mw_server_pages.specs.Shown.{Gives, IsBare, IsFile, IsHealth, IsMetrics, IsPageOf, IsStatus};
 
 use crate::date::date_now;
 use crate::file_copies::{FileCopies, NoCopy};
+use crate::health::{are_up, health_text};
+use crate::limits::{MAX_LIMITS, NearLimit};
 use crate::near::{Capacity, near_limits};
+use crate::pages::{Date, Page, Pages};
+use crate::recents::Recent;
 use crate::samples::Samples;
+use crate::status::status_page;
+use crate::text::MAX_VERSION;
 use arrayvec::ArrayVec;
 use mw_http::{ContentType, Route, Status};
-use mw_http_server::{Date, Page, Pages};
-use mw_meters::{Meters, Stopwatch};
-use mw_pages::{MAX_LIMITS, MAX_VERSION, NearLimit, Recent, are_up, health_text, status_page};
+use mw_metrics::{Meters, Stopwatch};
 use mw_report::Figures;
 use mw_session::Service;
 use std::alloc::{AllocError, Global};

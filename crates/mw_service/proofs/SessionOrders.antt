@@ -1,5 +1,5 @@
 -- The replies of a session that borrows its passes are right in one history, in order.
--- Used by: the law of src/laws.rt, mw_law_sessions. Its statements may change with mw_law_sessions; its proofs may change freely.
+-- Used by: the law of src/laws.rt, mw_law_threads. Its statements may change with mw_law_threads; its proofs may change freely.
 use Rattle.std.specs.Prelude.{ℕ, ◌≡◌, ◌≤◌, ◌<◌, ◌⊎◌, List, [], ◌∷◌, ◌++◌, length, slice_get, slice_index_or, Option, Some, None}
 use Rattle.std.proofs.Common.{refl, sym, ap, subst, ◌∙◌, inl, inr, arith, length-append}
 use Rattle.std.proofs.lemmas.Option.{none-some, slice_get_cases}
@@ -8,8 +8,8 @@ use Rattle.mw_words.specs.declared.replies.Reply.{Reply}
 use Rattle.mw_words.specs.declared.replies.Reply.TheVariants.{Yes as SaysYes}
 use Rattle.mw_session.specs.Talk.{Call, Finds, Asks, Counts}
 use Rattle.mw_session.specs.Transitions.{GoesThrough}
-use Rattle.mw_law_calls.specs.FromLaws.{IsRightAt, SealedChange}
-use Rattle.mw_law_calls.proofs.FromLaws.{places_stay_right}
+use Rattle.mw_rule.specs.FromLaws.{IsRightAt, SealedChange}
+use Rattle.mw_rule.proofs.FromLaws.{places_stay_right}
 use Rattle.mw_world.specs.declared.config.Config.{Config}
 use Rattle.mw_world.specs.Definition.State.{TenantStart, tenants_of}
 use Rattle.mw_rule.specs.Prefixes.{opening_at, seen_at}

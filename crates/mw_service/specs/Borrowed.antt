@@ -1,7 +1,7 @@
 -- Defines what is answered to a session that borrows a pass (a handle to the engine) for each request, by its notes: what it
 -- had seen before, and what it has seen then.
--- Used by: the contracts of src/idle_pass.rt, src/locked_passes.rt, src/pass_pool.rt, src/read_pool.rt and src/borrower.rt, the laws of
--- mw_law_sessions. A change here changes what a client is promised that shares the workers with others.
+-- Used by: the contracts of src/idle_pass.rt, src/locked_passes.rt, src/pass_pool.rt, src/read_pool.rt and src/borrower.rt, the
+-- laws of mw_law_threads. A change here changes what a client is promised that shares the workers with others.
 use Rattle.std.specs.Prelude.{◌≡◌, ℕ, true, length, map, Option, Some, None, MatchOption}
 use Rattle.mw_words.specs.declared.jobs.Job.{Job}
 use Rattle.mw_words.specs.declared.replies.Reply.{Reply}

@@ -5,7 +5,7 @@ use Rattle.mw_words.specs.declared.jobs.Job.{Job}
 use Rattle.mw_words.specs.declared.replies.Reply.{Reply}
 use Rattle.mw_words.specs.declared.replies.Reply.TheVariants.{Yes as SaysYes}
 use Rattle.mw_session.specs.Talk.{Call, Finds, Asks, Counts}
-use Rattle.mw_law_calls.specs.FromLaws.{IsRightAt, SealedChange}
+use Rattle.mw_rule.specs.FromLaws.{IsRightAt, SealedChange}
 use Rattle.mw_rule.specs.Prefixes.{opening_at, seen_at}
 use Rattle.mw_rule.specs.Steps.{IsPrefix}
 use Rattle.mw_world.specs.Definition.State.{tenants_of}

@@ -13,7 +13,7 @@
 //! `specs/Served` says what a worker answers, `specs/Borrowed` what a borrower answers, and `specs/SessionOrder` that its
 //! replies come in order.
 //!
-//! Used by: mw_programs; mw_law_sessions has laws about it. `must-fail` edits some bodies.
+//! Used by: mw_programs; mw_law_threads has laws about it. `must-fail` edits some bodies.
 #![tactic(auto)]
 
 mod borrower;

@@ -4,7 +4,7 @@
 //! the trait. It counts the requests that reach the tenants' stores; a line that a session refuses is no such request.
 ghost use Rattle.std.specs.Prelude.{◌≡◌};
 
-use mw_meters::{Meters, Stopwatch};
+use mw_metrics::{Meters, Stopwatch};
 use mw_report::Figures;
 use mw_session::Service;
 use mw_words::{Job, Name, Reply};

@@ -12,7 +12,7 @@
 //! `Bits`, `BitsMatch`, `BitPlaces`, `StepsInBits` and `Openings` the shared words in bits, `Claims`, `Lines`
 //! and `Workers` what is kept beside them, `TenantBooks` the tenants' files.
 //!
-//! Used by: mw_world_trials, mw_world_table, mw_player, mw_table_tests.
+//! Used by: mw_world_trials, mw_table_tests, mw_player.
 #![tactic(auto)]
 
 mod faults;

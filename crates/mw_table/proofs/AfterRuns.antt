@@ -15,7 +15,8 @@ use Rattle.mw_world.specs.Definition.Calls.{Called, called_at}
 use Rattle.mw_world.specs.Definition.Events.{WorldEvent}
 use Rattle.mw_world.specs.Definition.State.{IsConfig, TenantStart, WorkerState, first_openings, new_world, tenants_of}
 use Rattle.mw_world.proofs.FirstInvariant.{new_worlds_start}
-use Rattle.mw_rule.proofs.FromLaws.{calls_have_words, runs_are_bit_exact}
+use Rattle.mw_rule.proofs.Calls.CallStartLaws.{calls_have_words}
+use Rattle.mw_rule.proofs.FromLaws.{runs_are_bit_exact}
 use Rattle.mw_rule.specs.FromLaws.{after_marks, first_abstract_state}
 use Rattle.mw_rule.specs.Steps.{IsReadyAt, IsReadyFor}
 use Rattle.mw_rule.specs.Splits.{maker}

@@ -1,5 +1,5 @@
 -- A struct whose fields only contracts read has no bytes and owns nothing, so it can be made anywhere.
--- Used by: the proof of RunBefore::none, mw_world_table. Its statements may change with mw_world_table; its proofs may change
+-- Used by: the proof of RunBefore::none, mw_table_tests. Its statements may change with mw_table_tests; its proofs may change
 -- freely.
 use Rattle.std.proofs.Common.{List, [], ◌∷◌, refl}
 use seplogic.Ra.Ura.{Ura}

@@ -7,7 +7,7 @@ use Rattle.atomic_table.specs.Table.{Me}
 use Rattle.mw_actor.specs.ActorState.{ActorState}
 use Rattle.mw_world.specs.declared.config.Config.{Config}
 use Rattle.mw_world.specs.Definition.State.{TenantStart, tenants_of, world_at}
-use Rattle.mw_rule.proofs.FromLaws.{starts_have_file_tokens}
+use Rattle.mw_rule.proofs.Calls.TokenLaws.{starts_have_file_tokens}
 use Rattle.mw_rule.specs.declared.views.View.{View}
 use Rattle.mw_rule.specs.Splits.{without_file, with_file_given, knows}
 use Rattle.mw_rule.specs.Rule.{Each, HoldsFile, IsLive, times_held, weight}

@@ -18,7 +18,8 @@ use Rattle.mw_world.specs.Definition.Calls.{Called, called_at, starts_from, stat
 use Rattle.mw_world.specs.Definition.Extent.{has_place}
 use Rattle.mw_world.specs.Definition.Events.{WorldEvent, File as FileEvent}
 use Rattle.mw_world.specs.Definition.State.{TenantStart}
-use Rattle.mw_rule.specs.FromLaws.{FileToken, kind_of}
+use Rattle.mw_rule.specs.Calls.CallEnds.{kind_of}
+use Rattle.mw_rule.specs.declared.file_token.FileToken.{FileToken}
 use Rattle.mw_rule.specs.declared.views.HeldFile.{HeldFile}
 use Rattle.mw_rule.specs.declared.views.WorkerToken.{WorkerToken}
 use Rattle.mw_rule.specs.declared.views.View.{View}

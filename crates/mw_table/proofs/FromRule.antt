@@ -4,7 +4,10 @@ pub use Rattle.mw_rule.proofs.WholeCallLaws.{calls_begin, calls_take_files, call
 pub use Rattle.mw_rule.proofs.KnownRunLaws.{on_again}
 pub use Rattle.mw_rule.proofs.RunsBehind.{behind_files}
 pub use Rattle.mw_rule.proofs.StoreAloneLaws.{finished_are_of_store_alone}
-pub use Rattle.mw_rule.proofs.FromLaws.{opened_told, requests_go_on_from_calls, file_tokens_follow_calls, runs_are_sound}
+pub use Rattle.mw_rule.proofs.Calls.TokensAfterCalls.{file_tokens_follow_calls}
+pub use Rattle.mw_rule.proofs.Calls.TokensTellCalls.{opened_told}
+pub use Rattle.mw_rule.proofs.Calls.WorldAfterCalls.{requests_go_on_from_calls}
+pub use Rattle.mw_rule.proofs.FromLaws.{runs_are_sound}
 pub use Rattle.mw_rule.proofs.WorkerStretches.{begins_on}
 pub use Rattle.mw_rule.proofs.WordActionLaws.{told_on}
 pub use Rattle.mw_rule.proofs.KnowledgeIsRight.{without_file_right}

@@ -1,5 +1,5 @@
 -- The bits at an index of the table are those of the shared word that belongs at that index.
--- Used by: the proofs of bits_at and words_at_start, mw_world_table. Its statements may change with mw_world_table; its proofs
+-- Used by: the proofs of bits_at and words_at_start, mw_table_tests. Its statements may change with mw_table_tests; its proofs
 -- may change freely.
 use Rattle.std.proofs.Common.{ℕ, ◌≡◌, ◌<◌, true, false, List, slice_index, ap, sym, ◌∙◌, refl}
 use Rattle.mw_words.specs.declared.places.At.{At}

@@ -12,8 +12,9 @@ use Rattle.mw_actor.specs.ActorState.{ActorState, own_entries}
 use Rattle.mw_actor.specs.Asks.{asks}
 use Rattle.mw_actor.specs.Program.{tells}
 use Rattle.mw_world.specs.Definition.Calls.{Called, called_at}
-use Rattle.mw_rule.specs.FromLaws.{FileToken, file_token_filed}
-use Rattle.mw_rule.proofs.FromLaws.{requests_go_on_from_calls}
+use Rattle.mw_rule.specs.Calls.FileTokens.{file_token_filed}
+use Rattle.mw_rule.specs.declared.file_token.FileToken.{FileToken}
+use Rattle.mw_rule.proofs.Calls.WorldAfterCalls.{requests_go_on_from_calls}
 use Rattle.mw_rule.specs.declared.views.WorkerEvent.TheVariants.{Called as WorkerEventCalled}
 use Rattle.mw_rule.specs.declared.views.HeldFile.{HeldFile}
 use Rattle.mw_rule.specs.declared.views.WorkerToken.{WorkerToken}

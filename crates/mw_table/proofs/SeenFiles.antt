@@ -6,7 +6,8 @@ use Rattle.mw_world.specs.declared.config.Config.{Config}
 use Rattle.mw_world.specs.Definition.State.{TenantStart, tenants_of}
 use Rattle.mw_rule.specs.declared.views.HeldFile.{HeldFile}
 use Rattle.mw_rule.specs.declared.views.View.{View}
-use Rattle.mw_rule.specs.FromLaws.{TellsFile, file_told, put_sealed}
+use Rattle.mw_rule.specs.Calls.FileTokens.{TellsFile, file_told}
+use Rattle.mw_rule.specs.FromLaws.{put_sealed}
 use Rattle.mw_rule.specs.Prefixes.{seen_at}
 use Rattle.mw_rule.specs.Rule.{Each, HoldsFile, words_given}
 use Rattle.mw_rule.specs.Splits.{takes_files, without_file}

@@ -14,7 +14,9 @@ use Rattle.mw_world.specs.Definition.Calls.{Called, device_calls, is_made}
 use Rattle.mw_world.specs.Definition.Events.{WorldEvent, File as FileEvent}
 use Rattle.mw_world.specs.Definition.State.{State, TenantStart, tenants_of}
 use Rattle.mw_rule.specs.KnownRuns.{KnownRun, ExtendsKnownRun, known_run_of}
-use Rattle.mw_rule.specs.FromLaws.{FileToken, file_told, HasWords, TellsFile}
+use Rattle.mw_rule.specs.Calls.CallStarts.{HasWords}
+use Rattle.mw_rule.specs.Calls.FileTokens.{file_told, TellsFile}
+use Rattle.mw_rule.specs.declared.file_token.FileToken.{FileToken}
 use Rattle.mw_rule.specs.Prefixes.{Gave, opening_at}
 use Rattle.mw_rule.specs.declared.views.HeldFile.{HeldFile}
 use Rattle.mw_rule.specs.declared.views.View.{View}

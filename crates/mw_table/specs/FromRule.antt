@@ -8,7 +8,10 @@ pub use Rattle.mw_rule.specs.StoreAlone.{HadNumbers, IsOfStoreAlone}
 pub use Rattle.mw_rule.specs.KnownRuns.{KnownRun, ExtendsKnownRun, known_run_of}
 pub use Rattle.mw_rule.specs.Splits.{note, without_file, takes_files, with_file_given, first_held, other_held, token_of}
 pub use Rattle.mw_rule.specs.FileCalls.{Calls, LeavesRest, Loaded, LoadedAs, Starts, LearnsFileCall, after_call, broken_so, fails, filed_so, place_held, places_held, went}
-pub use Rattle.mw_rule.specs.FromLaws.{End, FileToken, FindsFault, FindsItsWay, GoesWell, MayEnd, MeetsFault, Skips, TellsFile, file_told, put_sealed, is_as_named, file_token_broken, file_token_by, file_token_filed, file_token_opened, went_well}
+pub use Rattle.mw_rule.specs.Calls.CallsByToken.{End, FindsFault, GoesWell, MayEnd, MeetsFault, Skips, file_token_by, went_well}
+pub use Rattle.mw_rule.specs.Calls.FileTokens.{TellsFile, file_told, file_token_broken, file_token_filed, file_token_opened}
+pub use Rattle.mw_rule.specs.FromLaws.{FindsItsWay, put_sealed, is_as_named}
+pub use Rattle.mw_rule.specs.declared.file_token.FileToken.{FileToken}
 pub use Rattle.mw_rule.specs.Layout.{index_of}
 pub use Rattle.mw_rule.specs.WordActions.{AddsFirstStepEvents, AddsNoEvent, AddsStepEvent, WentOn}
 pub use Rattle.mw_rule.specs.Rule.{Each, IsFinished, IsRight, words_given}

@@ -2,7 +2,7 @@
 -- Used by: the contracts of src/file_calls.rt and src/file_pass.rt, specs/FileCalls, mw_core, mw_engine. A change here changes
 -- what these contracts say.
 use Rattle.std.specs.Prelude.{ℕ, ◌≡◌, Bool, false, List, [], ◌∷◌, map, is_none, None}
-use Rattle.mw_rule.specs.FromLaws.{FileToken}
+use Rattle.mw_rule.specs.declared.file_token.FileToken.{FileToken}
 use Rattle.mw_rule.specs.declared.views.HeldFile.{HeldFile}
 use Rattle.mw_rule.specs.declared.views.View.{View}
 

@@ -4,7 +4,8 @@ use Rattle.std.specs.Prelude.{ℕ, ◌≡◌, ◌<◌, List}
 use Rattle.mw_world.specs.Claim.Headline.{IsExecution}
 use Rattle.mw_world.specs.Definition.Events.{WorldEvent}
 use Rattle.mw_world.specs.Definition.State.{State, TenantStart, tenants_of}
-use Rattle.mw_rule.specs.FromLaws.{TellsFile, put_sealed, sealed_of}
+use Rattle.mw_rule.specs.Calls.FileTokens.{TellsFile}
+use Rattle.mw_rule.specs.FromLaws.{put_sealed, sealed_of}
 use Rattle.mw_rule.specs.KnownRuns.{ExtendsKnownRun}
 use Rattle.mw_rule.specs.Prefixes.{Gave, opening_at, seen_at}
 use Rattle.mw_rule.specs.Rule.{IsRight, words_given}

@@ -10,7 +10,7 @@ use Rattle.mw_world.specs.declared.config.Tenant.{Tenant}
 use Rattle.mw_world.specs.Definition.Events.{WorldEvent}
 use Rattle.mw_world.specs.Definition.State.{TenantStart, State, idle_worker_state, tenants_of, words_given, world_at}
 use Rattle.mw_rule.specs.KnownRuns.{known_run_of}
-use Rattle.mw_rule.specs.FromLaws.{file_token_opened}
+use Rattle.mw_rule.specs.Calls.FileTokens.{file_token_opened}
 use Rattle.mw_rule.specs.declared.views.HeldFile.{HeldFile}
 use Rattle.mw_rule.specs.Prefixes.{opening_at}
 use Rattle.mw_table.specs.declared.origin.FileOpening.{FileOpening}

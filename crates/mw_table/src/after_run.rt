@@ -1,7 +1,7 @@
 //! Makes a table (array of shared words) that goes on from a run of a world: `Shared::of_run`.
 //!
-//! mw_world_table makes a table by it, for tests. The server doesn't. Its contracts use `specs/NewPasses`,
-//! `specs/Origins` and `specs/Runs`: change them together.
+//! mw_table_tests makes a table by it, for tests. The server doesn't. Its contracts use `specs/NewPasses`, `specs/Origins` and
+//! `specs/Runs`: change them together.
 ghost use Rattle.std.specs.Prelude.{◌≡◌, All, IfOk, length, map};
 ghost use Rattle.mw_world.specs.Definition.State.{IsConfig, tenants_of};
 ghost use Rattle.mw_rule.specs.Layout.{words_of};

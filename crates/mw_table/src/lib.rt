@@ -25,8 +25,8 @@
 //! `specs/Runs` what a table begins with; `specs/NewFilePasses` and `specs/FileCalls` what a file pass is, and what a
 //! call on the file requires.
 //!
-//! Used by: mw_core, mw_world_table; `must-fail` edits some bodies. Bodies may change freely as long as the crate
-//! checks and these edits fail. A new kind of step comes with its case in mw_look (`specs/Steps`) and mw_rule.
+//! Used by: mw_core, mw_table_tests; `must-fail` edits some bodies. Bodies may change freely as long as the crate checks and
+//! these edits fail. A new kind of step comes with its case in mw_look (`specs/Steps`) and mw_rule.
 #![tactic(auto)]
 
 mod after_run;

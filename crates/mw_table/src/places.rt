@@ -1,7 +1,6 @@
 //! Gives the shared word at each index of the table.
 //!
-//! Used by: `at_start`, mw_world_table. It goes back from an index of mw_rule (`index_of`) to the word:
-//! change both together.
+//! Used by: `at_start`, mw_table_tests. It goes back from an index of mw_rule (`index_of`) to the word: change both together.
 ghost use Rattle.std.specs.Prelude.{◌≡◌, ◌<◌, ◌≤◌, ◌+◌, ◌*◌, nat_lt};
 ghost use Rattle.mw_words.specs.declared.limits.TheConstants.{MAX_POOL, MAX_TENANTS, MAX_WORDS, MAX_WORKERS};
 ghost use Rattle.mw_world.specs.Definition.Extent as extent;

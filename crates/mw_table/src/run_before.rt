@@ -1,6 +1,6 @@
 //! The run before a table, as contracts read it. At run time it takes no memory.
 //!
-//! Used by: `origin`, `after_run`, mw_world_table, which gives the run to a world in memory.
+//! Used by: `origin`, `after_run`, mw_table_tests, which gives the run to a world in memory.
 ghost use Rattle.std.specs.Prelude.{◌≡◌, List, []};
 ghost use Rattle.std.specs.Borrow.{ftrue};
 ghost use Rattle.mw_world.specs.Definition.Events.{WorldEvent};

@@ -1,3 +1,5 @@
 pub mod NewPassesOfWorlds
 pub mod ReadsMayCome
 pub mod ReadsStayReads
+pub mod GetsMayCome
+pub mod Worlds

@@ -1,3 +1,5 @@
 pub mod Reached
 pub mod Readers
 pub mod ReadRequests
+pub mod Ready
+pub mod Worlds

@@ -6,11 +6,12 @@ ghost use Rattle.std.specs.declared.alloc.Global.{Global};
 ghost use Rattle.mw_world.specs.Definition.State.{tenant_at, tenants_of};
 ghost use Rattle.mw_core.specs.FromTable.{IsOf, config_of};
 
+use crate::two_tenants::two_tenants;
+use crate::world_table::of_world;
 use crate::worlds::{config, new_world};
 use mw_core::{FileOpening, Pass, Shared};
-use mw_two_tenants::two_tenants;
+use mw_table::RunBefore;
 use mw_words::{At, Door};
-use mw_world_table::{RunBefore, of_world};
 use std::alloc::{AllocError, Global};
 use std::test::Fail;
 

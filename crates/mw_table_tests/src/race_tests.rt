@@ -5,17 +5,18 @@ ghost use Rattle.std.specs.Prelude.{◌≡◌, ◌≤◌, All, IfSome, List, nat
 ghost use Rattle.mw_world.specs.Definition.Events.{WorldEvent};
 ghost use Rattle.mw_world.specs.Definition.State.{tenant_at, tenants_of};
 ghost use Rattle.mw_core.specs.FromTable.{IsCarried, IsDealt, IsOf, basis_of, config_of, opening_at};
-ghost use Rattle.mw_world_table.specs.Worlds.{basis_of_world};
+ghost use Rattle.mw_table_tests.specs.Worlds.{basis_of_world};
 ghost use Rattle.mw_table_tests.specs.Reached.{IsReached};
 ghost use Rattle.mw_table_tests.specs.Readers.{MayRead};
 
+use crate::world_table::{of_world, run_before};
 use crate::worlds::{MANY_STEPS, change_one, change_two, come, config, new_world, play_to, step};
 use mw_actor::Actor;
 use mw_core::{Advance, Core, Pass};
 use mw_look::Kind;
 use mw_simulator::World;
+use mw_table::RunBefore;
 use mw_words::{At, Door, Gate, Job, Reply, Status, Word};
-use mw_world_table::{RunBefore, of_world, run_before};
 use std::alloc::Global;
 use std::test::Fail;
 use std::thread::{Threads, join};

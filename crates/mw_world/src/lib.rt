@@ -11,8 +11,8 @@
 //! Then read `specs/Claim`. `Headline` is what must hold of every run. `Invariant` and `Obligations` are the
 //! invariant. `BitExactness` is what running threads need of every run. `Examples` has runs that are computed.
 //!
-//! Used by: mw_law_moves, mw_law_counts, mw_law_runs and other crates above. The definitions are what the
-//! theorem is about (docs/THEOREM.md): a change of them is a change of what is proved.
+//! Used by: mw_law_runs and other crates above. The definitions are what the theorem is about (docs/THEOREM.md): a change of
+//! them is a change of what is proved.
 #![tactic(auto)]
 
 mod config;

@@ -1,11 +1,21 @@
 //! `mwbench --connect ADDR --tenant NAME --clients N --words K --seconds S` loads a server and measures how
-//! long its replies take.
+//! long its replies take. It checks whether the words are right afterwards.
 //!
-//! mw_load does the work (`load`). Here are only the program's name, and what it says if it can't begin.
+//! Each client adds 1 to each of its words by one change, again and again. So afterwards each word must be its old
+//! value plus the number of replies `YES` to changes of it. docs/BENCH describes it for users: change both together.
 #![tactic(auto)]
 
-use mw_load::load;
-use mw_main::{Program, run};
+mod client;
+mod command_line;
+mod crowd;
+mod latencies;
+mod replies;
+mod report;
+mod run;
+mod sums;
+
+use crate::run::load;
+use mw_main::Program;
 use std::process::ExitCode;
 
 const PROGRAM: Program = Program {
@@ -15,7 +25,7 @@ const PROGRAM: Program = Program {
 };
 
 fn main(rt: HostRuntime) -> ExitCode {
-    run(&rt, &PROGRAM, |args| {
+    mw_main::run(&rt, &PROGRAM, |args| {
         load(&rt, args, &mut rt.stdout(), &mut rt.stderr())
     })
 }

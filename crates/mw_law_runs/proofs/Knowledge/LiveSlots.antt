@@ -18,7 +18,7 @@ use Rattle.mw_actor.specs.Balance.{task_pins, pins_after, pins_at, to_free}
 use Rattle.mw_actor.specs.Stages.{Stage, Reading, WritingStatus, WritingCount, WritingAddr, WritingExpected, WritingNew, Preparing, Checking, Inspecting, Holding, Deciding, Working, Nearing, Pinning, Fetching, Leaving, Freeing, Lowering, GivingUp, stage}
 use Rattle.mw_world.specs.Definition.Counts.{pin_of, frees_by_read}
 use Rattle.mw_world.specs.Definition.State.{State}
-use Rattle.mw_law_moves.specs.Guards.{IsLive}
+use Rattle.mw_law_runs.specs.Moves.Guards.{IsLive}
 use Rattle.mw_law_runs.specs.Knowledge.Laws.{StaysTaken, LiveSlotsStay}
 use Rattle.mw_law_runs.specs.Knowledge.Live.{IsLiveTask, AreLiveAfter, AreLiveAt, IsLiveHold, AreLiveInRead}
 

@@ -30,7 +30,7 @@ use Rattle.mw_actor.specs.declared.points.Task.{Task}
 use Rattle.mw_actor.specs.ActorState.{ActorState}
 use Rattle.mw_actor.specs.Help.{others_read}
 use Rattle.mw_actor.specs.Program.{goes}
-use Rattle.mw_law_requests.proofs.StageLaws.{goes_leads}
+use Rattle.mw_law_runs.proofs.Requests.StageLaws.{goes_leads}
 use Rattle.mw_actor.specs.Stages.{Stage, Outside, Entering, Seeking, Claiming, WritingStatus, WritingCount, WritingAddr, WritingExpected, WritingNew, Preparing, Checking, Inspecting, Holding, Deciding, Working, Nearing, Pinning, Fetching, Leaving, Freeing, Lowering, GivingUp, stage, Resumes, OnTask, Scans, Leads}
 use Rattle.mw_world.specs.Definition.State.{State}
 use Rattle.mw_law_runs.specs.Knowledge.Laws.{LiveSlotsGoOn}

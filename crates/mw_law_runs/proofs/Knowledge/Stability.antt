@@ -14,8 +14,8 @@ use Rattle.mw_actor.specs.declared.points.Slot.{Slot}
 use Rattle.mw_actor.specs.declared.points.Sweep.TheVariants.{Yes as SweepYes, No as SweepNo, DoneYes as SweepDoneYes}
 use Rattle.mw_actor.specs.ActorState.{ActorState, own_entries, entries_of, entry_of}
 use Rattle.mw_world.specs.Definition.State.{State}
-use Rattle.mw_law_moves.specs.Guards.{IsLive}
-use Rattle.mw_law_moves.specs.Rely.{Rely, SameSlot}
+use Rattle.mw_law_runs.specs.Moves.Guards.{IsLive}
+use Rattle.mw_law_runs.specs.Moves.Rely.{Rely, SameSlot}
 use Rattle.mw_law_runs.specs.Knowledge.Facts.{IsOwn, IsDrafted}
 use Rattle.mw_law_runs.specs.Knowledge.OwnKnowledge.{KeepsOwn}
 use Rattle.mw_law_runs.specs.Knowledge.Laws.{FactsStay, OthersKeepOwn}

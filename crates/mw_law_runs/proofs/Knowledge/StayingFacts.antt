@@ -23,8 +23,8 @@ use Rattle.mw_world.specs.Definition.History.{entry_for}
 use Rattle.mw_world.specs.Claim.Invariant.{IsEntryOf, IsRefused}
 use Rattle.mw_world.specs.Claim.Obligations.{IsEntryAt}
 use Rattle.mw_world.specs.Definition.State.{State}
-use Rattle.mw_law_moves.specs.Guards.{IsLive}
-use Rattle.mw_law_moves.specs.Rely.{Rely, SameSlot}
+use Rattle.mw_law_runs.specs.Moves.Guards.{IsLive}
+use Rattle.mw_law_runs.specs.Moves.Rely.{Rely, SameSlot}
 use Rattle.mw_law_runs.specs.Knowledge.OwnKnowledge.{KeepsOwn, KeepsPins}
 use Rattle.mw_law_runs.specs.Knowledge.Facts.{IsKnown, MayBeMet, IsOwn, IsDrafted, IsReadied, IsWritten, IsWriting, IsAtWork, WorksOn, AtEntry, AreFirstOf, HasRead, HoldsUpTo, AreHeldNoMore, IsDecidedAs, IsSweptUpTo, Sweeps, IsOver, IsGiven, IsAnothers, IsForChange, HasRow, CameBy, Follows, EndsWith}
 

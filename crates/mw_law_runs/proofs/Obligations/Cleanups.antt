@@ -29,7 +29,7 @@ use Rattle.mw_actor.specs.Admission.{next_fill}
 use Rattle.mw_actor.specs.RequestEnds.{works, resumed, unpinned, gives_up, refusal, finishes}
 use Rattle.mw_actor.specs.Help.{turns_to, helps, pinned, other_gate_read, count_read, addr_read, expected_read, next_read, new_read}
 use Rattle.mw_actor.specs.Inspection.{status_read, next_word, attempts, dirty_seen, held_seen, inspected, attempt_met, attempt_confirmed, dirty_gate_read, dirty_confirmed}
-use Rattle.mw_law_requests.proofs.StageLaws.{both_same}
+use Rattle.mw_law_runs.proofs.Requests.StageLaws.{both_same}
 use Rattle.mw_actor.specs.ReleasePhase.{next_sweep, sweep_over, swept, sweep_confirmed}
 use Rattle.mw_world.specs.Claim.Obligations.{IsFrom, CleansFrom, GoesOn, CleansAt}
 use Rattle.mw_world.specs.Definition.State.{State}

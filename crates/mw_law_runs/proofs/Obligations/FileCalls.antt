@@ -20,12 +20,12 @@ use Rattle.mw_world.specs.declared.config.Config.{Config}
 use Rattle.mw_world.specs.Definition.Calls.{Called, called_at, starts_from, fails_on}
 use Rattle.mw_world.specs.Claim.Obligations.{WillReleaseAt, CleansAt}
 use Rattle.mw_world.specs.Definition.State.{State}
-use Rattle.mw_law_moves.specs.Guards.{Guards}
-use Rattle.mw_law_moves.specs.Moves.{made_all}
-use Rattle.mw_law_moves.specs.StepMoves.{SameMemory, moves_called, moves_of_call, status_moves, call_observation, next_of, set_intent}
-use Rattle.mw_law_moves.proofs.MovesKeepMemory.{moves_keep}
-use Rattle.mw_law_moves.proofs.Relied.{others_rely_on_all}
-use Rattle.mw_law_moves.proofs.Shared.{is_shared}
+use Rattle.mw_law_runs.specs.Moves.Guards.{Guards}
+use Rattle.mw_law_runs.specs.Moves.Moves.{made_all}
+use Rattle.mw_law_runs.specs.Moves.StepMoves.{SameMemory, moves_called, moves_of_call, status_moves, call_observation, next_of, set_intent}
+use Rattle.mw_law_runs.proofs.Moves.MovesKeepMemory.{moves_keep}
+use Rattle.mw_law_runs.proofs.Moves.Relied.{others_rely_on_all}
+use Rattle.mw_law_runs.proofs.Moves.Shared.{is_shared}
 use Rattle.mw_law_runs.specs.Knowledge.Informed.{IsInformed}
 use Rattle.mw_law_runs.specs.Knowledge.Calls.{told_of_call}
 use Rattle.mw_law_runs.proofs.Knowledge.Calls.CallGuards.{calls_have_guards, same_some}

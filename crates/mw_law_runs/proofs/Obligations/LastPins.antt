@@ -27,14 +27,14 @@ use Rattle.mw_world.specs.Definition.History.{NoAttempt, AttemptIn, standing_at}
 use Rattle.mw_world.specs.Claim.Invariant.{IsRefused, IsHeldFor}
 use Rattle.mw_world.specs.Claim.Obligations.{WillRelease, HasReleaser, GoesOn, CleansAt}
 use Rattle.mw_world.specs.Definition.State.{State}
-use Rattle.mw_law_counts.proofs.Sums.{over_at, over_two, of_actor}
-use Rattle.mw_law_counts.specs.CountInvariant.{CountsStand}
+use Rattle.mw_law_runs.proofs.Counts.Sums.{over_at, over_two, of_actor}
+use Rattle.mw_law_runs.specs.Counts.CountInvariant.{CountsStand}
 use Rattle.mw_law_runs.specs.Knowledge.Facts.{IsOver}
 use Rattle.mw_law_runs.specs.Knowledge.LastPins.{IsFreeOfWords, MayLeave, ReadMayLeave}
 use Rattle.mw_law_runs.specs.Knowledge.Points.{Knows, without_point}
-use Rattle.mw_law_moves.specs.Guards.{NoWordRefers}
-use Rattle.mw_law_moves.specs.Memory.{Memory}
-use Rattle.mw_law_moves.specs.Steps.{PointsAreTold}
+use Rattle.mw_law_runs.specs.Moves.Guards.{NoWordRefers}
+use Rattle.mw_law_runs.specs.Moves.Memory.{Memory}
+use Rattle.mw_law_runs.specs.Moves.Steps.{PointsAreTold}
 use Rattle.mw_law_runs.specs.ObligationLaws.{LastPinsAreFree}
 use Rattle.mw_law_runs.specs.Obligations.{IsUnfinished, own_of, own_leaving, IsOwnerOf, IsCleanerOf, WordsHaveReleasers, HasItsRequest, HaveTheirRequests}
 use Rattle.mw_law_runs.proofs.Obligations.Apart.{not_both, canceled_undone, done_undone}

@@ -20,8 +20,8 @@ use Rattle.mw_world_file.specs.Maps.{upd, upd_two}
 use Rattle.mw_world.specs.Definition.History.{StandingAttempt, HoldPermission}
 use Rattle.mw_world.specs.Claim.Invariant.{IsRefused}
 use Rattle.mw_world.specs.Definition.State.{State}
-use Rattle.mw_law_moves.specs.Moves.{SetIntent, made_all}
-use Rattle.mw_law_moves.specs.StepMoves.{give_up_moves}
+use Rattle.mw_law_runs.specs.Moves.Moves.{SetIntent, made_all}
+use Rattle.mw_law_runs.specs.Moves.StepMoves.{give_up_moves}
 use Rattle.mw_law_runs.specs.Obligations.{own_of}
 
 -- The slot was taken under this number before.

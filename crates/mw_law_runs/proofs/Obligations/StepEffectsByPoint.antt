@@ -19,8 +19,8 @@ use Rattle.mw_actor.specs.ActorState.{ActorState, entry_of}
 use Rattle.mw_world.specs.declared.config.Config.{Config}
 use Rattle.mw_world.specs.Definition.History.{standing_at, permission_at}
 use Rattle.mw_world.specs.Definition.State.{State}
-use Rattle.mw_law_moves.specs.Guards.{Guards}
-use Rattle.mw_law_moves.specs.StepMoves.{moves_told}
+use Rattle.mw_law_runs.specs.Moves.Guards.{Guards}
+use Rattle.mw_law_runs.specs.Moves.StepMoves.{moves_told}
 use Rattle.mw_law_runs.specs.Knowledge.Points.{Knows}
 use Rattle.mw_law_runs.specs.Knowledge.NextState.{told, world_told}
 use Rattle.mw_law_runs.proofs.Obligations.Apart.{plain_held, plain_dirty, planted_held, planted_dirty}

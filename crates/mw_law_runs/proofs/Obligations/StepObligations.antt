@@ -25,13 +25,13 @@ use Rattle.mw_world.specs.Definition.Turns.{next_attempt}
 use Rattle.mw_law_runs.specs.Knowledge.Informed.{IsInformed, ChangesNoWord, ChangesAWord}
 use Rattle.mw_law_runs.specs.Knowledge.Points.{Knows}
 use Rattle.mw_law_runs.specs.Knowledge.NextState.{told, world_told}
-use Rattle.mw_law_moves.specs.Guards.{Guards}
-use Rattle.mw_law_moves.specs.Memory.{Memory}
-use Rattle.mw_law_moves.specs.Rely.{Rely}
-use Rattle.mw_law_moves.specs.StepMoves.{moves_told}
-use Rattle.mw_law_moves.proofs.MovesKeepMemory.{moves_keep}
-use Rattle.mw_law_moves.proofs.Relied.{others_rely_on_all}
-use Rattle.mw_law_moves.proofs.Shared.{is_shared}
+use Rattle.mw_law_runs.specs.Moves.Guards.{Guards}
+use Rattle.mw_law_runs.specs.Moves.Memory.{Memory}
+use Rattle.mw_law_runs.specs.Moves.Rely.{Rely}
+use Rattle.mw_law_runs.specs.Moves.StepMoves.{moves_told}
+use Rattle.mw_law_runs.proofs.Moves.MovesKeepMemory.{moves_keep}
+use Rattle.mw_law_runs.proofs.Moves.Relied.{others_rely_on_all}
+use Rattle.mw_law_runs.proofs.Moves.Shared.{is_shared}
 use Rattle.mw_law_runs.specs.ObligationLaws.{StepsKeepReleasers}
 use Rattle.mw_law_runs.specs.Obligations.{IsUnfinished, own_of, IsOwnerOf, IsCleanerOf, WordsHaveReleasers, HaveTheirRequests, OneStepped}
 use Rattle.mw_law_runs.proofs.Obligations.Apart.{not_both, canceled_undone, done_undone}

@@ -51,7 +51,7 @@ use Rattle.mw_actor.specs.ReleasePhase.{filed, sweep_over, next_sweep, held_swep
 use Rattle.mw_world.specs.declared.config.Config.{Config}
 use Rattle.mw_world.specs.Definition.Cells.{Cells, read as read_cell}
 use Rattle.mw_world.specs.Definition.State.{State, tenant_at}
-use Rattle.mw_law_moves.specs.Memory.{Memory}
+use Rattle.mw_law_runs.specs.Moves.Memory.{Memory}
 use Rattle.mw_law_runs.specs.Knowledge.Facts.{CameBy}
 use Rattle.mw_law_runs.specs.Knowledge.Informed.{IsInformed}
 use Rattle.mw_law_runs.specs.Knowledge.Points.{ReadKnows}

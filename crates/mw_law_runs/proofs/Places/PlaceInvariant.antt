@@ -26,8 +26,8 @@ use Rattle.mw_world.specs.Definition.State.{State, WorkerState, IsConfig, tenant
 use Rattle.mw_world.specs.Definition.Turns.{turn, next_attempt}
 use Rattle.mw_world.specs.Definition.World.{come, hand, handed, may_come, run, step}
 use Rattle.mw_world.specs.Claim.Headline.{IsExecution}
-use Rattle.mw_law_moves.proofs.StepsKeepMemory.{comes_leave, hands_leave}
-use Rattle.mw_law_counts.proofs.Startable.{may_start}
+use Rattle.mw_law_runs.proofs.Moves.StepsKeepMemory.{comes_leave, hands_leave}
+use Rattle.mw_law_runs.proofs.Counts.Startable.{may_start}
 use Rattle.mw_law_runs.proofs.Knowledge.Updates.Preservation.{upd_here, upd_else}
 use Rattle.mw_law_runs.specs.Files.{FilesFit}
 use Rattle.mw_law_runs.specs.Obligations.{OneStepped}

@@ -25,7 +25,7 @@ use Rattle.mw_world.specs.Definition.Calls.{called_at}
 use Rattle.mw_world.specs.Definition.Extent.{has_place}
 use Rattle.mw_world.specs.Definition.State.{State, tenant_at, tenants_of}
 use Rattle.mw_world.specs.Definition.Turns.{may_make}
-use Rattle.mw_law_moves.specs.Guards.{IsLive}
+use Rattle.mw_law_runs.specs.Moves.Guards.{IsLive}
 use Rattle.mw_law_runs.specs.Knowledge.Facts.{AtEntry, CameBy}
 use Rattle.mw_law_runs.specs.Knowledge.Informed.{IsInformed, IsPointFor}
 use Rattle.mw_law_runs.specs.Knowledge.Points.{ReadKnows, without_point}

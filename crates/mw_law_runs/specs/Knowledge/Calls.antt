@@ -8,9 +8,9 @@ use Rattle.mw_world_file.specs.declared.outcomes.Outcome.{Outcome}
 use Rattle.mw_world.specs.declared.config.Config.{Config}
 use Rattle.mw_world.specs.Definition.Calls.{Called, called_at, starts_from, fails_on}
 use Rattle.mw_world.specs.Definition.State.{State}
-use Rattle.mw_law_moves.specs.Guards.{Guards}
-use Rattle.mw_law_moves.specs.Moves.{made_all}
-use Rattle.mw_law_moves.specs.StepMoves.{moves_of_call, call_observation, next_of}
+use Rattle.mw_law_runs.specs.Moves.Guards.{Guards}
+use Rattle.mw_law_runs.specs.Moves.Moves.{made_all}
+use Rattle.mw_law_runs.specs.Moves.StepMoves.{moves_of_call, call_observation, next_of}
 use Rattle.mw_law_runs.specs.Knowledge.Informed.{IsInformed}
 use Rattle.mw_law_runs.specs.Knowledge.NextState.{KnowsItsPoint}
 

@@ -21,9 +21,9 @@ use Rattle.mw_look.specs.Shapes.{shape_of}
 use Rattle.mw_world.specs.Definition.History.{standing_at, permission_at}
 use Rattle.mw_world.specs.Claim.Invariant.{IsOfWorker}
 use Rattle.mw_world.specs.Definition.State.{State}
-use Rattle.mw_law_moves.specs.Memory.{Memory}
-use Rattle.mw_law_counts.specs.Exact.{IsLookInRange}
-use Rattle.mw_law_counts.specs.Ready.{IsReady}
+use Rattle.mw_law_runs.specs.Moves.Memory.{Memory}
+use Rattle.mw_law_runs.specs.Counts.Exact.{IsLookInRange}
+use Rattle.mw_law_runs.specs.Counts.Ready.{IsReady}
 use Rattle.mw_law_runs.specs.Knowledge.Live.{AreLive}
 use Rattle.mw_law_runs.specs.Knowledge.Points.{Knows}
 

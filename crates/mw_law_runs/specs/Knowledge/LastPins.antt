@@ -7,7 +7,7 @@ use Rattle.mw_look.specs.declared.points.Point.TheVariants.{Unpin as UnpinOfRead
 use Rattle.mw_actor.specs.declared.points.Point.{Point}
 use Rattle.mw_actor.specs.declared.points.Point.TheVariants.{Read, Unpin}
 use Rattle.mw_world.specs.Definition.State.{State}
-use Rattle.mw_law_moves.specs.Guards.{NoWordRefers}
+use Rattle.mw_law_runs.specs.Moves.Guards.{NoWordRefers}
 
 -- if the slot has one pin, no word refers to it
 abbrev pub IsFreeOfWords : State → ℕ → Type 0

@@ -7,7 +7,7 @@ use Rattle.mw_actor.specs.ActorState.{ActorState}
 use Rattle.mw_actor.specs.Program.{goes}
 use Rattle.mw_world.specs.Definition.Counts.{pins_held, frees_at}
 use Rattle.mw_world.specs.Definition.State.{State}
-use Rattle.mw_law_moves.specs.Rely.{Rely}
+use Rattle.mw_law_runs.specs.Moves.Rely.{Rely}
 use Rattle.mw_law_runs.specs.Knowledge.OwnKnowledge.{KeepsOwn}
 use Rattle.mw_law_runs.specs.Knowledge.Live.{AreLive, TakesNoPin}
 use Rattle.mw_law_runs.specs.Knowledge.Points.{Knows, without_point}

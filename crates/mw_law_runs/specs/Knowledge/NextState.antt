@@ -3,8 +3,8 @@
 use Rattle.mw_look.specs.declared.observations.Observation.{Observation}
 use Rattle.mw_actor.specs.ActorState.{ActorState}
 use Rattle.mw_world.specs.Definition.State.{State}
-use Rattle.mw_law_moves.specs.Moves.{made_all}
-use Rattle.mw_law_moves.specs.StepMoves.{next_of, moves_told}
+use Rattle.mw_law_runs.specs.Moves.Moves.{made_all}
+use Rattle.mw_law_runs.specs.Moves.StepMoves.{next_of, moves_told}
 use Rattle.mw_law_runs.specs.Knowledge.Live.{AreLive}
 use Rattle.mw_law_runs.specs.Knowledge.Points.{Knows}
 

@@ -5,8 +5,8 @@ use Rattle.mw_words.specs.declared.statuses.Status.TheVariants.{Draft}
 use Rattle.mw_actor.specs.declared.points.Slot.{Slot}
 use Rattle.mw_actor.specs.ActorState.{ActorState}
 use Rattle.mw_world.specs.Definition.State.{State}
-use Rattle.mw_law_moves.specs.Guards.{IsLive}
-use Rattle.mw_law_moves.specs.Rely.{SameSlot}
+use Rattle.mw_law_runs.specs.Moves.Guards.{IsLive}
+use Rattle.mw_law_runs.specs.Moves.Rely.{SameSlot}
 use Rattle.mw_law_runs.specs.Knowledge.Facts.{IsOwn, IsDrafted}
 
 -- Whether the pin of the request's change was left behind stays as it was.

@@ -7,9 +7,9 @@ use Rattle.mw_actor.specs.ActorState.{ActorState}
 use Rattle.mw_actor.specs.Asks.{asks}
 use Rattle.mw_world.specs.declared.config.Config.{Config}
 use Rattle.mw_world.specs.Definition.State.{State}
-use Rattle.mw_law_moves.specs.Guards.{Guards}
-use Rattle.mw_law_moves.specs.StepMoves.{moves_told}
-use Rattle.mw_law_counts.specs.CountInvariant.{CountsStand}
+use Rattle.mw_law_runs.specs.Moves.Guards.{Guards}
+use Rattle.mw_law_runs.specs.Moves.StepMoves.{moves_told}
+use Rattle.mw_law_runs.specs.Counts.CountInvariant.{CountsStand}
 use Rattle.mw_law_runs.specs.Knowledge.Informed.{IsInformed, ChangesAWord}
 use Rattle.mw_law_runs.specs.Knowledge.NextState.{KnowsItsPoint, told, world_told}
 

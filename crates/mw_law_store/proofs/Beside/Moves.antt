@@ -12,10 +12,10 @@ use Rattle.mw_actor.specs.declared.points.Slot.{Slot}
 use Rattle.mw_world_file.specs.Maps.{upd_two}
 use Rattle.mw_world.specs.declared.config.Config.{Config}
 use Rattle.mw_world.specs.Definition.State.{State}
-use Rattle.mw_law_moves.specs.Guards.{Guard, Guards, MayClaim}
-use Rattle.mw_law_moves.specs.Memory.{Memory}
-use Rattle.mw_law_moves.specs.Moves.{Move, SetDoor, Claim, Prepare, SayYes, SayNo, Seal, Settle, Cancel, DecideFault, decide, made, made_all}
-use Rattle.mw_law_moves.proofs.MovesKeepMemory.{move_keeps}
+use Rattle.mw_law_runs.specs.Moves.Guards.{Guard, Guards, MayClaim}
+use Rattle.mw_law_runs.specs.Moves.Memory.{Memory}
+use Rattle.mw_law_runs.specs.Moves.Moves.{Move, SetDoor, Claim, Prepare, SayYes, SayNo, Seal, Settle, Cancel, DecideFault, decide, made, made_all}
+use Rattle.mw_law_runs.proofs.Moves.MovesKeepMemory.{move_keeps}
 use Rattle.mw_law_runs.proofs.Knowledge.Updates.Preservation.{upd_else}
 use Rattle.mw_law_runs.proofs.Numbers.{same_or_other}
 use Rattle.mw_law_store.specs.Due.{told}

@@ -18,7 +18,7 @@ use Rattle.mw_world.specs.declared.config.Config.{Config}
 use Rattle.mw_law_runs.specs.Knowledge.Informed.{IsInformed}
 use Rattle.mw_law_runs.specs.Knowledge.NextState.{told}
 use Rattle.mw_world.specs.Definition.State.{State}
-use Rattle.mw_law_moves.specs.StepMoves.{give_up_moves, moves_at, moves_told, set_intent, read_moves, release_moves, resolve_moves}
+use Rattle.mw_law_runs.specs.Moves.StepMoves.{give_up_moves, moves_at, moves_told, set_intent, read_moves, release_moves, resolve_moves}
 use Rattle.mw_law_store.proofs.Beside.Moves.{AllFor}
 
 -- What a step at a point needs for that: a read is one of the tenant, and so is a change that is decided or whose request gives

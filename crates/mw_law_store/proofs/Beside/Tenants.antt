@@ -16,11 +16,11 @@ use Rattle.mw_law_runs.specs.Knowledge.NextState.{told, world_told}
 use Rattle.mw_law_runs.proofs.Knowledge.Updates.Preservation.{upd_else}
 use Rattle.mw_law_runs.proofs.Knowledge.Guards.UpdateGuards.{updates_have_guards}
 use Rattle.mw_law_runs.proofs.Knowledge.Guards.ReadGuards.{reads_have_guards}
-use Rattle.mw_law_moves.specs.Guards.{Guards}
-use Rattle.mw_law_moves.specs.Memory.{Memory}
-use Rattle.mw_law_moves.specs.Rely.{Rely}
-use Rattle.mw_law_moves.specs.StepMoves.{moves_told}
-use Rattle.mw_law_moves.proofs.Shared.{is_shared}
+use Rattle.mw_law_runs.specs.Moves.Guards.{Guards}
+use Rattle.mw_law_runs.specs.Moves.Memory.{Memory}
+use Rattle.mw_law_runs.specs.Moves.Rely.{Rely}
+use Rattle.mw_law_runs.specs.Moves.StepMoves.{moves_told}
+use Rattle.mw_law_runs.proofs.Moves.Shared.{is_shared}
 use Rattle.mw_law_runs.specs.Obligations.{OneStepped}
 use Rattle.mw_law_runs.specs.RunInvariant.{IsSound}
 use Rattle.mw_law_runs.proofs.StepEnds.{Ends, TurnEnds, turn_ends}

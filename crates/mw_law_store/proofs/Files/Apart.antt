@@ -16,7 +16,7 @@ use Rattle.mw_world.specs.declared.step_labels.Phase.TheVariants.{Fresh, Acquire
 use Rattle.mw_world.specs.Claim.Invariant.{MayBe}
 use Rattle.mw_world.specs.Definition.History.{entry_for, has, new}
 use Rattle.mw_world.specs.Definition.State.{State}
-use Rattle.mw_law_moves.specs.Memory.{Memory}
+use Rattle.mw_law_runs.specs.Moves.Memory.{Memory}
 
 -- no entry of these is of the word of this one
 none_here : (one : Entry) (those : List Entry) → is_some (entry_for those one.addr) ≡ false → list_any (λ (other : Entry). other.addr == one.addr) those ≡ false

@@ -21,9 +21,9 @@ use Rattle.mw_world.specs.Definition.Requests.{came, gave}
 use Rattle.mw_world.specs.Definition.State.{State, TenantState, tenant_state_at, started, tenant_at, tenants_of}
 use Rattle.mw_world.specs.Definition.World.{come, hand, handed, may_come}
 use Rattle.mw_lone.proofs.SoundStores.{length-put}
-use Rattle.mw_law_counts.proofs.Startable.{may_start, start_tells}
-use Rattle.mw_law_moves.proofs.StepsKeepMemory.{comes_leave, hands_leave}
-use Rattle.mw_law_moves.proofs.Shared.{memory_is_shared}
+use Rattle.mw_law_runs.proofs.Counts.Startable.{may_start, start_tells}
+use Rattle.mw_law_runs.proofs.Moves.StepsKeepMemory.{comes_leave, hands_leave}
+use Rattle.mw_law_runs.proofs.Moves.Shared.{memory_is_shared}
 use Rattle.mw_law_runs.proofs.GuardedEvents.{first_holds, guarded, second_holds}
 use Rattle.mw_law_runs.specs.RunInvariant.{IsSound}
 use Rattle.mw_law_store.specs.Files.Files.{HasFiles, IsOpened, places_of}

@@ -1,6 +1,6 @@
 -- If a request has come to a call on its file, the file can make the call. At each start there are words that may be found.
--- Used by: the laws calls_can_be_made and starts_find_words, Files/EnabledEvents, mw_law_calls. Its statements may change with
--- mw_law_calls; its proofs may change freely.
+-- Used by: the laws calls_can_be_made and starts_find_words, Files/EnabledEvents, mw_rule. Its statements may change with
+-- mw_rule; its proofs may change freely.
 use Rattle.std.specs.Prelude.{ℕ, zero, suc, ◌≡◌, ◌<◌, ◌&&◌, not, Bool, true, false, if◌then◌else◌, nat_lt, List, length, bytes_eq, Some}
 use Rattle.std.proofs.Common.{refl, sym, ap, subst, ◌∙◌, inl, inr, arith}
 use Rattle.std.proofs.lemmas.Bool.Decides.{nat_tests}
@@ -26,8 +26,8 @@ use Rattle.mw_world.specs.Definition.Restarts.{doubt_then, is_sealed_then, may_f
 use Rattle.mw_world.specs.Definition.State.{State, tenant_at}
 use Rattle.mw_law_runs.specs.Knowledge.Informed.{IsInformed}
 use Rattle.mw_law_runs.proofs.Knowledge.Calls.CallGuards.{cancels, seal_guards, settle_guards}
-use Rattle.mw_law_moves.specs.Guards.{IsLive, MayCancel, MaySeal, MaySettle}
-use Rattle.mw_law_moves.specs.Memory.{Memory}
+use Rattle.mw_law_runs.specs.Moves.Guards.{IsLive, MayCancel, MaySeal, MaySettle}
+use Rattle.mw_law_runs.specs.Moves.Memory.{Memory}
 use Rattle.mw_law_runs.specs.RunInvariant.{IsSound}
 use Rattle.mw_law_runs.proofs.Obligations.Pins.{some_same, none_some}
 use Rattle.mw_law_runs.proofs.RequestsInWorlds.{have_their_requests}

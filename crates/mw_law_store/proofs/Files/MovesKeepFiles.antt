@@ -16,13 +16,13 @@ use Rattle.mw_world_file.specs.Maps.{upd, upd_two}
 use Rattle.mw_world.specs.declared.config.Config.{Config}
 use Rattle.mw_world.specs.Claim.Invariant.{placed}
 use Rattle.mw_world.specs.Definition.State.{State}
-use Rattle.mw_law_moves.specs.Guards.{Guard, Guards}
-use Rattle.mw_law_moves.specs.Memory.{Memory}
-use Rattle.mw_law_moves.specs.Moves.{Move, SetDoor, FillStatus, FillCount, FillAddr, FillExpected, FillNew, SetRow, Claim, Pin, Unpin, Free, Prepare, SayYes, SayNo, Seal, Settle, Cancel, Plant, SkipNumber, TakeBack, Hold, WriteNew, LetGo, Clean, LeavePin, DecideFault, SetIntent, made, made_all}
-use Rattle.mw_law_moves.specs.Values.{is_seal}
-use Rattle.mw_law_moves.proofs.MovesKeepMemory.{move_keeps}
-use Rattle.mw_law_moves.proofs.Phases.{claimed_draft}
-use Rattle.mw_law_moves.proofs.ValuesOverMoves.{moves_keep_values}
+use Rattle.mw_law_runs.specs.Moves.Guards.{Guard, Guards}
+use Rattle.mw_law_runs.specs.Moves.Memory.{Memory}
+use Rattle.mw_law_runs.specs.Moves.Moves.{Move, SetDoor, FillStatus, FillCount, FillAddr, FillExpected, FillNew, SetRow, Claim, Pin, Unpin, Free, Prepare, SayYes, SayNo, Seal, Settle, Cancel, Plant, SkipNumber, TakeBack, Hold, WriteNew, LetGo, Clean, LeavePin, DecideFault, SetIntent, made, made_all}
+use Rattle.mw_law_runs.specs.Moves.Values.{is_seal}
+use Rattle.mw_law_runs.proofs.Moves.MovesKeepMemory.{move_keeps}
+use Rattle.mw_law_runs.proofs.Moves.Phases.{claimed_draft}
+use Rattle.mw_law_runs.proofs.Moves.ValuesOverMoves.{moves_keep_values}
 use Rattle.mw_law_store.proofs.Files.StepsLeaveFiles.{TellsSame}
 use Rattle.mw_law_store.proofs.Files.Tenants.{due, due_of}
 

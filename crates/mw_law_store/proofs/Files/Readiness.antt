@@ -1,6 +1,5 @@
 -- After a run an event can happen exactly if it is ready: it passes the simple conditions of `specs/Files/Ready`.
--- Used by: the law ready_events_happen, mw_law_calls. Its statements may change with mw_law_calls; its proofs may change
--- freely.
+-- Used by: the law ready_events_happen, mw_rule. Its statements may change with mw_rule; its proofs may change freely.
 use Rattle.std.specs.Prelude.{ℕ, ◌≡◌, ◌<◌, ◌&&◌, ◌==◌, not, is_none, is_some, Bool, true, false, if◌then◌else◌, nat_lt, List, length, Option, Some, None}
 use Rattle.std.proofs.Common.{refl, sym, ap, subst, arith}
 use Rattle.std.proofs.lemmas.Bool.Decides.{nat_tests}
@@ -29,7 +28,7 @@ use Rattle.mw_world.specs.Definition.Restarts.{restart, restarted}
 use Rattle.mw_world.specs.Definition.State.{State, tenant_at, tenants_of}
 use Rattle.mw_world.specs.Definition.Turns.{Made, may_make, moved, turn, turned}
 use Rattle.mw_world.specs.Definition.World.{come, hand, handed, may_come, step}
-use Rattle.mw_law_counts.proofs.Startable.{may_start, start_passes, start_tells}
+use Rattle.mw_law_runs.proofs.Counts.Startable.{may_start, start_passes, start_tells}
 use Rattle.mw_law_store.specs.Files.Ready.{IsReady, MakesCall, MayCall, MayCome, MayFail, MayHand, MayRestart, MayStep, OtherEventsDoNot, ReadyEventsHappen}
 use Rattle.mw_law_store.proofs.Files.EnabledEvents.{runs_are_enabled}
 

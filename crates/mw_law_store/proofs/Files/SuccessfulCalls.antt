@@ -20,10 +20,10 @@ use Rattle.mw_world.specs.Definition.History.{entry_for, has, new}
 use Rattle.mw_world.specs.Definition.Logical.{logical}
 use Rattle.mw_world.specs.Definition.State.{State, TenantState, tenant_at, tenants_of}
 use Rattle.mw_world.specs.Definition.Turns.{moved}
-use Rattle.mw_law_moves.specs.Guards.{IsLive, MayPrepare, MaySeal, MaySettle, MayCancel}
-use Rattle.mw_law_moves.specs.Memory.{Memory}
-use Rattle.mw_law_moves.specs.Moves.{Prepare, Settle, Cancel}
-use Rattle.mw_law_moves.proofs.ValuesOverMoves.{moves_keep_values, seals_put_values}
+use Rattle.mw_law_runs.specs.Moves.Guards.{IsLive, MayPrepare, MaySeal, MaySettle, MayCancel}
+use Rattle.mw_law_runs.specs.Moves.Memory.{Memory}
+use Rattle.mw_law_runs.specs.Moves.Moves.{Prepare, Settle, Cancel}
+use Rattle.mw_law_runs.proofs.Moves.ValuesOverMoves.{moves_keep_values, seals_put_values}
 use Rattle.mw_law_runs.proofs.Knowledge.Updates.Preservation.{upd_here, upd_else}
 use Rattle.mw_law_runs.proofs.Numbers.{same_or_other}
 use Rattle.mw_law_store.specs.Files.Files.{places_in, places_of}

@@ -14,7 +14,7 @@ use Rattle.mw_world.specs.declared.config.Config.{Config}
 use Rattle.mw_world.specs.Claim.Invariant.{AreApart, IsInFile, placed}
 use Rattle.mw_world.specs.Definition.Logical.{logical}
 use Rattle.mw_world.specs.Definition.State.{State, tenant_at, tenants_of}
-use Rattle.mw_law_moves.specs.Memory.{Memory}
+use Rattle.mw_law_runs.specs.Moves.Memory.{Memory}
 use Rattle.mw_law_store.specs.Files.Files.{HasFiles, places_of}
 use Rattle.mw_law_store.proofs.Files.Apart.{two_apart}
 use Rattle.mw_law_store.proofs.Files.PlacesBySlot.{ArePlaced}

@@ -38,15 +38,15 @@ use Rattle.mw_world.specs.Definition.Changes.{changed, done, fetched}
 use Rattle.mw_world.specs.Definition.Counts.{frees_at}
 use Rattle.mw_world.specs.Definition.State.{State}
 use Rattle.mw_world.specs.Definition.Turns.{turn, turned, may_make, moved, made_of}
-use Rattle.mw_law_counts.specs.Alone.{IsAloneWith}
-use Rattle.mw_law_counts.proofs.Room.{who-frees-is-alone}
+use Rattle.mw_law_runs.specs.Counts.Alone.{IsAloneWith}
+use Rattle.mw_law_runs.proofs.Counts.Room.{who-frees-is-alone}
 use Rattle.mw_law_runs.specs.Knowledge.Informed.{IsInformed}
 use Rattle.mw_law_runs.specs.Knowledge.NextState.{world_told}
 use Rattle.mw_law_runs.proofs.Knowledge.Guards.ReadGuards.{reads_have_guards}
 use Rattle.mw_law_runs.proofs.Knowledge.Guards.UpdateGuards.{updates_have_guards}
-use Rattle.mw_law_moves.specs.Guards.{Guards}
-use Rattle.mw_law_moves.specs.StepMoves.{moves_at, read_moves, resolve_moves, release_moves, give_up_moves, moves_told, next_of, set_intent}
-use Rattle.mw_law_moves.proofs.Shared.{is_shared}
+use Rattle.mw_law_runs.specs.Moves.Guards.{Guards}
+use Rattle.mw_law_runs.specs.Moves.StepMoves.{moves_at, read_moves, resolve_moves, release_moves, give_up_moves, moves_told, next_of, set_intent}
+use Rattle.mw_law_runs.proofs.Moves.Shared.{is_shared}
 use Rattle.mw_law_runs.specs.Obligations.{IsOwnerOf, IsUnfinished}
 use Rattle.mw_law_runs.specs.RunInvariant.{IsSound}
 use Rattle.mw_law_runs.proofs.StepEnds.{Ends, TurnEnds, turn_ends}

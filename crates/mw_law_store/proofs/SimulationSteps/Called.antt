@@ -24,7 +24,7 @@ use Rattle.mw_world.specs.Definition.Extent.{has_slot}
 use Rattle.mw_world.specs.Definition.Events.{File as FileEvent}
 use Rattle.mw_world.specs.Definition.State.{State, TenantStart}
 use Rattle.mw_world.specs.Definition.Turns.{moved, next_attempt}
-use Rattle.mw_law_moves.specs.StepMoves.{call_observation, next_of}
+use Rattle.mw_law_runs.specs.Moves.StepMoves.{call_observation, next_of}
 use Rattle.mw_law_runs.specs.Knowledge.Calls.{told_of_call}
 use Rattle.mw_law_runs.specs.Knowledge.Informed.{IsInformed}
 use Rattle.mw_law_runs.proofs.Knowledge.Calls.CallGuards.{cancels, seal_guards, settle_guards}

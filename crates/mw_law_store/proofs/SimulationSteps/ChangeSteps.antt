@@ -27,7 +27,7 @@ use Rattle.mw_world.specs.declared.step_labels.StepLabel.{StepLabel}
 use Rattle.mw_world.specs.declared.step_labels.StepLabel.TheVariants.{Admitted, Claimed, Decided, Refused, Freed}
 use Rattle.mw_world.specs.Definition.StepLabels.{door_label, inspect_label}
 use Rattle.mw_world.specs.Definition.State.{State}
-use Rattle.mw_law_moves.specs.Guards.{MayClaim, MaySayYes, MaySayNo}
+use Rattle.mw_law_runs.specs.Moves.Guards.{MayClaim, MaySayYes, MaySayNo}
 use Rattle.mw_law_runs.specs.Knowledge.Facts.{AtEntry}
 use Rattle.mw_law_runs.specs.Knowledge.Informed.{IsInformed}
 use Rattle.mw_law_runs.specs.Knowledge.Points.{Knows, without_point}

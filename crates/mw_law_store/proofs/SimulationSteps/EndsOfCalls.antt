@@ -22,7 +22,7 @@ use Rattle.mw_world.specs.declared.step_labels.StepLabel.TheVariants.{Nothing}
 use Rattle.mw_world.specs.Definition.Calls.{breaks, fault_label, faults, good_label, goes_well, is_made, skips, status_after}
 use Rattle.mw_world.specs.Definition.State.{State}
 use Rattle.mw_world.specs.Definition.Turns.{moved}
-use Rattle.mw_law_moves.specs.StepMoves.{next_of}
+use Rattle.mw_law_runs.specs.Moves.StepMoves.{next_of}
 use Rattle.mw_law_runs.proofs.Knowledge.Updates.Preservation.{upd_here, upd_else}
 use Rattle.mw_law_store.specs.Due.{told}
 use Rattle.mw_law_store.specs.Refinement.{Refines}

@@ -11,7 +11,7 @@ use Rattle.mw_words.specs.declared.jobs.Job.{Job}
 use Rattle.mw_words.specs.declared.replies.Reply.{Reply}
 use Rattle.mw_lone.specs.declared.marks.Mark.TheVariants.{Reply as HandOut}
 use Rattle.mw_lone.specs.Store.{Store, RequestState, request, due_reply, outgoing as outgoing_mark}
-use Rattle.mw_law_late.specs.MarkEffects.{HandsOut}
+use Rattle.mw_law_store.specs.Late.MarkEffects.{HandsOut}
 use Rattle.mw_look.specs.declared.points.Point.{Point as ReadPoint}
 use Rattle.mw_look.specs.declared.points.Point.TheVariants.{Replied as RepliedOfRead}
 use Rattle.mw_look.specs.Program.{reply_at as read_reply_at}

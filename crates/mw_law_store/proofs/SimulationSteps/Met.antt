@@ -11,7 +11,7 @@ use Rattle.mw_words.specs.declared.statuses.Status.{Status}
 use Rattle.mw_lone.specs.declared.marks.Mark.{Mark}
 use Rattle.mw_lone.specs.declared.marks.Mark.TheVariants.{Look, Miss}
 use Rattle.mw_lone.specs.Store.{Store, run as run_of_store}
-use Rattle.mw_law_late.specs.LateMarks.{IsReservedFor}
+use Rattle.mw_law_store.specs.Late.LateMarks.{IsReservedFor}
 use Rattle.mw_look.specs.declared.points.Point.{Point as ReadPoint}
 use Rattle.mw_look.specs.declared.points.Point.TheVariants.{FindEntry, ReadExpected as ReadExpectedOfRead, ReadNew as ReadNewOfRead, RecheckWord}
 use Rattle.mw_look.specs.declared.points.Trail.{Trail}

@@ -34,9 +34,9 @@ use Rattle.mw_world.specs.Definition.History.{expected}
 use Rattle.mw_world.specs.Definition.Logical.{held_value}
 use Rattle.mw_world.specs.Definition.StepLabels.{read_label}
 use Rattle.mw_world.specs.Definition.State.{State, tenant_at}
-use Rattle.mw_law_counts.specs.Alone.{IsAloneWith}
-use Rattle.mw_law_counts.proofs.Room.{who-frees-is-alone}
-use Rattle.mw_law_moves.specs.Values.{value_told}
+use Rattle.mw_law_runs.specs.Counts.Alone.{IsAloneWith}
+use Rattle.mw_law_runs.proofs.Counts.Room.{who-frees-is-alone}
+use Rattle.mw_law_runs.specs.Moves.Values.{value_told}
 use Rattle.mw_law_runs.specs.Knowledge.Facts.{CameByPlanted}
 use Rattle.mw_law_runs.specs.Knowledge.Informed.{IsInformed, IsPointFor}
 use Rattle.mw_law_runs.specs.Obligations.{IsOwnerOf, IsUnfinished}

@@ -11,7 +11,7 @@ use Rattle.mw_world_file.specs.Files.{File, entries_at, entries_in, is_empty}
 use Rattle.mw_world.specs.declared.config.Config.{Config}
 use Rattle.mw_world.specs.Claim.Invariant.{IsInFile, placed}
 use Rattle.mw_world.specs.Definition.State.{State}
-use Rattle.mw_law_moves.specs.Guards.{IsLive}
+use Rattle.mw_law_runs.specs.Moves.Guards.{IsLive}
 use Rattle.mw_law_runs.specs.Knowledge.Facts.{IsKnown}
 use Rattle.mw_law_store.proofs.DecidedChangesFit.{decided_changes_fit}
 use Rattle.mw_law_store.proofs.ServiceLaws.{IsWithFactsWorld}

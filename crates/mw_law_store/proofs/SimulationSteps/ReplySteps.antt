@@ -18,8 +18,8 @@ use Rattle.mw_actor.specs.Asks.{asks}
 use Rattle.mw_world.specs.declared.config.Config.{Config}
 use Rattle.mw_world.specs.Definition.History.{History}
 use Rattle.mw_world.specs.Definition.State.{State}
-use Rattle.mw_law_moves.specs.Guards.{Guards}
-use Rattle.mw_law_moves.specs.StepMoves.{moves_told}
+use Rattle.mw_law_runs.specs.Moves.Guards.{Guards}
+use Rattle.mw_law_runs.specs.Moves.StepMoves.{moves_told}
 use Rattle.mw_law_runs.specs.Knowledge.Facts.{IsOver}
 use Rattle.mw_law_runs.specs.Knowledge.Informed.{ChangesAWord, IsInformed}
 use Rattle.mw_law_runs.specs.Knowledge.Points.{Knows, without_point}

@@ -8,12 +8,12 @@ use Rattle.std.proofs.lemmas.Option.{none-some}
 use Rattle.mw_lone.specs.declared.marks.Mark.{Mark}
 use Rattle.mw_lone.specs.declared.marks.Mark.TheVariants.{Restart as IsRestart}
 use Rattle.mw_lone.specs.Store.{Store, RequestState, request, new_store}
-use Rattle.mw_law_late.specs.MarkEffects.{Restarts}
+use Rattle.mw_law_store.specs.Late.MarkEffects.{Restarts}
 use Rattle.mw_world.specs.declared.config.Config.{Config}
 use Rattle.mw_world.specs.Definition.Events.{Found}
 use Rattle.mw_world.specs.Definition.Restarts.{restart, restarted, found_of, quota_then, under_way, interrupted_request, doubt_then, takes}
 use Rattle.mw_world.specs.Definition.State.{State, TenantState, TenantStart, started, marks_in, store_at, world_at}
-use Rattle.mw_law_counts.proofs.Startable.{may_start}
+use Rattle.mw_law_runs.proofs.Counts.Startable.{may_start}
 use Rattle.mw_law_runs.proofs.GuardedEvents.{guarded}
 use Rattle.mw_law_store.specs.Simulation.{start_of, IsSimulated, IsSimulatedBy, IsLegalTo}
 use Rattle.mw_law_store.specs.ReservedPlaces.{Reserved}

@@ -21,8 +21,8 @@ use Rattle.mw_actor.specs.RequestEnds.{gave_up, refusal}
 use Rattle.mw_world.specs.declared.config.Config.{Config}
 use Rattle.mw_world.specs.Definition.StepLabels.{give_up_label, label_of, release_label, resolve_label}
 use Rattle.mw_world.specs.Definition.State.{State}
-use Rattle.mw_law_moves.specs.Guards.{Guards}
-use Rattle.mw_law_moves.specs.StepMoves.{moves_told}
+use Rattle.mw_law_runs.specs.Moves.Guards.{Guards}
+use Rattle.mw_law_runs.specs.Moves.StepMoves.{moves_told}
 use Rattle.mw_law_runs.specs.Knowledge.Facts.{IsOwn}
 use Rattle.mw_law_runs.specs.Knowledge.Informed.{IsInformed}
 use Rattle.mw_law_runs.specs.Knowledge.Points.{without_point}

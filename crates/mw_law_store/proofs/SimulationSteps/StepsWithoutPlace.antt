@@ -5,8 +5,8 @@ use Rattle.std.specs.Prelude.{ℕ, ◌≡◌, ◌≢◌, true, false, Some, None
 use Rattle.std.proofs.Common.{refl, sym, ap, ◌∙◌}
 use Rattle.mw_lone.specs.declared.marks.Mark.{Mark}
 use Rattle.mw_lone.specs.Store.{Store, outgoing as outgoing_mark}
-use Rattle.mw_law_late.specs.MarkEffects.{Does}
-use Rattle.mw_law_late.specs.LateMarks.{more}
+use Rattle.mw_law_store.specs.Late.MarkEffects.{Does}
+use Rattle.mw_law_store.specs.Late.LateMarks.{more}
 use Rattle.mw_actor.specs.ActorState.{ActorState}
 use Rattle.mw_world.specs.declared.config.Config.{Config}
 use Rattle.mw_world.specs.Definition.Events.{WorldEvent}
@@ -15,7 +15,7 @@ use Rattle.mw_world.specs.Definition.State.{State, TenantState, TenantStart}
 use Rattle.mw_world.specs.Definition.Turns.{Made, moved}
 use Rattle.mw_world.specs.Definition.World.{outgoing}
 use Rattle.mw_law_runs.proofs.Knowledge.Updates.Preservation.{upd_here, upd_else}
-use Rattle.mw_law_moves.specs.Rely.{Rely}
+use Rattle.mw_law_runs.specs.Moves.Rely.{Rely}
 use Rattle.mw_law_runs.specs.RunInvariant.{IsSound}
 use Rattle.mw_law_runs.proofs.Obligations.Pins.{some_same}
 use Rattle.mw_law_store.proofs.Aside.{IsAside, moved_aside, owns_are_claimed}

@@ -34,9 +34,9 @@ use Rattle.mw_world.specs.Definition.Events.{Step as StepEvent}
 use Rattle.mw_world.specs.Definition.StepLabels.{label_of, read_label, read_point, door_label, inspect_label, resolve_label, release_label, give_up_label, answer_label}
 use Rattle.mw_world.specs.Definition.State.{State, WorkerState, TenantState, TenantStart}
 use Rattle.mw_world.specs.Definition.Turns.{turn, may_make, next_attempt}
-use Rattle.mw_law_moves.specs.Guards.{Guards}
-use Rattle.mw_law_moves.specs.Rely.{Rely}
-use Rattle.mw_law_moves.specs.StepMoves.{moves_told}
+use Rattle.mw_law_runs.specs.Moves.Guards.{Guards}
+use Rattle.mw_law_runs.specs.Moves.Rely.{Rely}
+use Rattle.mw_law_runs.specs.Moves.StepMoves.{moves_told}
 use Rattle.mw_law_runs.specs.Knowledge.Informed.{IsInformed, IsPointFor}
 use Rattle.mw_law_runs.specs.Knowledge.Points.{Knows}
 use Rattle.mw_law_runs.specs.Knowledge.NextState.{told}

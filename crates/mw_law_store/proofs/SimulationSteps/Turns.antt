@@ -13,8 +13,8 @@ use Rattle.mw_words.specs.Change.{word_at}
 use Rattle.mw_lone.specs.declared.marks.Mark.{Mark}
 use Rattle.mw_lone.specs.declared.marks.Mark.TheVariants.{Admit as IsAdmitted, Busy as IsBusy, GiveUp as GivesUpMark, Look, Miss, Retire}
 use Rattle.mw_lone.specs.Store.{Store, RequestState, request, entries_of, is_cas, outgoing as outgoing_mark}
-use Rattle.mw_law_late.specs.MarkEffects.{Retires}
-use Rattle.mw_law_late.specs.LateMarks.{more, IsReservedFor}
+use Rattle.mw_law_store.specs.Late.MarkEffects.{Retires}
+use Rattle.mw_law_store.specs.Late.LateMarks.{more, IsReservedFor}
 use Rattle.mw_look.specs.declared.observations.Observation.{Observation}
 use Rattle.mw_look.specs.declared.points.Point.{Point as ReadPoint}
 use Rattle.mw_look.specs.declared.points.Point.TheVariants.{FindEntry, ReadExpected as ReadExpectedOfRead, ReadNew as ReadNewOfRead, RecheckWord, LowerDoor as LowerOfRead}
@@ -36,7 +36,7 @@ use Rattle.mw_world.specs.Definition.Logical.{held_value}
 use Rattle.mw_world.specs.Definition.LabelEffects.{marked, with_labels, with_intent, more_unless, late_unless}
 use Rattle.mw_world.specs.Definition.State.{State, WorkerState, TenantState, TenantStart}
 use Rattle.mw_world.specs.Definition.Turns.{goes_on, moved_to, next_attempt}
-use Rattle.mw_law_moves.specs.Rely.{Rely}
+use Rattle.mw_law_runs.specs.Moves.Rely.{Rely}
 use Rattle.mw_law_runs.specs.Knowledge.Points.{Knows}
 use Rattle.mw_law_runs.proofs.Knowledge.Updates.Preservation.{upd_here, upd_else}
 use Rattle.mw_law_store.specs.Due.{Dropping, due, lowers, lowers_then, lowers_in_read, waits}

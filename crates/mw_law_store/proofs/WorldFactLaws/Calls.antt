@@ -28,7 +28,7 @@ use Rattle.mw_law_runs.specs.Knowledge.Calls.{told_of_call}
 use Rattle.mw_law_runs.specs.Knowledge.Informed.{IsInformed}
 use Rattle.mw_law_runs.proofs.Knowledge.Calls.CallGuards.{cancels, seal_guards}
 use Rattle.mw_law_runs.proofs.Knowledge.Updates.Preservation.{upd_here}
-use Rattle.mw_law_moves.specs.StepMoves.{next_of}
+use Rattle.mw_law_runs.specs.Moves.StepMoves.{next_of}
 use Rattle.mw_law_runs.specs.Obligations.{OneStepped}
 use Rattle.mw_law_runs.specs.RunInvariant.{IsSound}
 use Rattle.mw_law_runs.proofs.FileCalls.{calls_keep_sound, later, stepped}

@@ -13,10 +13,10 @@ use Rattle.mw_world.specs.declared.config.Config.{Config}
 use Rattle.mw_world.specs.Definition.History.{History}
 use Rattle.mw_world.specs.Definition.LabelEffects.{with_claim, with_status, left, with_fault_decided}
 use Rattle.mw_world.specs.Definition.State.{State, TenantState}
-use Rattle.mw_law_moves.specs.Guards.{Guard, Guards, MayClaim}
-use Rattle.mw_law_moves.specs.Memory.{Memory}
-use Rattle.mw_law_moves.specs.Moves.{Move, Claim, Prepare, SayYes, SayNo, Seal, Settle, Cancel, LeavePin, DecideFault, made, made_all}
-use Rattle.mw_law_moves.proofs.MovesKeepMemory.{move_keeps}
+use Rattle.mw_law_runs.specs.Moves.Guards.{Guard, Guards, MayClaim}
+use Rattle.mw_law_runs.specs.Moves.Memory.{Memory}
+use Rattle.mw_law_runs.specs.Moves.Moves.{Move, Claim, Prepare, SayYes, SayNo, Seal, Settle, Cancel, LeavePin, DecideFault, made, made_all}
+use Rattle.mw_law_runs.proofs.Moves.MovesKeepMemory.{move_keeps}
 
 -- The first four world facts, by what they speak of: which changes were claimed, for which FAULT is decided, and whose workers
 -- have left their pin; each one's status and tenant; and whose files have failed, and are up.

@@ -23,7 +23,7 @@ use Rattle.mw_actor.specs.Admission.{admitted}
 use Rattle.mw_actor.specs.Asks.{asks_at}
 use Rattle.mw_actor.specs.Program.{goes}
 use Rattle.mw_world.specs.Definition.History.{History}
-use Rattle.mw_law_counts.specs.Ready.{IsReady}
+use Rattle.mw_law_runs.specs.Counts.Ready.{IsReady}
 use Rattle.mw_law_runs.specs.Knowledge.Informed.{IsPointFor}
 use Rattle.mw_law_store.specs.WorldFacts.{HasSeenAt, is_inside, read_is_inside}
 

@@ -28,9 +28,9 @@ use Rattle.mw_law_runs.proofs.Knowledge.Updates.Preservation.{upd_two_here}
 use Rattle.mw_law_runs.proofs.Knowledge.Guards.UpdateGuards.{updates_have_guards}
 use Rattle.mw_law_runs.proofs.Knowledge.Guards.ReadGuards.{reads_have_guards}
 use Rattle.mw_law_runs.proofs.Knowledge.Reads.ByPoint.{reads_inform}
-use Rattle.mw_law_moves.specs.Guards.{Guards}
-use Rattle.mw_law_moves.specs.Rely.{Rely}
-use Rattle.mw_law_moves.specs.StepMoves.{give_up_moves, moves_at, moves_told, next_of, set_intent, read_moves, release_moves, resolve_moves}
+use Rattle.mw_law_runs.specs.Moves.Guards.{Guards}
+use Rattle.mw_law_runs.specs.Moves.Rely.{Rely}
+use Rattle.mw_law_runs.specs.Moves.StepMoves.{give_up_moves, moves_at, moves_told, next_of, set_intent, read_moves, release_moves, resolve_moves}
 use Rattle.mw_law_runs.specs.RunInvariant.{IsSound}
 use Rattle.mw_law_runs.proofs.StepEnds.{Ends, TurnEnds, turn_ends}
 use Rattle.mw_law_runs.proofs.Obligations.LastPins.{last_pins_are_free}

@@ -19,11 +19,11 @@ use Rattle.mw_world_file.specs.declared.outcomes.Outcome.TheVariants.{Good, Fail
 use Rattle.mw_world.specs.declared.config.Config.{Config}
 use Rattle.mw_world.specs.Definition.Calls.{Called, called_at, starts_from, fails_on}
 use Rattle.mw_world.specs.Definition.State.{State}
-use Rattle.mw_law_moves.specs.Guards.{Guards, IsLive}
-use Rattle.mw_law_moves.specs.Moves.{Move, made_all}
-use Rattle.mw_law_moves.specs.Rely.{Rely}
-use Rattle.mw_law_moves.specs.StepMoves.{moves_called, moves_of_call, status_moves, call_observation, next_of, set_intent}
-use Rattle.mw_law_moves.proofs.Relied.{others_rely_on_all}
+use Rattle.mw_law_runs.specs.Moves.Guards.{Guards, IsLive}
+use Rattle.mw_law_runs.specs.Moves.Moves.{Move, made_all}
+use Rattle.mw_law_runs.specs.Moves.Rely.{Rely}
+use Rattle.mw_law_runs.specs.Moves.StepMoves.{moves_called, moves_of_call, status_moves, call_observation, next_of, set_intent}
+use Rattle.mw_law_runs.proofs.Moves.Relied.{others_rely_on_all}
 use Rattle.mw_law_runs.specs.Knowledge.Facts.{IsReadied}
 use Rattle.mw_law_runs.specs.Knowledge.Informed.{IsInformed}
 use Rattle.mw_law_runs.specs.Knowledge.Points.{Knows, without_point}

@@ -28,9 +28,9 @@ use Rattle.mw_world.specs.Definition.Calls.{Called, called_at, starts_from, fail
 use Rattle.mw_world.specs.Definition.History.{NoAttempt, AttemptIn, Idle, Permitted, StandingAttempt, HoldPermission, has, entry_for, standing_at, permission_at}
 use Rattle.mw_world.specs.Claim.Invariant.{IsEntryOf}
 use Rattle.mw_world.specs.Definition.State.{State}
-use Rattle.mw_law_moves.specs.Guards.{Guards, IsLive, MayPrepare, MaySetIntent, MaySetDoor}
-use Rattle.mw_law_moves.specs.Moves.{Prepare as PrepareMove, Seal as SealMove, Settle as SettleMove, Cancel as CancelMove, SetDoor, DecideFault, made}
-use Rattle.mw_law_moves.specs.StepMoves.{faulted, moves_called, moves_of_call, status_moves, set_intent}
+use Rattle.mw_law_runs.specs.Moves.Guards.{Guards, IsLive, MayPrepare, MaySetIntent, MaySetDoor}
+use Rattle.mw_law_runs.specs.Moves.Moves.{Prepare as PrepareMove, Seal as SealMove, Settle as SettleMove, Cancel as CancelMove, SetDoor, DecideFault, made}
+use Rattle.mw_law_runs.specs.Moves.StepMoves.{faulted, moves_called, moves_of_call, status_moves, set_intent}
 use Rattle.mw_law_runs.specs.Knowledge.Facts.{WorksOn}
 use Rattle.mw_law_runs.specs.Knowledge.Informed.{IsInformed}
 use Rattle.mw_law_runs.specs.Knowledge.Points.{without_point}

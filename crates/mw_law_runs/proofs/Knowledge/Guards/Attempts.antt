@@ -22,9 +22,9 @@ use Rattle.mw_world_file.specs.Maps.{upd_two}
 use Rattle.mw_world.specs.declared.config.Config.{Config}
 use Rattle.mw_world.specs.Definition.History.{StandingAttempt, NoAttempt, AttemptIn, HoldPermission, Idle, Permitted, own_attempt, permitted_if, standing_at, permission_at}
 use Rattle.mw_world.specs.Definition.State.{State}
-use Rattle.mw_law_moves.specs.Guards.{IsLive, MaySetIntent, MayPermit}
-use Rattle.mw_law_moves.specs.Memory.{Memory}
-use Rattle.mw_law_moves.specs.Moves.{Plant, made}
+use Rattle.mw_law_runs.specs.Moves.Guards.{IsLive, MaySetIntent, MayPermit}
+use Rattle.mw_law_runs.specs.Moves.Memory.{Memory}
+use Rattle.mw_law_runs.specs.Moves.Moves.{Plant, made}
 use Rattle.mw_law_runs.specs.Knowledge.Facts.{AtEntry, IsForChangeAt}
 use Rattle.mw_law_runs.specs.Knowledge.Points.{without_point}
 use Rattle.mw_law_runs.proofs.Knowledge.Guards.Memory.{status_told, word_here}

@@ -19,11 +19,11 @@ use Rattle.mw_actor.specs.declared.points.Slot.{Slot}
 use Rattle.mw_actor.specs.declared.points.Task.{Task}
 use Rattle.mw_actor.specs.ActorState.{entries_of_job, is_alone}
 use Rattle.mw_actor.specs.Balance.{task_pins}
-use Rattle.mw_law_requests.proofs.StageLaws.{both_same}
+use Rattle.mw_law_runs.proofs.Requests.StageLaws.{both_same}
 use Rattle.mw_world.specs.declared.config.Config.{Config}
 use Rattle.mw_world.specs.Definition.State.{State, tenant_at, tenants_of}
-use Rattle.mw_law_moves.specs.Guards.{IsLive, MaySetDoor, MayClaim, MayPin, MayFree}
-use Rattle.mw_law_moves.specs.StepMoves.{lowered}
+use Rattle.mw_law_runs.specs.Moves.Guards.{IsLive, MaySetDoor, MayClaim, MayPin, MayFree}
+use Rattle.mw_law_runs.specs.Moves.StepMoves.{lowered}
 use Rattle.mw_law_runs.specs.Knowledge.Informed.{IsPointFor}
 
 true_false : {b : Bool} → b ≡ true → b ≡ false → ⊥

@@ -38,7 +38,7 @@ use Rattle.mw_actor.specs.Program.{goes}
 use Rattle.mw_actor.specs.ReleasePhase.{sweep_over, next_sweep, held_swept, dirty_swept, attempt_swept, swept}
 use Rattle.mw_world.specs.Definition.History.{NoAttempt, AttemptIn, Idle, Permitted, standing_at, permission_at}
 use Rattle.mw_world.specs.Definition.State.{State}
-use Rattle.mw_law_moves.specs.Guards.{MaySetIntent}
+use Rattle.mw_law_runs.specs.Moves.Guards.{MaySetIntent}
 
 pub rests_not : {tenant address number : ℕ} → NoAttempt ≡ AttemptIn tenant address number → ⊥
 rests_not e = cc

@@ -21,11 +21,11 @@ use Rattle.mw_world.specs.Definition.History.{has, new, expected, entry_for}
 use Rattle.mw_world.specs.Claim.Invariant.{HasWord}
 use Rattle.mw_world.specs.Claim.Obligations.{IsEntryAt, IsFrom}
 use Rattle.mw_world.specs.Definition.State.{State, tenant_at}
-use Rattle.mw_law_moves.specs.Guards.{IsLive}
-use Rattle.mw_law_moves.specs.Memory.{Memory}
-use Rattle.mw_law_moves.proofs.EntryValues.{entry_found}
-use Rattle.mw_law_counts.specs.CountInvariant.{CountsStand}
-use Rattle.mw_law_counts.proofs.Sums.{over_at, of_actor}
+use Rattle.mw_law_runs.specs.Moves.Guards.{IsLive}
+use Rattle.mw_law_runs.specs.Moves.Memory.{Memory}
+use Rattle.mw_law_runs.proofs.Moves.EntryValues.{entry_found}
+use Rattle.mw_law_runs.specs.Counts.CountInvariant.{CountsStand}
+use Rattle.mw_law_runs.proofs.Counts.Sums.{over_at, of_actor}
 use Rattle.mw_law_runs.specs.Knowledge.Facts.{IsKnown, AtEntry}
 use Rattle.mw_law_runs.specs.Knowledge.Points.{without_point}
 

@@ -21,9 +21,9 @@ use Rattle.mw_look.specs.declared.steps.Shape.TheVariants.{Exchange, Store, Fetc
 use Rattle.mw_world.specs.Definition.History.{NoAttempt, Idle}
 use Rattle.mw_world.specs.Definition.State.{State}
 use Rattle.mw_world.specs.Definition.Turns.{next_attempt}
-use Rattle.mw_law_moves.specs.Guards.{Guards, MaySetIntent}
-use Rattle.mw_law_moves.specs.Moves.{SkipNumber, SetIntent, made}
-use Rattle.mw_law_moves.specs.StepMoves.{read_moves, give_up_moves, moves_told, next_of}
+use Rattle.mw_law_runs.specs.Moves.Guards.{Guards, MaySetIntent}
+use Rattle.mw_law_runs.specs.Moves.Moves.{SkipNumber, SetIntent, made}
+use Rattle.mw_law_runs.specs.Moves.StepMoves.{read_moves, give_up_moves, moves_told, next_of}
 use Rattle.mw_law_runs.specs.Knowledge.Informed.{IsInformed, ChangesNoWord}
 use Rattle.mw_law_runs.specs.Knowledge.MoveGuards.{ReadsHaveGuards}
 use Rattle.mw_law_runs.proofs.Knowledge.Guards.Attempts.{gone_here, may_resolve, confirmed_rests}

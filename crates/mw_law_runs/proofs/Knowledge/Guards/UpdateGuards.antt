@@ -30,11 +30,11 @@ use Rattle.mw_world.specs.Definition.History.{NoAttempt, AttemptIn, standing_at,
 use Rattle.mw_world.specs.Claim.Invariant.{IsOfWorker}
 use Rattle.mw_world.specs.Definition.State.{State, tenant_at}
 use Rattle.mw_world.specs.Definition.Turns.{next_attempt, may_make}
-use Rattle.mw_law_moves.specs.Guards.{Guards, MaySetIntent}
-use Rattle.mw_law_moves.specs.Moves.{SetDoor, FillStatus as StatusMove, FillCount as CountMove, FillAddr as AddrMove, FillExpected as ExpectedMove, FillNew as NewMove, SetRow, Claim as ClaimMove, Pin, Unpin as UnpinMove, Free, SayYes, SayNo, TakeBack, Hold, WriteNew, LetGo, Clean as CleanMove, made}
-use Rattle.mw_law_moves.specs.StepMoves.{lowered, moves_told, next_of}
-use Rattle.mw_law_counts.specs.CountInvariant.{CountsStand}
-use Rattle.mw_law_counts.proofs.Room.{who-frees-is-alone}
+use Rattle.mw_law_runs.specs.Moves.Guards.{Guards, MaySetIntent}
+use Rattle.mw_law_runs.specs.Moves.Moves.{SetDoor, FillStatus as StatusMove, FillCount as CountMove, FillAddr as AddrMove, FillExpected as ExpectedMove, FillNew as NewMove, SetRow, Claim as ClaimMove, Pin, Unpin as UnpinMove, Free, SayYes, SayNo, TakeBack, Hold, WriteNew, LetGo, Clean as CleanMove, made}
+use Rattle.mw_law_runs.specs.Moves.StepMoves.{lowered, moves_told, next_of}
+use Rattle.mw_law_runs.specs.Counts.CountInvariant.{CountsStand}
+use Rattle.mw_law_runs.proofs.Counts.Room.{who-frees-is-alone}
 use Rattle.mw_law_runs.specs.Knowledge.Informed.{IsInformed, ChangesAWord}
 use Rattle.mw_law_runs.specs.Knowledge.LastPins.{MayLeave}
 use Rattle.mw_law_runs.specs.Knowledge.MoveGuards.{UpdatesHaveGuards}

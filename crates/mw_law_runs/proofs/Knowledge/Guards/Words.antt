@@ -21,8 +21,8 @@ use Rattle.mw_world.specs.declared.step_labels.Phase.TheVariants.{Acquired}
 use Rattle.mw_world.specs.Definition.History.{NoAttempt, has, expected}
 use Rattle.mw_world.specs.Claim.Invariant.{IsPinnedAs, IsRefused}
 use Rattle.mw_world.specs.Definition.State.{State}
-use Rattle.mw_law_moves.specs.Guards.{IsLive, IsDraftOf, MaySetRow, MaySayYes, MaySayNo, MayPlant, MayTakeBack, MayWriteNew, MayLetGo, MayClean}
-use Rattle.mw_law_moves.specs.Memory.{Memory}
+use Rattle.mw_law_runs.specs.Moves.Guards.{IsLive, IsDraftOf, MaySetRow, MaySayYes, MaySayNo, MayPlant, MayTakeBack, MayWriteNew, MayLetGo, MayClean}
+use Rattle.mw_law_runs.specs.Moves.Memory.{Memory}
 use Rattle.mw_law_runs.specs.Knowledge.Facts.{IsDrafted, WorksOn, AtEntry, HoldsUpTo, IsDecidedAs, IsForChangeAt}
 use Rattle.mw_law_runs.specs.Knowledge.Points.{without_point}
 use Rattle.mw_law_runs.proofs.Knowledge.Guards.Memory.{index_of, status_told, slot_there, new_here, expected_here, entry_here, word_here}

@@ -12,8 +12,8 @@ use Rattle.mw_actor.specs.ActorState.{ActorState, own_entries, entry_at, is_alon
 use Rattle.mw_actor.specs.Help.{count_read, addr_read, expected_read, next_read, new_read}
 use Rattle.mw_world.specs.declared.config.Config.{Config}
 use Rattle.mw_world.specs.Definition.State.{State}
-use Rattle.mw_law_moves.specs.Guards.{IsLive}
-use Rattle.mw_law_moves.specs.Memory.{Memory}
+use Rattle.mw_law_runs.specs.Moves.Guards.{IsLive}
+use Rattle.mw_law_runs.specs.Moves.Memory.{Memory}
 use Rattle.mw_law_runs.specs.Knowledge.Facts.{IsAtWork, WorksOn, AreFirstOf, HasRead, next_of_others}
 use Rattle.mw_law_runs.specs.Knowledge.Points.{Knows, without_point}
 use Rattle.mw_law_runs.proofs.Knowledge.Reads.Memory.{count_told, entry_told, has_entry}

@@ -23,13 +23,13 @@ use Rattle.mw_actor.specs.ActorState.{ActorState, entries_of, entry_at, entry_of
 use Rattle.mw_actor.specs.RequestEnds.{gives_up}
 use Rattle.mw_actor.specs.Help.{helps}
 use Rattle.mw_actor.specs.Inspection.{status_read, next_word, attempts, dirty_seen, inspected, attempt_met, attempt_confirmed, dirty_confirmed}
-use Rattle.mw_law_requests.proofs.StageLaws.{both_same}
+use Rattle.mw_law_runs.proofs.Requests.StageLaws.{both_same}
 use Rattle.mw_world.specs.declared.config.Config.{Config}
 use Rattle.mw_world.specs.declared.step_labels.Phase.TheVariants.{Acquired}
 use Rattle.mw_world.specs.Definition.History.{NoAttempt, AttemptIn}
 use Rattle.mw_world.specs.Claim.Invariant.{IsRefused}
 use Rattle.mw_world.specs.Definition.State.{State}
-use Rattle.mw_law_moves.specs.Memory.{Memory}
+use Rattle.mw_law_runs.specs.Moves.Memory.{Memory}
 use Rattle.mw_law_runs.specs.Knowledge.Facts.{MayBeMet, WorksOn, AtEntry, HoldsUpTo, phase_at, IsDecidedAs, IsSweptUpTo, Sweeps, IsAnothers, IsForChangeAt}
 use Rattle.mw_law_runs.specs.Knowledge.Points.{Knows, without_point}
 use Rattle.mw_law_runs.proofs.Knowledge.Reads.Memory.{has_entry, held_met, planted_met, dirty_met}

@@ -17,9 +17,9 @@ use Rattle.mw_world.specs.declared.step_labels.Phase.TheVariants.{Fresh, Acquire
 use Rattle.mw_world.specs.Definition.History.{has, new, entry_for}
 use Rattle.mw_world.specs.Claim.Invariant.{IsPinnedAs, HasWord, IsEntryOf, IsMade}
 use Rattle.mw_world.specs.Definition.State.{State, tenant_at}
-use Rattle.mw_law_moves.specs.Guards.{IsLive}
-use Rattle.mw_law_moves.specs.Memory.{Memory}
-use Rattle.mw_law_moves.proofs.EntryValues.{entry_found}
+use Rattle.mw_law_runs.specs.Moves.Guards.{IsLive}
+use Rattle.mw_law_runs.specs.Moves.Memory.{Memory}
+use Rattle.mw_law_runs.proofs.Moves.EntryValues.{entry_found}
 use Rattle.mw_law_runs.specs.Knowledge.Facts.{IsKnown, MayBeMet}
 
 addresses_rise : (words : ℕ) (entries : List Entry) → is_change words entries ≡ true → rises_from 0 entries ≡ true

@@ -24,7 +24,7 @@ use Rattle.mw_world.specs.declared.config.Config.{Config}
 use Rattle.mw_world.specs.declared.step_labels.Phase.TheVariants.{Fresh, Acquired}
 use Rattle.mw_look.specs.declared.steps.Shape.TheVariants.{Exchange, Store, Fetch}
 use Rattle.mw_world.specs.Definition.State.{State}
-use Rattle.mw_law_moves.specs.Memory.{Memory}
+use Rattle.mw_law_runs.specs.Moves.Memory.{Memory}
 use Rattle.mw_law_runs.specs.Knowledge.Facts.{IsKnown, CameBy}
 use Rattle.mw_law_runs.specs.Knowledge.Informed.{ChangesNoWord}
 use Rattle.mw_law_runs.specs.Knowledge.Points.{ReadKnows, Confirms}

@@ -18,15 +18,15 @@ use Rattle.mw_actor.specs.declared.points.Sweep.TheVariants.{Yes as SweepYes, Do
 use Rattle.mw_actor.specs.declared.points.Task.{Task}
 use Rattle.mw_actor.specs.ActorState.{ActorState, entries_of, entry_at, entry_of, same_slot, planted}
 use Rattle.mw_actor.specs.RequestEnds.{refusal}
-use Rattle.mw_law_requests.proofs.StageLaws.{both_same}
+use Rattle.mw_law_runs.proofs.Requests.StageLaws.{both_same}
 use Rattle.mw_actor.specs.ReleasePhase.{sweep_over, next_sweep, attempt_swept, swept, sweep_confirmed}
 use Rattle.mw_world.specs.declared.config.Config.{Config}
 use Rattle.mw_world.specs.declared.step_labels.Phase.TheVariants.{Fresh, Acquired}
 use Rattle.mw_world.specs.Definition.History.{new}
 use Rattle.mw_world.specs.Claim.Invariant.{IsMade}
 use Rattle.mw_world.specs.Definition.State.{State}
-use Rattle.mw_law_moves.specs.Guards.{IsLive}
-use Rattle.mw_law_moves.specs.Memory.{Memory}
+use Rattle.mw_law_runs.specs.Moves.Guards.{IsLive}
+use Rattle.mw_law_runs.specs.Moves.Memory.{Memory}
 use Rattle.mw_law_runs.specs.Knowledge.Facts.{WorksOn, phase_at, IsDecidedAs, IsSweptUpTo, Sweeps, Releases, LooksInto, IsOver, IsForChangeAt}
 use Rattle.mw_law_runs.specs.Knowledge.Points.{Knows, without_point}
 use Rattle.mw_law_runs.proofs.Knowledge.Reads.Memory.{was_let_go, new_at}

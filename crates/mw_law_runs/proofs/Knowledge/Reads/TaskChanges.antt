@@ -15,7 +15,7 @@ use Rattle.mw_actor.specs.declared.points.Task.{Task}
 use Rattle.mw_actor.specs.ActorState.{ActorState, own_entries, is_alone, alone, same_slot}
 use Rattle.mw_actor.specs.RequestEnds.{works, resumed, gives_up, finishes}
 use Rattle.mw_actor.specs.Help.{turns_to, helps}
-use Rattle.mw_law_requests.proofs.StageLaws.{both_same}
+use Rattle.mw_law_runs.proofs.Requests.StageLaws.{both_same}
 use Rattle.mw_world.specs.Definition.State.{State}
 use Rattle.mw_law_runs.specs.Knowledge.Facts.{IsKnown, MayBeMet, IsReadied, IsAtWork, WorksOn, IsOver, Follows}
 use Rattle.mw_law_runs.specs.Knowledge.Points.{Knows, without_point}

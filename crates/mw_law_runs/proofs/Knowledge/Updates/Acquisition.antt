@@ -16,12 +16,12 @@ use Rattle.mw_actor.specs.declared.points.Slot.{Slot}
 use Rattle.mw_actor.specs.declared.points.Task.{Task}
 use Rattle.mw_actor.specs.ActorState.{ActorState}
 use Rattle.mw_actor.specs.Asks.{row_of}
-use Rattle.mw_law_requests.proofs.StageLaws.{goes_leads}
+use Rattle.mw_law_runs.proofs.Requests.StageLaws.{goes_leads}
 use Rattle.mw_world_file.specs.Maps.{upd}
 use Rattle.mw_world.specs.declared.config.Config.{Config}
 use Rattle.mw_world.specs.Definition.State.{State, WorkerState}
-use Rattle.mw_law_moves.specs.Guards.{Guards, IsLive}
-use Rattle.mw_law_moves.specs.StepMoves.{moves_told}
+use Rattle.mw_law_runs.specs.Moves.Guards.{Guards, IsLive}
+use Rattle.mw_law_runs.specs.Moves.StepMoves.{moves_told}
 use Rattle.mw_law_runs.specs.Knowledge.Facts.{IsKnown, IsAtWork}
 use Rattle.mw_law_runs.specs.Knowledge.Informed.{IsInformed}
 use Rattle.mw_law_runs.specs.Knowledge.Live.{IsLiveTask, AreLiveAt}

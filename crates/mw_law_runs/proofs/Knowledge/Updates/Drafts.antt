@@ -24,9 +24,9 @@ use Rattle.mw_world.specs.Definition.Cells.{Cells}
 use Rattle.mw_world.specs.Definition.History.{StandingAttempt, HoldPermission}
 use Rattle.mw_world.specs.Claim.Invariant.{IsEntryOf}
 use Rattle.mw_world.specs.Definition.State.{State}
-use Rattle.mw_law_moves.specs.Guards.{IsLive}
-use Rattle.mw_law_moves.proofs.Phases.{claimed_draft}
-use Rattle.mw_law_counts.specs.CountInvariant.{CountsStand}
+use Rattle.mw_law_runs.specs.Moves.Guards.{IsLive}
+use Rattle.mw_law_runs.proofs.Moves.Phases.{claimed_draft}
+use Rattle.mw_law_runs.specs.Counts.CountInvariant.{CountsStand}
 use Rattle.mw_law_runs.specs.Knowledge.Facts.{IsDrafted, IsWritten}
 use Rattle.mw_law_runs.specs.Knowledge.Informed.{IsInformed, IsPointFor}
 use Rattle.mw_law_runs.specs.Knowledge.Live.{AreLive}

@@ -1,8 +1,7 @@
 -- A step of any worker keeps what a request knows, if it keeps the request's pinned slots and the request's own. The latter
 -- (`KeepsOwn`) is its pin, its draft, its worker's row and next attempt number.
 -- Used by: KnowledgeOverSteps, ArrivalsAndStarts, FileCalls, Knowledge/Calls/AfterCalls, Knowledge/Updates/Acquisition, other
--- pages, mw_law_store, mw_law_calls, mw_rule. Its statements may change with mw_law_store, mw_law_calls and mw_rule; its proofs
--- may change freely.
+-- pages, mw_law_store, mw_rule. Its statements may change with mw_law_store and mw_rule; its proofs may change freely.
 use Rattle.std.specs.Prelude.{ℕ, ◌≡◌, ◌≢◌, ◌≤◌, ◌+◌, Bool, true}
 use Rattle.std.proofs.Common.{ap, ◌∙◌, arith}
 use Rattle.std.proofs.lemmas.Bool.Decides.{nat_tests}
@@ -17,12 +16,12 @@ use Rattle.mw_world_file.specs.Maps.{upd, upd_two, upd_three}
 use Rattle.mw_world.specs.declared.config.Config.{Config}
 use Rattle.mw_world.specs.Definition.Counts.{pins_held, frees_at}
 use Rattle.mw_world.specs.Definition.State.{State}
-use Rattle.mw_law_moves.specs.Guards.{Guards, IsLive}
-use Rattle.mw_law_moves.specs.Memory.{Memory}
-use Rattle.mw_law_moves.specs.Rely.{Rely}
-use Rattle.mw_law_moves.specs.StepMoves.{moves_told}
-use Rattle.mw_law_moves.proofs.MovesKeepMemory.{moves_keep}
-use Rattle.mw_law_moves.proofs.Relied.{others_rely_on_all}
+use Rattle.mw_law_runs.specs.Moves.Guards.{Guards, IsLive}
+use Rattle.mw_law_runs.specs.Moves.Memory.{Memory}
+use Rattle.mw_law_runs.specs.Moves.Rely.{Rely}
+use Rattle.mw_law_runs.specs.Moves.StepMoves.{moves_told}
+use Rattle.mw_law_runs.proofs.Moves.MovesKeepMemory.{moves_keep}
+use Rattle.mw_law_runs.proofs.Moves.Relied.{others_rely_on_all}
 use Rattle.mw_law_runs.specs.Knowledge.OwnKnowledge.{KeepsOwn}
 use Rattle.mw_law_runs.specs.Knowledge.Laws.{StaysTaken}
 use Rattle.mw_law_runs.specs.Knowledge.Points.{without_point}

@@ -13,8 +13,8 @@ use Rattle.mw_world.specs.declared.config.Config.{Config}
 use Rattle.mw_world.specs.declared.step_labels.Phase.{Phase}
 use Rattle.mw_world.specs.declared.step_labels.Phase.TheVariants.{Fresh, Acquired, Written}
 use Rattle.mw_world.specs.Definition.State.{State}
-use Rattle.mw_law_moves.specs.Guards.{Guards}
-use Rattle.mw_law_moves.specs.StepMoves.{moves_told}
+use Rattle.mw_law_runs.specs.Moves.Guards.{Guards}
+use Rattle.mw_law_runs.specs.Moves.StepMoves.{moves_told}
 use Rattle.mw_law_runs.specs.Knowledge.Facts.{phase_at}
 use Rattle.mw_law_runs.specs.Knowledge.Informed.{IsInformed}
 use Rattle.mw_law_runs.specs.Knowledge.Points.{without_point}

@@ -23,12 +23,12 @@ use Rattle.mw_actor.specs.Balance.{pins_after}
 use Rattle.mw_world.specs.declared.config.Config.{Config}
 use Rattle.mw_world.specs.Definition.Counts.{pins_held, frees_at}
 use Rattle.mw_world.specs.Definition.State.{State}
-use Rattle.mw_law_moves.specs.Guards.{Guards}
-use Rattle.mw_law_moves.specs.Rely.{Rely}
-use Rattle.mw_law_moves.specs.StepMoves.{moves_told}
-use Rattle.mw_law_counts.specs.CountInvariant.{CountsStand}
-use Rattle.mw_law_counts.specs.Alone.{IsAloneWith}
-use Rattle.mw_law_counts.proofs.Room.{who-frees-is-alone}
+use Rattle.mw_law_runs.specs.Moves.Guards.{Guards}
+use Rattle.mw_law_runs.specs.Moves.Rely.{Rely}
+use Rattle.mw_law_runs.specs.Moves.StepMoves.{moves_told}
+use Rattle.mw_law_runs.specs.Counts.CountInvariant.{CountsStand}
+use Rattle.mw_law_runs.specs.Counts.Alone.{IsAloneWith}
+use Rattle.mw_law_runs.proofs.Counts.Room.{who-frees-is-alone}
 use Rattle.mw_law_runs.specs.Knowledge.Facts.{Follows}
 use Rattle.mw_law_runs.specs.Knowledge.Informed.{IsInformed}
 use Rattle.mw_law_runs.specs.Knowledge.Live.{AreLive}

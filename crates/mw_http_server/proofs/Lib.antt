@@ -1,2 +1,0 @@
-mod ExchangeLaws
-mod ClientLaws

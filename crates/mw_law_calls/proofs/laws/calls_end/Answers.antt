@@ -1,7 +1,0 @@
--- Proves the law `calls_end` (src/laws.rt): after every run a call ends by a step on one shared word, which is its event. Used
--- by: that law alone. It may change freely as long as this crate checks.
-use Rattle.mw_law_calls.proofs.CallEndLaws.{calls_end_well, calls_find_faults, calls_meet_faults, calls_skip}
-use Rattle.mw_law_calls.proofs.laws.calls_end.Goals as goal
-
-pub returns : goal.returns
-returns c = record { skip = calls_skip; well = calls_end_well; meet_faults = calls_meet_faults; find_faults = calls_find_faults }

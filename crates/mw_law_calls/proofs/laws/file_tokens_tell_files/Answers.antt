@@ -1,7 +1,0 @@
--- Proves the law `file_tokens_tell_files` (src/laws.rt): a file token tells of each call on the file which place it is about,
--- and whether it can be made. Used by: that law alone. It may change freely as long as this crate checks.
-use Rattle.mw_law_calls.proofs.TokensTellCalls.{file_tokens_tell_calls, file_tokens_tell_files, file_tokens_tell_opened_files}
-use Rattle.mw_law_calls.proofs.laws.file_tokens_tell_files.Goals as goal
-
-pub returns : goal.returns
-returns c = record { calls = file_tokens_tell_calls; files = file_tokens_tell_files; opened = file_tokens_tell_opened_files }

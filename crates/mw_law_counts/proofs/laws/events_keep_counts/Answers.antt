@@ -1,7 +1,0 @@
--- Proves the law `events_keep_counts` (src/laws.rt): every event keeps the invariant of counts (`CountsStand`), if
--- `CountsRestOn` holds before the event. Used by: that law alone. It may change freely as long as this crate checks.
-use Rattle.mw_law_counts.proofs.RunsKeepCounts.{step_keeps}
-use Rattle.mw_law_counts.proofs.laws.events_keep_counts.Goals as goal
-
-pub returns : goal.returns
-returns c = step_keeps

@@ -1,5 +1,0 @@
-pub mod AskedRequests
-pub mod DurableLaws
-pub mod EngineStarts
-pub mod FoundChanges
-pub mod Stakes

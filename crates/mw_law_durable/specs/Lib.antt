@@ -1,2 +1,0 @@
-pub mod Durable
-pub mod Starts

@@ -1,2 +1,0 @@
-pub mod AnswerMoments
-pub mod OneHistory

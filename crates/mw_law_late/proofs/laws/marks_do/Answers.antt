@@ -1,7 +1,0 @@
--- Proves the law `marks_do` (src/laws.rt): each mark is legal exactly under the conditions that `Does` lists for it, and leaves
--- the store that `Does` lists for it. Used by: that law alone. It may change freely as long as this crate checks.
-use Rattle.mw_law_late.proofs.MarkEffectLaws.{marks-do, doing-marks}
-use Rattle.mw_law_late.proofs.laws.marks_do.Goals as goal
-
-pub returns : goal.returns
-returns c = record { does = marks-do; legal = doing-marks }

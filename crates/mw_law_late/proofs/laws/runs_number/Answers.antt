@@ -1,7 +1,0 @@
--- Proves the law `runs_number` (src/laws.rt): after every legal run from a new store each request has a number below the next
--- one. Used by: that law alone. It may change freely as long as this crate checks.
-use Rattle.mw_law_late.proofs.RequestNumbers.{runs-number}
-use Rattle.mw_law_late.proofs.laws.runs_number.Goals as goal
-
-pub returns : goal.returns
-returns c = runs-number

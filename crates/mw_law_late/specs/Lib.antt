@@ -1,4 +1,0 @@
-pub mod MarkEffects
-pub mod Examples
-pub mod LateMarks
-pub mod Laws

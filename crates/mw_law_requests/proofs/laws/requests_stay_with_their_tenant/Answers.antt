@@ -1,7 +1,0 @@
--- Proves the law `requests_stay_with_their_tenant` (src/laws.rt): a request names no door and no word of another tenant. Used
--- by: that law alone. It may change freely as long as this crate checks.
-use Rattle.mw_law_requests.proofs.RunLaws.{requests-stay-with-their-tenant}
-use Rattle.mw_law_requests.proofs.laws.requests_stay_with_their_tenant.Goals as goal
-
-pub returns : goal.returns
-returns c = requests-stay-with-their-tenant

@@ -1,0 +1,25 @@
+-- The proofs of what each move, an elementary change of the shared words, keeps. This page only lists its modules.
+pub mod CallMoves
+pub mod StatusChanges
+pub mod DoorAndEntryChanges
+pub mod EntryValues
+pub mod GateChanges
+pub mod WordChanges
+pub mod MovesKeepMemory
+pub mod RowAndPinChanges
+pub mod Phases
+pub mod AttemptChanges
+pub mod Ranges
+pub mod Relied
+pub mod RelyingOnDecisions
+pub mod RelyingOnFills
+pub mod RelyingOnGates
+pub mod RelyingOnWords
+pub mod ValuesOverMoves
+pub mod Shared
+pub mod MemoryAtStart
+pub mod StepsKeepMemory
+pub mod WorkerPermissions
+pub mod TurnMoves
+pub mod ValuesOverTurns
+pub mod ValuesFromHistory

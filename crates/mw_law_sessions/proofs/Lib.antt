@@ -1,2 +1,0 @@
-pub mod SessionChangeLaws
-pub mod SessionMomentLaws

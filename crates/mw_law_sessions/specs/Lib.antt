@@ -1,2 +1,0 @@
-pub mod SessionChanges
-pub mod SessionMoments

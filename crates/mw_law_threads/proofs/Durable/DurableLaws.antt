@@ -1,0 +1,355 @@
+-- A crash leaves of a tenant's file the words of the latest start with whole changes put over them. If a pass was answered YES, its
+-- change is one of these; if it was answered otherwise, its change is there wholly or not at all.
+-- Used by: the laws of src/durable_laws.rt, mw_law_threads. It may change freely as long as both crates check.
+use Rattle.std.specs.Prelude.{ℕ, zero, suc, ◌≡◌, ◌<◌, ◌++◌, List, [], ◌∷◌, map, slice_get, Option, Some}
+use Rattle.std.proofs.Common.{refl, sym, ap, subst, ◌∙◌, inl, inr, append_assoc}
+use Rattle.std.proofs.lemmas.Option.{none-some}
+use Rattle.atomic_table.specs.Table.{State as Table}
+use Rattle.mw_actor.specs.ActorState.{ActorState}
+use mathlib.Core.Option.{some}
+use lib.ListN.{get_elem?}
+use Rattle.mw_words.specs.declared.jobs.Entry.{Entry}
+use Rattle.mw_words.specs.declared.jobs.Job.{Job}
+use Rattle.mw_words.specs.declared.replies.Reply.{Reply}
+use Rattle.mw_words.specs.declared.replies.Reply.TheVariants.{Yes as SaysYes}
+use Rattle.mw_lone.specs.Store.{entries_of}
+use Rattle.mw_disk.specs.Facts.{Facts}
+use Rattle.mw_world.specs.declared.config.Config.{Config}
+use Rattle.mw_world.specs.Claim.Headline.{IsExecution}
+use Rattle.mw_world.specs.Definition.Events.{WorldEvent}
+use Rattle.mw_world.specs.Definition.State.{State, TenantStart, tenants_of}
+use Rattle.mw_law_store.specs.History.{IsNoStart}
+use Rattle.mw_law_threads.specs.Whole.WholeChanges.{IsAskedChange, IsAskedFor, IsWholeChange}
+use Rattle.mw_law_threads.proofs.Whole.WholeChangeLaws.{requests_ask_for_one_change, sealed_changes_are_whole}
+use Rattle.mw_rule.specs.Calls.FileTokens.{TellsFile}
+use Rattle.mw_rule.specs.FromLaws.{AreNoStarts, IsBeginning, SealedChange, put_sealed, sealed_of}
+use Rattle.mw_rule.proofs.FromLaws.{sealed_are_right}
+use Rattle.mw_rule.specs.KnownRuns.{KnownRun, ExtendsKnownRun, known_run_of}
+use Rattle.mw_rule.specs.Prefixes.{opening_at, seen_at}
+use Rattle.mw_rule.specs.Rule.{AreRight, Each, Fits, HoldsFile, IsFinished, IsLive, IsSpent, TableInvariant, words_given}
+use Rattle.mw_rule.specs.Splits.{without_file}
+use Rattle.mw_rule.specs.Steps.{ExtendsView, finished_as}
+use Rattle.mw_rule.specs.declared.views.HeldFile.{HeldFile}
+use Rattle.mw_rule.specs.declared.views.View.{View}
+use Rattle.mw_rule.proofs.KnownRunLaws.{on_again, stays}
+use Rattle.mw_rule.proofs.WholeCallLaws.{keeps_on, keeps_so}
+use Rattle.mw_rule.proofs.WorkerStretches.{no_starts_on}
+use Rattle.mw_table.specs.HeldFiles.{file_among, tenant_held}
+use Rattle.mw_book.specs.declared.book.Book.{Book}
+use Rattle.mw_book.specs.Crashes.{LeavesEither}
+use Rattle.mw_book.specs.OpenFile.{OnDisk, disk_in}
+use Rattle.mw_book.proofs.RepresentedFiles.{untouched}
+use Rattle.mw_core.specs.FromTable.{FilePass, FileToken, Pass, file_kept}
+use Rattle.mw_table.specs.FromRule.{End, FindsFault, GoesWell, MeetsFault, Skips}
+use Rattle.mw_core.specs.FileCalls.{FilesOnce, event_of, stake_by}
+use Rattle.mw_core.proofs.FromTable.{each_last}
+use Rattle.mw_engine.specs.Brand.{Identity}
+use Rattle.mw_engine.specs.GuardedFile.{IsKept}
+use Rattle.mw_engine.specs.History.{IsAnswered}
+use Rattle.mw_engine.proofs.AgreementForms.{agrees_of}
+use Rattle.mw_law_threads.specs.Durable.Durable.{AreSealed, AreSealedIn, CallsKeepChanges, CallsLeaveWholeChanges, CallsLeaveWhollyOrNot, LeavesChangesOfRun, LeavesWholeChanges, LeavesWhollyOrNot, LeavesWithChange, at_stake_in, MomentsKeepChanges, MomentsLeaveWholeChanges, MomentsLeaveWholeChangesInACall, MomentsLeaveWhollyOrNot}
+use Rattle.mw_law_threads.proofs.Durable.AskedRequests.{request_asked}
+use Rattle.mw_law_threads.proofs.Durable.Stakes.{doubt_is_asked, doubt_is_pending, stake_is_asked}
+
+-- Prefixes.
+
+prefix_on : (first between last : List SealedChange) → IsBeginning first between → IsBeginning between last → IsBeginning first last
+prefix_on first between last one two = record {
+  rest = one.rest ++ two.rest;
+  parted = two.parted ∙ (ap (λ (all : List SealedChange). all ++ two.rest) one.parted ∙ append_assoc first one.rest two.rest);
+}
+
+got_append : (ones more : List SealedChange) (place : ℕ) (one : SealedChange) → slice_get ones place ≡ Some one → slice_get (ones ++ more) place ≡ Some one
+got_append [] more place one is = absurd (none-some one is)
+got_append (x ∷ ones) more zero one is = is
+got_append (x ∷ ones) more (suc place) one is = got_append ones more place one is
+
+-- a change that was seen is at the same place among all
+got_on : (first all : List SealedChange) (place : ℕ) (one : SealedChange) → IsBeginning first all → slice_get first place ≡ Some one → slice_get all place ≡ Some one
+got_on first all place one begins at = ap (λ (ones : List SealedChange). slice_get ones place) begins.parted ∙ got_append first begins.rest place one at
+
+-- What a view that fits a run knows of a tenant's sealed changes.
+module _ (config : Config) (openings : ℕ → TenantStart) (before events : List WorldEvent) (state : State) (view : View) (tenant : ℕ) (played : IsExecution config openings (before ++ events) state)
+    (known : ExtendsKnownRun view.known_run (Some (known_run_of config openings before events))) (fits : Fits config openings state events view) (there : tenant < tenants_of config) where
+  sealed_of_view : (more : List Entry) → AreNoStarts events → IsAskedChange state tenant more → AreSealed view tenant more (sealed_of openings state tenant)
+  sealed_of_view more none stake =
+      let right = sealed_are_right config openings (before ++ events) state tenant played there in
+      record {
+        openings = openings;
+        before = before;
+        events = events;
+        state = state;
+        played = subst (λ (one : Config). IsExecution one openings (before ++ events) state) (sym fits.same_config) played;
+        no_starts = none;
+        goes_on = subst (λ (one : Config). ExtendsKnownRun view.known_run (Some (known_run_of one openings before events))) (sym fits.same_config) known;
+        gave = fits.gave tenant there;
+        are = λ i. sealed_of openings state tenant;
+        first = fits.seen tenant there;
+        right = subst (λ (words : List ℕ). AreRight words (sealed_of openings state tenant)) (fits.gave tenant there).words (record { fit = right.fit; once = right.once });
+        asked = sealed_changes_are_whole config openings (before ++ events) state tenant played there;
+        wholly = λ request place entries one its at same. requests_ask_for_one_change config openings (before ++ events) state tenant request one.entries entries played there
+            (subst (λ (n : ℕ). IsAskedFor state tenant n one.entries) same (sealed_changes_are_whole config openings (before ++ events) state tenant played there place one at)) its;
+        at_stake = stake;
+      }
+
+  contents_by : (state.tenant_states tenant).file.contents ≡ put_sealed (words_given view tenant) (sealed_of openings state tenant)
+  contents_by =
+      let right = sealed_are_right config openings (before ++ events) state tenant played there in
+      sym right.all ∙ ap (λ (words : List ℕ). put_sealed words (sealed_of openings state tenant)) (fits.gave tenant there).words
+
+-- what a later view knows of the sealed changes, an earlier one does
+sealed_for : (old new : View) (tenant : ℕ) (more : List Entry) (sealed : List SealedChange) → ExtendsView old new → tenant < tenants_of old.config → AreSealed new tenant more sealed → AreSealed old tenant more sealed
+sealed_for old new tenant more sealed goes there are =
+    subst (λ (given : List TenantStart). AreSealedIn old.config given old.known_run (seen_at old.seen tenant) tenant more sealed) goes.same_openings
+    (subst (λ (one : Config). AreSealedIn one new.openings old.known_run (seen_at old.seen tenant) tenant more sealed) goes.same_config (record {
+      openings = are.openings;
+      before = are.before;
+      events = are.events;
+      state = are.state;
+      played = are.played;
+      no_starts = are.no_starts;
+      goes_on = on_again old.known_run new.known_run (Some (known_run_of new.config are.openings are.before are.events)) goes.known_run are.goes_on;
+      gave = are.gave;
+      are = are.are;
+      first = prefix_on (seen_at old.seen tenant) (seen_at new.seen tenant) sealed (goes.seen tenant there) are.first;
+      right = are.right;
+      asked = are.asked;
+      wholly = are.wholly;
+      at_stake = are.at_stake;
+    }))
+
+-- the tenant of a request that was answered is one of the world's
+tenant_of : (first now : View) (tenant : ℕ) (job : Job) (reply : Reply) → IsAnswered first now tenant job reply → tenant < tenants_of now.config
+tenant_of first now tenant job reply answered =
+    (each_last (IsFinished now) first.mine (finished_as answered.token tenant job reply answered.answered.place) (subst (Each (IsFinished now)) answered.answered.noted answered.right.mine)).there
+
+-- The one file of a view.
+module _ (config : Config) (state : State) where
+  record HoldsOne (files : List HeldFile) : Type 0 where
+    there : (file_among files).tenant < tenants_of config
+    contents : (state.tenant_states (file_among files).tenant).file.contents ≡ (file_among files).contents
+    tells : TellsFile (state.tenant_states (file_among files).tenant).quota config.pool (file_among files) (state.tenant_states (file_among files).tenant).file
+
+  holds_one : (files : List HeldFile) (tenant : ℕ) → map tenant_held files ≡ tenant ∷ [] → Each (HoldsFile config state) files → HoldsOne files
+  holds_one [] tenant its holds = absurd (cc)
+  holds_one (held ∷ rest) tenant its holds = record { there = holds.0.there; contents = holds.0.tells.contents; tells = holds.0.tells }
+
+same_tenant : (files : List HeldFile) (tenant : ℕ) → map tenant_held files ≡ tenant ∷ [] → (file_among files).tenant ≡ tenant
+same_tenant [] tenant its = absurd (cc)
+same_tenant (held ∷ rest) tenant its = cc
+
+-- a call on a file is no start
+no_start : (worker : ℕ) (end : End) → IsNoStart (event_of worker end)
+no_start worker GoesWell = tt
+no_start worker (MeetsFault number) = tt
+no_start worker Skips = tt
+no_start worker FindsFault = tt
+
+module _ {D : Type 0} (facts : D → Facts) where
+  calls_whole : CallsLeaveWholeChanges facts
+  calls_whole identity old new actor next files = (during, after)
+    where
+      token : FileToken
+      token = file_kept files.file_pass
+
+      kept : FileToken
+      kept = file_kept files.returned
+
+      now : View
+      now = old.seat.me.0
+
+      during_at : LeavesWholeChanges facts now token.tenant (at_stake_in facts files) (disk_in files.before.held) (disk_in files.after.held)
+      during_at =
+          let event = files.once.event.event in
+          let went = event.went_on in
+          let view = event.with_file in
+          let holds = subst (Each (HoldsFile view.config went.state)) event.has went.knew.files in
+          let there = holds.0.there in
+          let sealed = sealed_of went.openings went.state token.tenant in
+          let stake = stake_is_asked view.config went.openings (went.before ++ went.events) went.state token.tenant went.played there (went.state.tenant_states token.tenant).quota view.config.pool token holds.0.tells files.once.end files.once.called in
+          let are = sealed_of_view view.config went.openings went.before went.events went.state view token.tenant went.played went.follows.known went.knew there (at_stake_in facts files) went.no_starts stake in
+          let words = contents_by view.config went.openings went.before went.events went.state view token.tenant went.played went.follows.known went.knew there in
+          let same = sym holds.0.tells.contents ∙ (words ∙ ap (λ (given : List TenantStart). put_sealed (opening_at given token.tenant).words sealed) event.keeps.same_openings) in
+          record {
+            sealed = sealed;
+            are = sealed_for now view token.tenant (at_stake_in facts files) sealed event.keeps (subst (λ (one : Config). token.tenant < tenants_of one) event.keeps.same_config there) are;
+            leaves = subst (λ (ones : List ℕ). OnDisk facts (LeavesEither ones (stake_by files.once.end files.once.called token)) (disk_in files.before.held) (disk_in files.after.held)) same files.once.safe;
+          }
+
+      during : LeavesWholeChanges facts now actor.tenant (at_stake_in facts files) (disk_in files.before.held) (disk_in files.after.held)
+      during = subst (λ (n : ℕ). LeavesWholeChanges facts now n (at_stake_in facts files) (disk_in files.before.held) (disk_in files.after.held)) files.once.its during_at
+
+      rests : OnDisk facts (LeavesEither kept.contents kept.doubt) (disk_in files.after.held) (disk_in files.after.held)
+      rests = untouched facts files.after.held kept.contents kept.doubt files.once.agrees.shows.stands
+
+      after_at : LeavesWholeChanges facts (without_file files.once.event.last) kept.tenant kept.doubt (disk_in files.after.held) (disk_in files.after.held)
+      after_at =
+          let last = files.once.event.last in
+          let went = files.once.event.event.went_on in
+          let config = files.once.event.event.with_file.config in
+          let holds = subst (Each (HoldsFile config went.next)) files.once.event.has went.knows.files in
+          let there = holds.0.there in
+          let known = subst (λ (one : Option KnownRun). ExtendsKnownRun last.known_run one) went.known_run (stays last.known_run) in
+          let more = event_of old.worker files.once.end ∷ [] in
+          let stake = doubt_is_asked config went.openings (went.before ++ (went.events ++ more)) went.next kept.tenant went.goes_on there (went.next.tenant_states kept.tenant).quota config.pool kept holds.0.tells in
+          let none = no_starts_on went.events more went.no_starts (no_start old.worker files.once.end, tt) in
+          let are = sealed_of_view config went.openings went.before (went.events ++ more) went.next last kept.tenant went.goes_on known went.knows there kept.doubt none stake in
+          let words = contents_by config went.openings went.before (went.events ++ more) went.next last kept.tenant went.goes_on known went.knows there in
+          let same = sym holds.0.tells.contents ∙ words in
+          record {
+            sealed = sealed_of went.openings went.next kept.tenant;
+            are = are;
+            leaves = subst (λ (ones : List ℕ). OnDisk facts (LeavesEither ones kept.doubt) (disk_in files.after.held) (disk_in files.after.held)) same rests;
+          }
+
+      its_still : kept.tenant ≡ actor.tenant
+      its_still = same_tenant files.returned.seat.me.0.files files.returned.tenant files.returned.its ∙ files.its_still
+
+      after : LeavesWholeChanges facts new.seat.me.0 actor.tenant kept.doubt (disk_in files.after.held) (disk_in files.after.held)
+      after = subst (λ (one : View). LeavesWholeChanges facts one actor.tenant kept.doubt (disk_in files.after.held) (disk_in files.after.held)) (sym files.once.event.left)
+          (subst (λ (n : ℕ). LeavesWholeChanges facts (without_file files.once.event.last) n kept.doubt (disk_in files.after.held) (disk_in files.after.held)) its_still after_at)
+
+  pub calls_leave_whole_changes : CallsLeaveWholeChanges facts
+  calls_leave_whole_changes = calls_whole
+
+  -- a change that was answered YES is among the sealed ones
+  with_change : (first now view : View) (tenant : ℕ) (job : Job) (more : List Entry) (old new : Option D) (answered : IsAnswered first now tenant job SaysYes)
+      → IsBeginning (seen_at now.seen tenant) (seen_at view.seen tenant) → LeavesWholeChanges facts view tenant more old new
+      → LeavesWithChange facts view tenant answered.token.request (entries_of job) answered.answered.place more old new
+  with_change first now view tenant job more old new answered seen whole = record {
+    whole = whole;
+    has = got_on (seen_at now.seen tenant) whole.sealed answered.answered.place _ (prefix_on (seen_at now.seen tenant) (seen_at view.seen tenant) whole.sealed seen whole.are.first) answered.answered.right;
+  }
+
+  module _ (config : Config) (begun : (ℕ → TenantStart) → List WorldEvent → Type 0) (s : Table ActorState View) (id other : ℕ) (view : View) (file_pass : FilePass) (tied : TableInvariant config begun s)
+      (at : get_elem? s.views id ≡ some view) (live : IsLive view) (held : get_elem? s.views other ≡ some file_pass.seat.me.0) where
+    abbrev token : FileToken
+    token = file_kept file_pass
+
+    -- what the rule ties to the model
+    its : token.tenant ≡ file_pass.tenant
+    its = same_tenant file_pass.seat.me.0.files file_pass.tenant file_pass.its
+
+    never : IsSpent view → IsLive view → ⊥
+    never spent (inl alive) = let e = spent.flag in cc
+    never spent (inr (one, rest, are)) = let e = spent.no_tokens in cc
+
+    one : HoldsOne config tied.state file_pass.seat.me.0.files
+    one = elim (tied.fits other file_pass.seat.me.0 held) [
+      | inl spent ↦ absurd (let e = spent.flag in let alive = file_pass.live in cc)
+      | inr has ↦ holds_one config tied.state file_pass.seat.me.0.files file_pass.tenant file_pass.its has.files
+    ]
+
+    of_view : Fits config tied.past.openings tied.state tied.events view
+    of_view = elim (tied.fits id view at) [ inl spent ↦ absurd (never spent live) | inr so ↦ so ]
+
+    -- at a moment, whatever leaves the words that the file pass tells, or these with one change more, leaves whole changes
+    whole_at : (more : List Entry) (first last : Option D) → IsAskedChange tied.state token.tenant more → OnDisk facts (LeavesEither token.contents more) first last
+        → LeavesChangesOfRun facts config begun tied view file_pass.tenant more first last
+    unfolding sealed_of_view
+    whole_at more first last stake leaves =
+        let past = tied.past in
+        let known = (tied.known id view at).known in
+        let words = contents_by config past.openings past.before tied.events tied.state view token.tenant past.played known of_view one.there in
+        let here : LeavesWholeChanges facts view token.tenant more first last = record {
+          sealed = sealed_of past.openings tied.state token.tenant;
+          are = sealed_of_view config past.openings past.before tied.events tied.state view token.tenant past.played known of_view one.there more past.no_starts stake;
+          leaves = subst (λ (ones : List ℕ). OnDisk facts (LeavesEither ones more) first last) (sym one.contents ∙ words) leaves;
+        } in
+        subst (λ (n : ℕ). LeavesChangesOfRun facts config begun tied view n more first last) its (here, (refl, refl, refl, refl))
+
+    pending : IsWholeChange tied.past.openings tied.state file_pass.tenant token.doubt
+    pending = subst (λ (n : ℕ). IsWholeChange tied.past.openings tied.state n token.doubt) its
+        (doubt_is_pending config tied.past.openings (tied.past.before ++ tied.events) tied.state token.tenant tied.past.played one.there (tied.state.tenant_states token.tenant).quota config.pool token one.tells)
+
+    at_rest : (identity : Identity) (book : Book D) → IsKept facts identity book file_pass → LeavesChangesOfRun facts config begun tied view file_pass.tenant token.doubt (disk_in book.held) (disk_in book.held)
+    at_rest identity book kept =
+        whole_at token.doubt (disk_in book.held) (disk_in book.held)
+        (doubt_is_asked config tied.past.openings (tied.past.before ++ tied.events) tied.state token.tenant tied.past.played one.there (tied.state.tenant_states token.tenant).quota config.pool token one.tells)
+        (untouched facts book.held token.contents token.doubt (agrees_of facts book token (opening_at identity.openings file_pass.tenant).quota identity.config.pool kept.agrees).shows.stands)
+
+    in_a_call : (book after : Book D) (old new : Pass) (actor next : ActorState) (kept : FileToken) (waiting : ℕ) (once : FilesOnce facts waiting old new actor next book after token kept)
+        → LeavesChangesOfRun facts config begun tied view file_pass.tenant (stake_by once.end once.called token) (disk_in book.held) (disk_in after.held)
+    in_a_call book after old new actor next kept waiting once =
+        whole_at (stake_by once.end once.called token) (disk_in book.held) (disk_in after.held)
+        (stake_is_asked config tied.past.openings (tied.past.before ++ tied.events) tied.state token.tenant tied.past.played one.there (tied.state.tenant_states token.tenant).quota config.pool token one.tells once.end once.called)
+        once.safe
+
+  pub moments_leave_whole_changes : (config : Config) (begun : (ℕ → TenantStart) → List WorldEvent → Type 0) → MomentsLeaveWholeChanges facts config begun
+  moments_leave_whole_changes config begun s id other view identity book file_pass tied at live held kept =
+      (at_rest config begun s id other view file_pass tied at live held identity book kept, pending config begun s id other view file_pass tied at live held)
+
+  pub moments_leave_whole_changes_in_a_call : (config : Config) (begun : (ℕ → TenantStart) → List WorldEvent → Type 0) → MomentsLeaveWholeChangesInACall facts config begun
+  moments_leave_whole_changes_in_a_call config begun s id other view identity book file_pass tied at live held kept old new actor next after left waiting once =
+      in_a_call config begun s id other view file_pass tied at live held book after old new actor next left waiting once
+
+  pub calls_keep_changes : CallsKeepChanges facts
+  calls_keep_changes identity first now job old new actor next answered goes files =
+      let whole = calls_whole identity old new actor next files in
+      let before = goes.seen actor.tenant low in
+      let learned = files.once.filed.files.goes_on.seen actor.tenant (subst (λ (one : Config). actor.tenant < tenants_of one) (sym goes.same_config) low) in (
+        with_change first now old.seat.me.0 actor.tenant job (at_stake_in facts files) (disk_in files.before.held) (disk_in files.after.held) answered before whole.0,
+        with_change first now new.seat.me.0 actor.tenant job (file_kept files.returned).doubt (disk_in files.after.held) (disk_in files.after.held) answered
+            (prefix_on (seen_at now.seen actor.tenant) (seen_at old.seat.me.0.seen actor.tenant) (seen_at new.seat.me.0.seen actor.tenant) before learned) whole.1,
+      )
+    where
+      low : actor.tenant < tenants_of now.config
+      low = tenant_of first now actor.tenant job SaysYes answered
+
+  pub moments_keep_changes : (config : Config) (begun : (ℕ → TenantStart) → List WorldEvent → Type 0) → MomentsKeepChanges facts config begun
+  unfolding with_change at_rest in_a_call
+  moments_keep_changes config begun s id other first now view job identity book file_pass tied at live held kept answered goes =
+      let seen = goes.seen file_pass.tenant (tenant_of first now file_pass.tenant job SaysYes answered) in
+      let rest = at_rest config begun s id other view file_pass tied at live held identity book kept in (
+        (with_change first now view file_pass.tenant job (file_kept file_pass).doubt (disk_in book.held) (disk_in book.held) answered seen rest.0, rest.1),
+        λ old new actor next after left waiting once.
+            let during = in_a_call config begun s id other view file_pass tied at live held book after old new actor next left waiting once in
+            (with_change first now view file_pass.tenant job (stake_by once.end once.called (file_kept file_pass)) (disk_in book.held) (disk_in after.held) answered seen during.0, during.1),
+      )
+
+  -- the change of a request that was answered is among whole changes wholly or not at all
+  wholly : (first now view : View) (tenant : ℕ) (job : Job) (reply : Reply) (more : List Entry) (old new : Option D) (answered : IsAnswered first now tenant job reply) → ExtendsView now view
+      → LeavesWholeChanges facts view tenant more old new → LeavesWhollyOrNot facts view tenant answered.token.request (entries_of job) more old new
+  wholly first now view tenant job reply more old new answered goes whole = record {
+    whole = whole;
+    asked = asked;
+    sealed_wholly = λ place one at same. are.wholly answered.token.request place (entries_of job) one asked at same;
+    at_stake_wholly = elim are.at_stake [
+      | inl none ↦ inl none
+      | inr owned ↦ inr (owned.0, owned.1, λ same. once owned.0 same owned.1)
+    ];
+  }
+    where
+      are : AreSealed view tenant more whole.sealed
+      are = whole.are
+
+      low : tenant < tenants_of view.config
+      low = subst (λ (one : Config). tenant < tenants_of one) (sym goes.same_config) (tenant_of first now tenant job reply answered)
+
+      known : ExtendsKnownRun now.known_run (Some (known_run_of view.config are.openings are.before are.events))
+      known = on_again now.known_run view.known_run (Some (known_run_of view.config are.openings are.before are.events)) goes.known_run are.goes_on
+
+      asked : IsAskedFor are.state tenant answered.token.request (entries_of job)
+      asked = request_asked view.config are.openings are.before are.events are.state are.played are.no_starts first now known answered.token.worker tenant answered.token.request job low answered.run.arrival
+
+      once : (owner : ℕ) → owner ≡ answered.token.request → IsAskedFor are.state tenant owner more → more ≡ entries_of job
+      once owner same its = requests_ask_for_one_change view.config are.openings (are.before ++ are.events) are.state tenant answered.token.request more (entries_of job) are.played low
+          (subst (λ (n : ℕ). IsAskedFor are.state tenant n more) same its) asked
+
+  pub calls_leave_wholly_or_not : CallsLeaveWhollyOrNot facts
+  calls_leave_wholly_or_not identity first now job reply old new actor next answered goes files =
+      let whole = calls_whole identity old new actor next files in (
+        wholly first now old.seat.me.0 actor.tenant job reply (at_stake_in facts files) (disk_in files.before.held) (disk_in files.after.held) answered goes whole.0,
+        wholly first now new.seat.me.0 actor.tenant job reply (file_kept files.returned).doubt (disk_in files.after.held) (disk_in files.after.held) answered
+            (keeps_on now old.seat.me.0 new.seat.me.0 goes (keeps_so old.seat.me.0 new.seat.me.0 files.once.filed.files.goes_on)) whole.1,
+      )
+
+  pub moments_leave_wholly_or_not : (config : Config) (begun : (ℕ → TenantStart) → List WorldEvent → Type 0) → MomentsLeaveWhollyOrNot facts config begun
+  unfolding wholly at_rest in_a_call
+  moments_leave_wholly_or_not config begun s id other first now view job reply identity book file_pass tied at live held kept answered goes =
+      let rest = at_rest config begun s id other view file_pass tied at live held identity book kept in (
+        (wholly first now view file_pass.tenant job reply (file_kept file_pass).doubt (disk_in book.held) (disk_in book.held) answered goes rest.0, rest.1),
+        λ old new actor next after left waiting once.
+            let during = in_a_call config begun s id other view file_pass tied at live held book after old new actor next left waiting once in
+            (wholly first now view file_pass.tenant job reply (stake_by once.end once.called (file_kept file_pass)) (disk_in book.held) (disk_in after.held) answered goes during.0, during.1),
+      )

@@ -1,0 +1,5 @@
+pub mod Moments
+pub mod Whole
+pub mod History
+pub mod Durable
+pub mod Sessions

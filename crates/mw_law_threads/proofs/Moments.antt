@@ -1,0 +1,2 @@
+-- The proofs that replies have moments. This page only lists its modules.
+pub mod MomentLaws

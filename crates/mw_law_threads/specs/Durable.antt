@@ -1,0 +1,3 @@
+-- What a crash may leave, and what the next start finds. This page only lists its modules.
+pub mod Durable
+pub mod Starts

@@ -1,0 +1,63 @@
+//! States which files a crash may leave after a change was answered YES, FAULT or nothing. The functions do nothing; their contracts are
+//! the facts.
+//!
+//! No code calls them. A change of a contract here changes a theorem.
+ghost use Rattle.mw_law_threads.specs.Durable.Durable.{CallsKeepChanges, CallsLeaveWholeChanges, CallsLeaveWhollyOrNot, MomentsKeepChanges, MomentsLeaveWholeChanges, MomentsLeaveWholeChangesInACall, MomentsLeaveWhollyOrNot};
+ghost use Rattle.mw_law_threads.specs.Durable.Starts.{EnginesStartWithChanges, StartsFindChanges};
+
+use mw_disk::Disk;
+use mw_rule::Begins;
+
+/// Each call that a pass makes on a tenant's file keeps the tenant's changes. It may be a call of any later request of
+/// that tenant.
+///
+/// - `whole`: of an honest disk, a crash during the call leaves the words of the latest start with whole changes put over
+///   them. These are the changes that were sealed before the call, or these and one more. A crash after the call leaves
+///   the same with the changes that are sealed by then. Each change is just what one request asked for.
+/// - `kept`: a change that the pass was answered YES before is one of these changes, at its own place.
+/// - `wholly`: the pass was answered before, with any reply, also FAULT. The change of that request is there wholly or not
+///   at all.
+pub fn calls_keep_changes<D: Disk>()
+    ensures whole { CallsLeaveWholeChanges D.facts }
+    ensures kept { CallsKeepChanges D.facts }
+    ensures wholly { CallsLeaveWhollyOrNot D.facts }
+{}
+
+/// The same at every moment of the shared words, for all passes. The changes are those of the run that ties the shared
+/// words to the model.
+///
+/// - `whole`: of an honest disk, a crash while no call on the file is under way leaves the words of the latest start with
+///   all sealed changes put over them. The change in doubt may be there too, wholly. No change of its request is sealed.
+/// - `in_a_call`: a crash during any pass's call leaves these words. One whole change more may be there: the one that the
+///   call seals or, if it seals none, the one in doubt.
+/// - `kept`: in both cases a change that any pass was answered YES is one of the sealed changes, at its own place, whoever
+///   makes the calls on the file.
+/// - `wholly`: in both cases, if any pass was answered, with any reply, also FAULT, the change of its request is there
+///   wholly or not at all. So is the change of a request that got no answer: each change is just what one request asked
+///   for.
+pub fn every_moment_keeps_changes<B: Begins, D: Disk>()
+    ensures whole { (key : B) → MomentsLeaveWholeChanges D.facts (B.config key) (B.begun key) }
+    ensures in_a_call { (key : B) → MomentsLeaveWholeChangesInACall D.facts (B.config key) (B.begun key) }
+    ensures kept { (key : B) → MomentsKeepChanges D.facts (B.config key) (B.begun key) }
+    ensures wholly { (key : B) → MomentsLeaveWhollyOrNot D.facts (B.config key) (B.begun key) }
+{}
+
+/// A start finds what a crash left. It opens these bytes on a disk that is honest and synced.
+///
+/// The crash came at a moment at which it leaves whole changes, by [`calls_keep_changes`] or
+/// [`every_moment_keeps_changes`]. If the opening goes well, it finds the words of the start before with all changes put
+/// over them that were sealed since, or these with the one at stake. So a change that was answered YES is among the
+/// changes that the start finds. If the opening fails, it found no damage.
+pub fn starts_find_changes<D: Disk, E: Disk>()
+    ensures { StartsFindChanges D.facts E.facts }
+{}
+
+/// An engine starts with what a crash left. `EngineParts::new` of mw_engine makes it of the tenants' lines and of their
+/// opened files.
+///
+/// A file that opened well gives the engine's start the words that the opening found. By [`starts_find_changes`] these are
+/// the words of the start before with all changes put over them that were sealed since, or these with the one at stake. So
+/// a change that was answered YES before the crash is among the words from which the engine's history begins.
+pub fn engines_start_with_changes<D: Disk, E: Disk>()
+    ensures { EnginesStartWithChanges D.facts E.facts }
+{}

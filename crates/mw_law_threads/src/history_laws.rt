@@ -1,0 +1,44 @@
+//! States that the replies of all passes are right in one history, and when each of them was. The functions do nothing; their contracts
+//! are the facts.
+//!
+//! No code calls them. A change of a contract here changes a theorem.
+ghost use Rattle.mw_law_threads.specs.History.AnswerMoments.{AnswersHaveMoments, AnswersHaveMomentsInOneRun, AnswersKeepTheOrderOfTime};
+ghost use Rattle.mw_law_threads.specs.History.OneHistory.{MomentsHaveOneHistory};
+
+use mw_rule::Begins;
+
+/// At every moment of the shared words one run of the model is behind what all passes know, whether they ever meet or
+/// not: the run by which the words are under their rule.
+///
+/// `history`: each VAL, NO and YES that any pass has given is right at its position among its tenant's sealed changes in
+/// this run. The run handed out each reply. No two replies are to one request, and each YES has a change of its own. What
+/// a pass has seen are the first of these changes. None of them is of a request that was answered VAL, NO or BUSY; nor
+/// is the change in doubt in the tenant's file.
+///
+/// The order in time of replies that two passes have given: [`answers_have_moments`].
+pub fn every_moment_has_one_history<B: Begins>()
+    ensures history { (key : B) → MomentsHaveOneHistory (B.config key) (B.begun key) }
+{}
+
+/// Each VAL, NO and YES that a pass gives was true at a moment of its own call. The call is what happens in the run behind
+/// the pass from the arrival of this very request until its worker hands out its reply, under its number. The arrival
+/// comes after all that the pass knew before.
+///
+/// - VAL: at that moment the word had that value in the tenant's file.
+/// - NO: at that moment the word had that value, which is not the expected one.
+/// - YES: by one event of the call the words that the request expects became the words that it wants.
+///
+/// `own`: the run is the one behind what the pass knows at the reply. `one_run`: at each later moment of the shared words it
+/// is the one behind what all passes know. So the moments of all replies are in one order.
+///
+/// `time`: this order keeps that of time, also between passes that never meet. Take a pass that was idle at some moment of
+/// the shared words, and learned nothing until its next request came. That request comes after all that had happened by
+/// then, so also after each reply that any pass had by then.
+///
+/// The premises are `Answered` of mw_rule and `is_whole`: the pass saw the request come. `Engine::serve` of mw_engine
+/// ensures both (`answered`).
+pub fn answers_have_moments<B: Begins>()
+    ensures own { AnswersHaveMoments }
+    ensures one_run { (key : B) → AnswersHaveMomentsInOneRun (B.config key) (B.begun key) }
+    ensures time { (key : B) → AnswersKeepTheOrderOfTime (B.config key) (B.begun key) }
+{}

@@ -1,0 +1,38 @@
+//! States when the replies of a session that borrows its passes were true, and which files a crash may leave then. The functions
+//! do nothing; their contracts are the facts.
+//!
+//! No code calls them. A change of a contract here changes a theorem.
+ghost use Rattle.mw_law_threads.specs.Sessions.SessionChanges.{SessionsKeepChanges, SessionsLeaveWhollyOrNot};
+ghost use Rattle.mw_law_threads.specs.Sessions.SessionMoments.{SessionRepliesHaveMomentsInOneRun, SessionsKeepTheOrderOfTime, SessionsKeepTheOrderOfTimeAmongThem};
+
+use mw_disk::Disk;
+use mw_rule::Begins;
+
+/// Whichever passes a session borrows, each VAL, NO and YES that it is told was true at a moment of its own call.
+///
+/// `order`: the run is the one that the session's note tells with the reply; it goes back to the engine's start. The request
+/// comes in it after all that the note told before. So it comes after the replies to the session's earlier requests.
+///
+/// `one_run`: at each later moment of the shared words at which some pass has the request among its finished ones, the run is
+/// the one behind what all passes know. So the moments of all sessions' replies are in one order.
+///
+/// `time`: this order keeps that of time, also between sessions. Once the borrowed pass has learned the note, the request comes
+/// after each reply that any session was told by then.
+pub fn replies_have_moments_in_order<B: Begins>()
+    ensures order { SessionsKeepTheOrderOfTime }
+    ensures one_run { (key : B) → SessionRepliesHaveMomentsInOneRun (B.config key) (B.begun key) }
+    ensures time { (key : B) → SessionsKeepTheOrderOfTimeAmongThem (B.config key) (B.begun key) }
+{}
+
+/// Whichever passes a session borrows, its changes are durable, at every moment of the shared words at which some thread
+/// knows all that the session's note tells: the session has the note, or a pass has learned it.
+///
+/// - `kept`: a change that it was answered YES is one of the sealed changes that a crash leaves, at its own place.
+/// - `wholly`: if it was answered, with any reply, also FAULT, the change of its request is there wholly or not at all.
+///
+/// The crash comes while no call on the tenant's file is under way, or in any pass's next call. The premises are those of
+/// `every_moment_keeps_changes` of mw_law_threads.
+pub fn sessions_keep_changes<B: Begins, D: Disk>()
+    ensures kept { (key : B) → SessionsKeepChanges D.facts (B.config key) (B.begun key) }
+    ensures wholly { (key : B) → SessionsLeaveWhollyOrNot D.facts (B.config key) (B.begun key) }
+{}

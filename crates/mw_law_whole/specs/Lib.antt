@@ -1,2 +1,0 @@
-pub mod WholeChanges
-pub mod Refusals

@@ -1,9 +1,0 @@
--- States what stays true from turn to turn in the loops of `are_sums` (src/sums.rt). Used by: the proof of that function alone.
--- It may change freely as long as this crate checks.
-use Rattle.std.proofs.Common.{◌≡◌, ◌+◌, ◌<◌, ℕ, slice_index}
-use Rattle.mw_load.specs.Sums.{capped, made_beside}
-use Rattle.mw_load.proofs.sums.are_sums.Given as goal
-
--- the words below are right
-abbrev pub invariant-loop-address : goal.invariant-loop-address
-invariant-loop-address l = (k : ℕ) → k < l.address → slice_index l.after k ≡ capped (slice_index l.before k + made_beside 0 k l.done)

@@ -1,0 +1,4 @@
+mod Parts
+mod Widths
+mod ExchangeLaws
+mod ClientLaws

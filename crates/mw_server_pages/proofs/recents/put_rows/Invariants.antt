@@ -1,0 +1,12 @@
+-- States what stays true from turn to turn in the loop of `put_rows` (src/recents.rt). Used by: the proof of that function
+-- alone. It may change freely as long as this crate checks.
+use Rattle.std.proofs.Common.{◌≡◌, ◌+◌, ◌*◌, ◌≤◌, ◌++◌, length, drop, flat_map}
+use Rattle.mw_server_pages.specs.Recents.{recent}
+use Rattle.mw_server_pages.proofs.recents.put_rows.Given as goal
+
+-- what is put so far and what is left is all
+abbrev pub invariant-loop-recent : goal.invariant-loop-recent
+invariant-loop-recent l = record {
+  rows : l.text.bytes.items ++ flat_map recent (drop l.recent-index l.recents) ≡ l.initial.text.bytes.items ++ flat_map recent l.recents;
+  room : length l.text.bytes.items ≤ length l.initial.text.bytes.items + l.recent-index * 2300;
+}

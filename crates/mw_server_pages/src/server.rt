@@ -1,0 +1,61 @@
+//! Serves the clients that a listener gives, one after the other.
+//!
+//! mw_programs runs it on a thread of its own. `specs/Clients` says what it promises: change both together. [`PAUSE`] may
+//! have another number.
+ghost use Rattle.mw_server_pages.specs.Clients.{AreServed, IsServed, IsTurn};
+
+use crate::exchanges::exchange;
+use crate::pages::Pages;
+use mw_connections::{StreamListener, say_goodbye};
+use mw_session::{PeerStream, RecordedStream};
+use std::sync::Wait;
+use std::sync::atomic::{AtomicBool, Ordering};
+use std::thread;
+use std::time::{Clock, Duration};
+
+/// How long it waits after the listener gave no client, in milliseconds.
+pub const PAUSE: u64 = 100;
+
+/// Serves each client that the listener gives, by one [`exchange`], as long as `open` is set. After `open` is cleared it asks
+/// the listener once more at most, and serves no client more than the one that it gives then. A client is let read its
+/// answer before its connection is closed.
+pub fn serve_pages<L: StreamListener, P: Pages, R: Wait + Clock>(
+    rt: &R,
+    listener: &mut L,
+    pages: &mut P,
+    open: &AtomicBool,
+)
+    ensures { AreServed L.accepts P.answered listener.old listener.new pages.old pages.new }
+{
+    for _ in rt.forever() {
+        if !open.load(Ordering::SeqCst) {
+            return;
+        }
+        serve_next(rt, listener, pages);
+    }
+    unreachable!()
+}
+
+/// Asks the listener once, and serves the client that it gives.
+fn serve_next<L: StreamListener, P: Pages, R: Wait + Clock>(rt: &R, listener: &mut L, pages: &mut P)
+    ensures { (answer : _) × L.accepts listener.old answer listener.new × IsTurn P.answered pages.old answer pages.new }
+{
+    match listener.accept() {
+        Ok(stream) => serve_client(rt, stream, pages),
+        // If the system has no room for a connection, a client that ends may soon make some.
+        Err(_) => thread::sleep(rt, Duration::from_millis(PAUSE)),
+    }
+}
+
+/// Serves one client, and closes its connection.
+fn serve_client<T: PeerStream + Drop, P: Pages, R: Wait>(
+    rt: &R,
+    stream: RecordedStream<T>,
+    pages: &mut P,
+)
+    ensures { IsServed P.answered stream pages.old pages.new }
+{
+    let mut stream = stream;
+    exchange(rt, &mut stream, pages);
+    say_goodbye(rt, &mut stream);
+}

@@ -1,9 +1,0 @@
--- States what stays true from turn to turn in the loops of `workers_of` (src/copies.rt). Used by: the proof of that function
--- alone. It may change freely as long as this crate checks.
-use Rattle.std.proofs.Common.{◌≡◌, map, take}
-use Rattle.mw_simulator.specs.FromMemory.{worker_state_of}
-use Rattle.mw_table.specs.Runs.{worker_state_so_far}
-use Rattle.mw_world_table.proofs.copies.workers_of.Given as goal
-
-abbrev pub invariant-loop-worker_state : goal.invariant-loop-worker_state
-invariant-loop-worker_state l = map worker_state_so_far l.workers.items ≡ map worker_state_of (take l.worker_state-index l.worker_states)
