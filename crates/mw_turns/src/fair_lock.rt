@@ -111,6 +111,20 @@ impl<T> FairLock<T> {
     }
 }
 
+/// What tests wait for.
+#[cfg(test)]
+impl<T> FairLock<T> {
+    /// How many threads queue.
+    pub(crate) fn queued(&self) -> u64 {
+        self.queue.len()
+    }
+
+    /// Whether the first of the queue has waited for long.
+    pub(crate) fn is_starving(&self) -> bool {
+        self.queue.is_starving()
+    }
+}
+
 impl<T> Drop for FairGuard<'_, T> {
     fn drop(self) {
         let FairGuard { value, queue } = self;

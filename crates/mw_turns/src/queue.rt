@@ -69,6 +69,13 @@ impl Queue {
         }
     }
 
+    /// How many threads are in the queue.
+    #[cfg(test)]
+    pub(crate) fn len(&self) -> u64 {
+        let first = self.first.load(Ordering::SeqCst);
+        self.next.load(Ordering::SeqCst).saturating_sub(first)
+    }
+
     /// Whether only the first of the queue may take the lock.
     pub(crate) fn is_starving(&self) -> bool {
         self.is_starving.load(Ordering::SeqCst)

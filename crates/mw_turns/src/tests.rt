@@ -37,122 +37,118 @@ fn every_wait_of_a_crowd_ends(rt: HostRuntime) -> Result<(), Fail> {
     Ok(())
 }
 
-/// How many threads hold the lock for long, each as often as it can.
-const HOLDERS: usize = 8;
+/// How many times two threads hold the lock, both together.
+const HOLDS: u64 = 40;
 
-/// How many times they hold it, all together.
-const HOLDS: u32 = 80;
+/// How many threads queue, one after another, beside the one that holds the lock.
+const COMERS: u64 = 7;
 
-/// Who held the lock last, and how often the same thread held it twice in a row.
+/// Who held a lock, in order: the thread that comes next, and whether each came in its turn.
 #[derive(Drop)]
-struct Turns {
-    last: usize,
-    holds: u32,
-    repeats: u32,
+struct Order {
+    next: u64,
+    is_kept: bool,
 }
 
-impl Turns {
-    /// Notes a hold. Says whether there may be more.
-    fn note(&mut self, holder: usize) -> bool {
-        if self.last == holder {
-            self.repeats = self.repeats.saturating_add(1);
-        }
-        self.last = holder;
-        self.holds = self.holds.saturating_add(1);
-        self.holds < HOLDS
+impl Order {
+    /// Notes a hold by this thread, of so many that take turns.
+    fn note(&mut self, thread: u64, threads: u64) {
+        self.is_kept = self.is_kept && thread == self.next % threads;
+        self.next = self.next.saturating_add(1);
     }
 }
 
-/// Holds the lock for three milliseconds as often as it can.
-fn hold<R: Wait + Clock>(rt: &R, turns: &FairLock<Turns>, holder: usize) {
-    for _ in 0..HOLDS {
-        let mut guard = turns.lock(rt);
-        thread::sleep(rt, Duration::from_millis(3));
-        if !guard.value.note(holder) {
-            return;
-        }
-    }
+/// A lock, and how often it was held.
+#[derive(Drop)]
+struct Line {
+    order: FairLock<Order>,
+    holds: AtomicU64,
 }
 
-/// How often a thread held the lock twice in a row though others waited.
-fn repeats<R: Threads + Wait + Clock + Sync>(rt: &R, alloc: Global) -> Result<u32, AllocError> {
-    let turns = FairLock::new(Turns {
-        last: HOLDERS,
-        holds: 0,
-        repeats: 0,
-    });
-    let shared = &turns;
-    thread::map_indices(rt, alloc, HOLDERS, &|holder| hold(rt, shared, holder))?;
-    Ok(turns.into_inner().repeats)
+impl Line {
+    fn new() -> Line {
+        Line {
+            order: FairLock::new(Order {
+                next: 0,
+                is_kept: true,
+            }),
+            holds: AtomicU64::new(0),
+        }
+    }
+
+    /// Waits until the lock was held so often, and so many threads queue.
+    fn wait<R: Wait + Clock>(&self, rt: &R, holds: u64, queued: u64) {
+        for _ in rt.forever() {
+            if self.holds.load(Ordering::SeqCst) >= holds && self.order.queued() >= queued {
+                return;
+            }
+            thread::sleep(rt, Duration::from_millis(1));
+        }
+    }
+
+    /// Waits until the first of the queue has lost its patience.
+    fn wait_for_starving<R: Wait + Clock>(&self, rt: &R) {
+        for _ in rt.forever() {
+            if self.order.is_starving() {
+                return;
+            }
+            thread::sleep(rt, Duration::from_millis(1));
+        }
+    }
+
+    /// Holds the lock as often as the other thread does, each time until that one has waited for long.
+    fn hold_in_turn<R: Wait + Clock>(&self, rt: &R, holder: u64) {
+        self.wait(rt, holder, 0);
+        for _ in 0..HOLDS / 2 {
+            let mut guard = self.order.lock(rt);
+            if self.holds.fetch_add(1, Ordering::SeqCst).saturating_add(1) < HOLDS {
+                self.wait_for_starving(rt);
+            }
+            guard.value.note(holder, 2);
+        }
+    }
+
+    /// Comes when all threads before have come, and holds the lock once. The first holds it until all have come.
+    fn come<R: Wait + Clock>(&self, rt: &R, comer: u64) {
+        if comer > 0 {
+            self.wait(rt, 1, comer.saturating_sub(1));
+        }
+        let mut guard = self.order.lock(rt);
+        self.holds.fetch_add(1, Ordering::SeqCst);
+        if comer == 0 {
+            self.wait(rt, 1, COMERS);
+        }
+        guard.value.note(comer, COMERS.saturating_add(1));
+    }
+
+    /// Whether so many threads held the lock so often, each in its turn.
+    fn was_in_turn(self, holds: u64) -> bool {
+        let order = self.order.into_inner();
+        order.is_kept && order.next == holds
+    }
 }
 
 /// With a plain lock nearly all holds are by the thread that held it before.
 #[test]
 fn long_holds_are_in_turn(rt: HostRuntime) -> Result<(), Fail> {
-    let repeats = repeats(&rt, rt.alloc())?;
-    assert!(rt; repeats < HOLDS / 2);
+    let line = Line::new();
+    let shared = &line;
+    thread::map_indices(
+        &rt,
+        rt.alloc(),
+        2,
+        &|holder| { shared.hold_in_turn(&rt, holder as u64) },
+    )?;
+    assert!(rt; line.was_in_turn(HOLDS));
     Ok(())
 }
 
-/// How many threads come one after another.
-const COMERS: usize = 7;
-
-/// How many milliseconds one comes after another.
-const APART: u64 = 30;
-
-/// Who may hold the lock next, and whether all have held it in the order in which they came.
-#[derive(Drop)]
-struct Order {
-    next: usize,
-    is_kept: bool,
-}
-
-impl Order {
-    /// Notes a hold.
-    fn note(&mut self, comer: usize) {
-        self.is_kept = self.is_kept && comer == self.next;
-        self.next = comer.saturating_add(1);
-    }
-}
-
-/// Comes when it is its time, and holds the lock once. The first holds it until all have come.
-fn come<R: Wait + Clock>(rt: &R, order: &FairLock<Order>, comer: usize) {
-    thread::sleep(
-        rt,
-        Duration::from_millis(APART.saturating_mul(comer as u64)),
-    );
-    let mut guard = order.lock(rt);
-    let rest = if comer == 0 {
-        APART.saturating_mul(COMERS as u64)
-    } else {
-        3
-    };
-    thread::sleep(rt, Duration::from_millis(rest));
-    guard.value.note(comer);
-}
-
-/// Whether threads that come one after another hold the lock in that order.
-fn is_in_order<R: Threads + Wait + Clock + Sync>(
-    rt: &R,
-    alloc: Global,
-) -> Result<bool, AllocError> {
-    let order = FairLock::new(Order {
-        next: 0,
-        is_kept: true,
-    });
-    let shared = &order;
-    thread::map_indices(rt, alloc, COMERS, &|comer| come(rt, shared, comer))?;
-    Ok(order.into_inner().is_kept)
-}
-
-/// On a busy machine a thread may come too late. So it is tried several times.
 #[test]
 fn the_queue_is_in_order(rt: HostRuntime) -> Result<(), Fail> {
-    let mut is_kept = false;
-    for _ in 0..8u8 {
-        is_kept = is_kept || is_in_order(&rt, rt.alloc())?;
-    }
-    assert!(rt; is_kept);
+    let line = Line::new();
+    let shared = &line;
+    thread::map_indices(&rt, rt.alloc(), 8, &|comer| shared.come(&rt, comer as u64))?;
+    assert!(rt; line.was_in_turn(8));
     Ok(())
 }
 
