@@ -8,7 +8,7 @@
 //! request, which the server's own reader reads as that request ([`what_is_sent_is_read`]). [`read_reply`]
 //! tells which reply a line is, if it is one.
 //!
-//! Used by: mwbench, mw_serving_tests. docs/CLIENTS describes it for users: change both together.
+//! Used by: mwbench, mw_client_tests. docs/CLIENTS describes it for users: change both together.
 #![tactic(auto)]
 
 mod administrator;

@@ -2,11 +2,12 @@
 //!
 //! [`EngineParts`] are made of the tenants' lines and files, with a pass for each worker.
 //! [`EngineParts::into_engine`] makes them an [`Engine`]. Each worker serves one request at a time with its pass,
-//! by [`Engine::serve`]. It takes locks only for calls on a tenant's file. Whoever holds such a lock also serves requests
-//! that wait for it (`combiner`). [`Engine::file`] makes one call of one request, and [`Engine::copy_file`] copies a file:
-//! both take its lock. Everything else takes none: one step of a request, a read, the figures, the meeting of two passes,
-//! a note of what a pass has seen. The tenants and their numbers of words stay the same for the engine's whole life. So a job that was judged by what
-//! [`Engine::find`] told is well formed whenever it is asked for. [`Engine::into_disks`] ends the engine.
+//! by [`Engine::serve`]. A change takes the lock of its tenant's file for its first call on it, and keeps it up to its
+//! last one, also for the steps between. Whoever holds such a lock also serves requests that wait for it (`combiner`).
+//! [`Engine::file`] makes one call of one request, and [`Engine::copy_file`] copies a file: both take its lock.
+//! Everything else takes none: one step of a request, a read, the figures, the meeting of two passes, a note of what a
+//! pass has seen. The tenants and their numbers of words stay the same for the engine's whole life. So a job that was
+//! judged by what [`Engine::find`] told is well formed whenever it is asked for. [`Engine::into_disks`] ends the engine.
 //!
 //! Where to read:
 //! - `specs/Brand`: an engine's identity, which stays for its whole life.
@@ -19,7 +20,7 @@
 //! - `specs/DisksAtEnd`: which words are on the disks that are given at the end. `specs/Copies`: which words a copy of
 //!   a tenant's file has.
 //!
-//! Used by: mw_service, mw_programs, mw_engine_tests.
+//! Used by: mw_opening, mw_service, mw_law_threads, mw_programs, mw_engine_tests.
 #![tactic(auto)]
 
 mod brand;

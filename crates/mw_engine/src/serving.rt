@@ -1,6 +1,6 @@
 //! Serves a request to its reply.
 //!
-//! mw_programs answers each request of a session by `Engine::serve`. docs/PROMISES.md cites its contract: a
+//! mw_service answers each request of a session by `Engine::serve`. docs/PROMISES.md cites its contract: a
 //! change of it, or of `specs/History` or `specs/Replies`, changes what clients are promised.
 ghost use Rattle.std.specs.Prelude.{◌≡◌, ◌≢◌, true, false, None};
 ghost use Rattle.mw_actor.specs.Program.{replied};

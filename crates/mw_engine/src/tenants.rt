@@ -1,6 +1,6 @@
 //! Finds a tenant by its name, and makes the requests that it may have.
 //!
-//! mw_programs finds a session's tenant by `find`. `serving` and `reads` make their requests by `request`. Its
+//! mw_service finds a session's tenant by `find`. `serving` and `reads` make their requests by `request`. Its
 //! contracts use `specs/Identity`, `specs/Passes` and `specs/Requests`: change them together.
 ghost use Rattle.std.specs.Prelude.{◌≡◌, length, IfSome, MatchOption};
 ghost use Rattle.mw_engine.specs.Identity.{HasNone, HasWords, IsFirst, IsFor};

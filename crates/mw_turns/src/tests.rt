@@ -43,18 +43,20 @@ const HOLDS: u64 = 40;
 /// How many threads queue, one after another, beside the one that holds the lock.
 const COMERS: u64 = 7;
 
-/// Who held a lock, in order: the thread that comes next, and whether each came in its turn.
+/// In which order threads held a lock: how many take turns, whose turn is next, and whether each came in its turn.
 #[derive(Drop)]
 struct Order {
+    threads: u64,
     next: u64,
     is_kept: bool,
 }
 
 impl Order {
-    /// Notes a hold by this thread, of so many that take turns.
-    fn note(&mut self, thread: u64, threads: u64) {
-        self.is_kept = self.is_kept && thread == self.next % threads;
-        self.next = self.next.saturating_add(1);
+    /// Notes a hold by this thread.
+    fn note(&mut self, thread: u64) {
+        self.is_kept = self.is_kept && thread == self.next;
+        let next = thread.saturating_add(1);
+        self.next = if next < self.threads { next } else { 0 };
     }
 }
 
@@ -66,9 +68,10 @@ struct Line {
 }
 
 impl Line {
-    fn new() -> Line {
+    fn new(threads: u64) -> Line {
         Line {
             order: FairLock::new(Order {
+                threads,
                 next: 0,
                 is_kept: true,
             }),
@@ -104,7 +107,7 @@ impl Line {
             if self.holds.fetch_add(1, Ordering::SeqCst).saturating_add(1) < HOLDS {
                 self.wait_for_starving(rt);
             }
-            guard.value.note(holder, 2);
+            guard.value.note(holder);
         }
     }
 
@@ -118,20 +121,20 @@ impl Line {
         if comer == 0 {
             self.wait(rt, 1, COMERS);
         }
-        guard.value.note(comer, COMERS.saturating_add(1));
+        guard.value.note(comer);
     }
 
-    /// Whether so many threads held the lock so often, each in its turn.
+    /// Whether the lock was held so often, by each thread in its turn.
     fn was_in_turn(self, holds: u64) -> bool {
-        let order = self.order.into_inner();
-        order.is_kept && order.next == holds
+        let Line { order, holds: held } = self;
+        order.into_inner().is_kept && held.into_inner() == holds
     }
 }
 
 /// With a plain lock nearly all holds are by the thread that held it before.
 #[test]
 fn long_holds_are_in_turn(rt: HostRuntime) -> Result<(), Fail> {
-    let line = Line::new();
+    let line = Line::new(2);
     let shared = &line;
     thread::map_indices(
         &rt,
@@ -145,7 +148,7 @@ fn long_holds_are_in_turn(rt: HostRuntime) -> Result<(), Fail> {
 
 #[test]
 fn the_queue_is_in_order(rt: HostRuntime) -> Result<(), Fail> {
-    let line = Line::new();
+    let line = Line::new(8);
     let shared = &line;
     thread::map_indices(&rt, rt.alloc(), 8, &|comer| shared.come(&rt, comer as u64))?;
     assert!(rt; line.was_in_turn(8));
