@@ -1,7 +1,7 @@
 -- Defines what is heard from the bytes that a client has sent so far: nothing yet, a request, or why it is refused.
 -- The grammar of a head and the rules on its fields are those of the kit's crates httparse and http1 (RFC 9112).
 -- Used by: the contracts of hearing.rt. A change here changes how clients are answered, and docs/OPERATING with it.
-use Rattle.std.specs.Prelude.{◌≡◌, ℕ, ◌<◌, ◌⊎◌, ◌==◌, Bool, true, false, ◌||◌, List, length, map, Option, None, Some, is_some, Result, Ok, Err, codes, bytes_eq, if◌then◌else◌}
+use Rattle.std.specs.Prelude.{◌≡◌, ℕ, ◌<◌, ◌⊎◌, ◌==◌, Bool, true, false, ◌||◌, List, [], length, map, Option, None, Some, is_some, Result, Ok, Err, codes, bytes_eq, if◌then◌else◌}
 use Rattle.std.specs.List.{list_all}
 use Rattle.httparse.specs.Grammar.{RequestHead, HasNoRequest, MayBecomeRequest}
 use Rattle.httparse.specs.Spans.{name_and_value}
@@ -103,3 +103,7 @@ abbrev pub Hears : List ℕ → Heard → Type 0
 Hears bytes More = HasNoRequest bytes × (length bytes < MAX_HEAD) × MayBecomeRequest bytes
 Hears bytes (Asked request) = IsAnswered bytes (Ok (wish_of request))
 Hears bytes (Refused status) = IsAnswered bytes (Err status) ⊎ IsNoHead bytes status
+
+-- the bytes so far are none, or there is no head yet
+abbrev pub NeedMore : List ℕ → Type 0
+NeedMore bytes = (bytes ≡ []) ⊎ Hears bytes More

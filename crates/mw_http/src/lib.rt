@@ -9,19 +9,16 @@
 //!
 //! A connection has one request, by `GET` or `HEAD`, and is closed after its answer. Anything else is refused by a status of
 //! RFC 9110. The kit's crate http1 reads the head by the grammar of RFC 9112, and judges its fields. `specs/Targets` says
-//! what a target means, `specs/Hearing` what is heard, `specs/Receiving` what is received from a reader, and `specs/Heads` what
-//! the head of an answer says.
+//! what a target means, `specs/Hearing` what is heard, and `specs/Heads` what the head of an answer says.
 #![tactic(auto)]
 
 mod heads;
 mod hearing;
 mod hosts;
-mod receiving;
 mod status;
 mod targets;
 
 pub use heads::{AnswerHead, Content, ContentType, MAX_ANSWER_HEAD, MAX_DATE, answer_head};
 pub use hearing::{Heard, MAX_FIELDS, MAX_HEAD, Request, hear};
-pub use receiving::{Received, receive};
 pub use status::Status;
 pub use targets::Route;

@@ -7,8 +7,7 @@ use Rattle.mw_http.specs.declared.hearing.Heard.TheVariants as Hear
 use Rattle.mw_http.specs.declared.status.Status.{Status}
 use Rattle.mw_http.specs.declared.status.Status.TheVariants.{RequestTimeout}
 use Rattle.mw_http.specs.Heads.{head}
-use Rattle.mw_http.specs.Hearing.{Hears}
-use Rattle.mw_http.specs.Receiving.{NeedMore}
+use Rattle.mw_http.specs.Hearing.{Hears, NeedMore}
 use Rattle.mw_http.specs.Targets.{Place, place_of}
 use Rattle.mw_server_pages.specs.declared.exchanges.Exchanged.{Exchanged}
 use Rattle.mw_server_pages.specs.declared.exchanges.Exchanged.TheVariants as exchange

@@ -4,7 +4,7 @@ use Rattle.std.proofs.Common.{◌≡◌, ◌<◌, ◌≤◌, length}
 use Rattle.mw_session.specs.KnownStreams.{reads_of, writes_of}
 use Rattle.mw_session.specs.StreamRecords.{with_read}
 use Rattle.mw_http.specs.declared.hearing.TheConstants.{MAX_HEAD}
-use Rattle.mw_http.specs.Receiving.{NeedMore}
+use Rattle.mw_http.specs.Hearing.{NeedMore}
 use Rattle.mw_server_pages.proofs.receiving.receive_from.Given as goal
 
 -- at least a byte was read in each turn, all are kept, and there is no head yet
