@@ -22,7 +22,7 @@ use std::time::{Clock, Duration, Instant};
 const FAREWELL: u64 = 1;
 
 /// How long a client may take, in seconds of at least 1.
-#[derive(Clone, Copy, Debug)]
+#[derive(Clone, Copy)]
 pub struct BriefLimits {
     /// From when it comes until its request has been read.
     pub request: u32,

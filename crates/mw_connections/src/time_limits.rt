@@ -34,7 +34,7 @@ const LOOK: u64 = 250;
 const LINE_FEED: u8 = b'\n';
 
 /// How long a session may wait for its client, in seconds from 1 to 86400. None: for ever.
-#[derive(Clone, Copy, Debug)]
+#[derive(Clone, Copy)]
 pub struct TimeLimits {
     /// For a read that gets no byte, or a write that gets rid of none.
     pub silence: Option<u32>,

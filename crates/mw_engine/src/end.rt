@@ -16,7 +16,7 @@ use mw_disk::Disk;
 use std::alloc::Global;
 
 /// Why an engine that ended gave no disks.
-#[derive(Debug, PartialEq, Eq, Clone, Copy)]
+#[derive(PartialEq, Eq, Clone, Copy)]
 pub enum NoDisks {
     /// Memory is out.
     Memory,

@@ -26,7 +26,7 @@ pub trait Hold {
 }
 
 /// Holds nobody.
-#[derive(Clone, Copy, Debug, Drop)]
+#[derive(Clone, Copy, Drop)]
 pub struct NoHold;
 
 impl Hold for NoHold {

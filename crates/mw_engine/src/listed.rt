@@ -5,7 +5,7 @@ use mw_words::Name;
 
 /// A tenant's line without the path: its name, its number of words and its quota. With it, how many places for
 /// changes the tenant's file has: 0 if the file didn't open.
-#[derive(Debug, Default, Drop)]
+#[derive(Default, Drop)]
 pub(crate) struct Listed {
     pub(crate) name: Name,
     pub(crate) words: u16,

@@ -16,7 +16,7 @@ pub const MAX_DATE: usize = 29;
 pub type AnswerHead = ArrayVec<u8, MAX_ANSWER_HEAD>;
 
 /// What the content of an answer is.
-#[derive(Clone, Copy, Debug, PartialEq, Eq)]
+#[derive(Clone, Copy, PartialEq, Eq)]
 pub enum ContentType {
     /// A plain text.
     Text,
@@ -29,7 +29,7 @@ pub enum ContentType {
 }
 
 /// The content of an answer: what it is, and how many bytes it has.
-#[derive(Clone, Copy, Debug, PartialEq, Eq)]
+#[derive(Clone, Copy)]
 pub struct Content {
     pub kind: ContentType,
     pub length: u64,

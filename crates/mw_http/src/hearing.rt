@@ -20,7 +20,7 @@ pub const MAX_HEAD: usize = 8192;
 pub const MAX_FIELDS: usize = 64;
 
 /// What a request asks for.
-#[derive(Debug, PartialEq, Eq, Drop)]
+#[derive(Drop)]
 pub struct Request {
     /// What is asked for.
     pub route: Route,
@@ -29,7 +29,7 @@ pub struct Request {
 }
 
 /// What some bytes say.
-#[derive(Debug, PartialEq, Eq, Drop)]
+#[derive(Drop)]
 pub enum Heard {
     /// No whole head yet.
     More,

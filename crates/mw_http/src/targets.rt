@@ -7,7 +7,7 @@ use http1::text::eq_ignore_case;
 use mw_words::{Name, is_name};
 
 /// What a client may ask for.
-#[derive(Debug, PartialEq, Eq, Drop)]
+#[derive(Drop)]
 pub enum Route {
     /// The status page.
     Page,

@@ -13,18 +13,12 @@ use crate::kinds::{CloseReason, DeviceCall, ReplyKind, RequestKind};
 use std::sync::atomic::{AtomicU64, Ordering};
 
 /// A number that threads add to. It stops at no bound: after `u64::MAX` comes 0.
-#[derive(Drop)]
+#[derive(Default, Drop)]
 struct Counter {
     word: AtomicU64,
 }
 
 impl Counter {
-    fn new() -> Counter {
-        Counter {
-            word: AtomicU64::new(0),
-        }
-    }
-
     fn add(&self, amount: u64) {
         self.word.fetch_add(amount, Ordering::Relaxed);
     }
@@ -38,72 +32,55 @@ impl Counter {
     }
 }
 
+/// Gives what each counter has counted.
+fn values<const N: usize>(counters: &[Counter; N]) -> [u64; N] {
+    let mut values = [0; N];
+    for (value, counter) in values.iter_mut().zip(counters.iter()) {
+        *value = counter.get();
+    }
+    values
+}
+
 /// Counts durations in the buckets of a histogram.
-#[derive(Drop)]
+#[derive(Default, Drop)]
 struct Histogram {
     counts: [Counter; BUCKETS],
     sum_nanos: Counter,
 }
 
 impl Histogram {
-    fn new() -> Histogram {
-        Histogram {
-            counts: std::array::from_fn(|_| Counter::new()),
-            sum_nanos: Counter::new(),
-        }
-    }
-
     fn record(&self, nanos: u64) {
         self.counts[bucket_of(nanos)].add(1);
         self.sum_nanos.add(nanos);
     }
 
     fn figures(&self) -> HistogramFigures {
-        let mut counts = [0; BUCKETS];
-        for (count, counter) in counts.iter_mut().zip(self.counts.iter()) {
-            *count = counter.get();
-        }
         HistogramFigures {
-            counts,
+            counts: values(&self.counts),
             sum_nanos: self.sum_nanos.get(),
         }
     }
 }
 
 /// Counts the requests of one kind.
-#[derive(Drop)]
+#[derive(Default, Drop)]
 struct RequestCounters {
     replies: [Counter; 7],
     time: Histogram,
 }
 
 impl RequestCounters {
-    fn new() -> RequestCounters {
-        RequestCounters {
-            replies: std::array::from_fn(|_| Counter::new()),
-            time: Histogram::new(),
-        }
-    }
-
-    fn record(&self, reply: ReplyKind, nanos: u64) {
-        self.replies[reply as usize].add(1);
-        self.time.record(nanos);
-    }
-
-    fn replies(&self, reply: ReplyKind) -> u64 {
-        self.replies[reply as usize].get()
-    }
-
     fn figures(&self) -> RequestFigures {
+        let [val, yes, no, busy, fault, worn, err] = values(&self.replies);
         RequestFigures {
             replies: ReplyCounts {
-                val: self.replies(ReplyKind::Val),
-                yes: self.replies(ReplyKind::Yes),
-                no: self.replies(ReplyKind::No),
-                busy: self.replies(ReplyKind::Busy),
-                fault: self.replies(ReplyKind::Fault),
-                worn: self.replies(ReplyKind::Worn),
-                err: self.replies(ReplyKind::Err),
+                val,
+                yes,
+                no,
+                busy,
+                fault,
+                worn,
+                err,
             },
             time: self.time.figures(),
         }
@@ -111,20 +88,13 @@ impl RequestCounters {
 }
 
 /// Counts one call of a device.
-#[derive(Drop)]
+#[derive(Default, Drop)]
 struct CallCounters {
     failures: Counter,
     time: Histogram,
 }
 
 impl CallCounters {
-    fn new() -> CallCounters {
-        CallCounters {
-            failures: Counter::new(),
-            time: Histogram::new(),
-        }
-    }
-
     fn figures(&self) -> CallFigures {
         CallFigures {
             failures: self.failures.get(),
@@ -134,7 +104,7 @@ impl CallCounters {
 }
 
 /// Counts what is done for one tenant. Threads share it by `&`.
-#[derive(Drop)]
+#[derive(Default, Drop)]
 pub struct TenantCounters {
     get: RequestCounters,
     cas: RequestCounters,
@@ -147,23 +117,18 @@ pub struct TenantCounters {
 impl TenantCounters {
     /// Makes counters that have counted nothing.
     pub fn new() -> TenantCounters {
-        TenantCounters {
-            get: RequestCounters::new(),
-            cas: RequestCounters::new(),
-            other: RequestCounters::new(),
-            read: CallCounters::new(),
-            write: CallCounters::new(),
-            sync: CallCounters::new(),
-        }
+        TenantCounters::default()
     }
 
     /// Counts a request that was answered so, in so many nanoseconds from its line to its reply.
     pub fn record_request(&self, kind: RequestKind, reply: ReplyKind, nanos: u64) {
-        match kind {
-            RequestKind::Get => self.get.record(reply, nanos),
-            RequestKind::Cas => self.cas.record(reply, nanos),
-            RequestKind::Other => self.other.record(reply, nanos),
-        }
+        let counters = match kind {
+            RequestKind::Get => &self.get,
+            RequestKind::Cas => &self.cas,
+            RequestKind::Other => &self.other,
+        };
+        counters.replies[reply as usize].add(1);
+        counters.time.record(nanos);
     }
 
     /// Counts a call of the device that holds the tenant's file, which took so many nanoseconds.
@@ -193,7 +158,7 @@ impl TenantCounters {
 }
 
 /// Counts what is done for all tenants. Threads share it by `&`.
-#[derive(Drop)]
+#[derive(Default, Drop)]
 pub struct ServerCounters {
     served: Counter,
     waiting: Counter,
@@ -208,16 +173,7 @@ pub struct ServerCounters {
 impl ServerCounters {
     /// Makes counters that have counted nothing.
     pub fn new() -> ServerCounters {
-        ServerCounters {
-            served: Counter::new(),
-            waiting: Counter::new(),
-            accepted: Counter::new(),
-            closed: std::array::from_fn(|_| Counter::new()),
-            passes_in_use: Counter::new(),
-            pass_waits: Counter::new(),
-            received: Counter::new(),
-            sent: Counter::new(),
-        }
+        ServerCounters::default()
     }
 
     /// Counts a connection that was accepted, and waits for a session from now on.
@@ -270,33 +226,27 @@ impl ServerCounters {
         ensures uptime { result.uptime_nanos ≡ uptime_nanos }
         ensures pool { result.pool_free ≡ pool_free }
     {
+        let [quit, peer_end, too_long, read_fault, write_fault, memory, unserved] =
+            values(&self.closed);
         ServerMetrics {
             uptime_nanos,
             pool_free,
             served: self.served.get(),
             waiting: self.waiting.get(),
             accepted: self.accepted.get(),
-            closed: self.closed_counts(),
+            closed: ClosedCounts {
+                quit,
+                peer_end,
+                too_long,
+                read_fault,
+                write_fault,
+                memory,
+                unserved,
+            },
             passes_in_use: self.passes_in_use.get(),
             pass_waits: self.pass_waits.get(),
             received: self.received.get(),
             sent: self.sent.get(),
         }
-    }
-
-    fn closed_counts(&self) -> ClosedCounts {
-        ClosedCounts {
-            quit: self.closed_for(CloseReason::Quit),
-            peer_end: self.closed_for(CloseReason::PeerEnd),
-            too_long: self.closed_for(CloseReason::TooLong),
-            read_fault: self.closed_for(CloseReason::ReadFault),
-            write_fault: self.closed_for(CloseReason::WriteFault),
-            memory: self.closed_for(CloseReason::Memory),
-            unserved: self.closed_for(CloseReason::Unserved),
-        }
-    }
-
-    fn closed_for(&self, reason: CloseReason) -> u64 {
-        self.closed[reason as usize].get()
     }
 }

@@ -1,9 +1,9 @@
 //! The families of metrics: what each is called, what it tells, and of which type it is.
-ghost use Rattle.std.specs.Prelude.{◌≡◌, ◌≤◌, length};
+ghost use Rattle.std.specs.Prelude.{◌≡◌, ◌≤◌, length, codes};
 ghost use Rattle.mw_metrics.specs.Names as spec;
 
 /// A figure of one tenant at the moment.
-#[derive(Clone, Copy, Debug, PartialEq, Eq)]
+#[derive(Clone, Copy)]
 pub(crate) enum TenantGauge {
     Words,
     Quota,
@@ -13,7 +13,7 @@ pub(crate) enum TenantGauge {
 }
 
 /// A figure of the whole server, a number with no label.
-#[derive(Clone, Copy, Debug, PartialEq, Eq)]
+#[derive(Clone, Copy)]
 pub(crate) enum ServerFigure {
     PoolFree,
     Served,
@@ -26,7 +26,7 @@ pub(crate) enum ServerFigure {
 }
 
 /// A family of metrics.
-#[derive(Clone, Copy, Debug, PartialEq, Eq)]
+#[derive(Clone, Copy)]
 pub(crate) enum Family {
     Build,
     Uptime,
@@ -66,134 +66,160 @@ pub(crate) const SERVER_FIGURES: [ServerFigure; 8] = [
     ServerFigure::Sent,
 ];
 
-#[tactic(auto, unfolding(crate::specs::Names::gauge_name, crate::specs::Names::gauge_help))]
+/// What a scraper is told of a family.
+#[derive(Drop)]
+pub(crate) struct Description {
+    /// The family's name.
+    pub(crate) name: &'static [u8],
+    /// What the family tells, a sentence.
+    pub(crate) help: &'static [u8],
+    /// The family's type.
+    pub(crate) type_text: &'static [u8],
+}
+
 impl TenantGauge {
-    fn name(self) -> &'static [u8]
-        ensures name { result.now ≡ spec.gauge_name self }
-        ensures short { length result.now ≤ MAX_FAMILY_NAME }
+    #[tactic(auto, unfolding(crate::specs::Names::gauge_name, crate::specs::Names::gauge_help))]
+    fn description(self) -> Description
+        ensures name { result.name.now ≡ spec.gauge_name self }
+        ensures help { result.help.now ≡ spec.gauge_help self }
+        ensures type_text { result.type_text.now ≡ codes "gauge" }
+        ensures short_name { length result.name.now ≤ MAX_FAMILY_NAME }
+        ensures short_help { length result.help.now ≤ MAX_HELP }
     {
         match self {
-            TenantGauge::Words => b"mondlexi_words",
-            TenantGauge::Quota => b"mondlexi_quota",
-            TenantGauge::RecordPlaces => b"mondlexi_record_places",
-            TenantGauge::ChangesUnderWay => b"mondlexi_changes_under_way",
-            TenantGauge::Up => b"mondlexi_up",
-        }
-    }
-
-    fn help(self) -> &'static [u8]
-        ensures help { result.now ≡ spec.gauge_help self }
-        ensures short { length result.now ≤ MAX_HELP }
-    {
-        match self {
-            TenantGauge::Words => b"Words of the tenant.",
-            TenantGauge::Quota => b"Changes that the tenant may have under way at a time.",
-            TenantGauge::RecordPlaces => b"Record places of the tenant's file.",
-            TenantGauge::ChangesUnderWay => b"Changes of the tenant under way.",
-            TenantGauge::Up => b"1 if the tenant's file takes changes, 0 if it has failed.",
+            TenantGauge::Words => Description {
+                name: b"mondlexi_words",
+                help: b"Words of the tenant.",
+                type_text: b"gauge",
+            },
+            TenantGauge::Quota => Description {
+                name: b"mondlexi_quota",
+                help: b"Changes that the tenant may have under way at a time.",
+                type_text: b"gauge",
+            },
+            TenantGauge::RecordPlaces => Description {
+                name: b"mondlexi_record_places",
+                help: b"Record places of the tenant's file.",
+                type_text: b"gauge",
+            },
+            TenantGauge::ChangesUnderWay => Description {
+                name: b"mondlexi_changes_under_way",
+                help: b"Changes of the tenant under way.",
+                type_text: b"gauge",
+            },
+            TenantGauge::Up => Description {
+                name: b"mondlexi_up",
+                help: b"1 if the tenant's file takes changes, 0 if it has failed.",
+                type_text: b"gauge",
+            },
         }
     }
 }
 
-#[tactic(auto, unfolding(crate::specs::Names::figure_name, crate::specs::Names::figure_help, crate::specs::Names::figure_type))]
 impl ServerFigure {
-    fn name(self) -> &'static [u8]
-        ensures name { result.now ≡ spec.figure_name self }
-        ensures short { length result.now ≤ MAX_FAMILY_NAME }
+    #[tactic(auto, unfolding(crate::specs::Names::figure_name, crate::specs::Names::figure_help, crate::specs::Names::figure_type))]
+    fn description(self) -> Description
+        ensures name { result.name.now ≡ spec.figure_name self }
+        ensures help { result.help.now ≡ spec.figure_help self }
+        ensures type_text { result.type_text.now ≡ spec.figure_type self }
+        ensures short_name { length result.name.now ≤ MAX_FAMILY_NAME }
+        ensures short_help { length result.help.now ≤ MAX_HELP }
+        ensures short_type { length result.type_text.now ≤ 9 }
     {
         match self {
-            ServerFigure::PoolFree => b"mondlexi_pool_free_slots",
-            ServerFigure::Served => b"mondlexi_connections_served",
-            ServerFigure::Waiting => b"mondlexi_connections_waiting",
-            ServerFigure::Accepted => b"mondlexi_connections_total",
-            ServerFigure::PassesInUse => b"mondlexi_passes_in_use",
-            ServerFigure::PassWaits => b"mondlexi_pass_waits_total",
-            ServerFigure::Received => b"mondlexi_received_bytes_total",
-            ServerFigure::Sent => b"mondlexi_sent_bytes_total",
-        }
-    }
-
-    fn help(self) -> &'static [u8]
-        ensures help { result.now ≡ spec.figure_help self }
-        ensures short { length result.now ≤ MAX_HELP }
-    {
-        match self {
-            ServerFigure::PoolFree => b"Free slots of the pool that all tenants share.",
-            ServerFigure::Served => b"Connections that a session serves.",
-            ServerFigure::Waiting => b"Connections that wait for a session.",
-            ServerFigure::Accepted => b"Connections that were accepted.",
-            ServerFigure::PassesInUse => b"Passes of the engine that are in use.",
-            ServerFigure::PassWaits => b"Requests that waited for a pass of the engine.",
-            ServerFigure::Received => b"Bytes that clients sent.",
-            ServerFigure::Sent => b"Bytes that clients were sent.",
-        }
-    }
-
-    fn type_text(self) -> &'static [u8]
-        ensures text { result.now ≡ spec.figure_type self }
-        ensures short { length result.now ≤ 9 }
-    {
-        match self {
-            ServerFigure::PoolFree
-            | ServerFigure::Served
-            | ServerFigure::Waiting
-            | ServerFigure::PassesInUse => b"gauge",
-            ServerFigure::Accepted
-            | ServerFigure::PassWaits
-            | ServerFigure::Received
-            | ServerFigure::Sent => b"counter",
+            ServerFigure::PoolFree => Description {
+                name: b"mondlexi_pool_free_slots",
+                help: b"Free slots of the pool that all tenants share.",
+                type_text: b"gauge",
+            },
+            ServerFigure::Served => Description {
+                name: b"mondlexi_connections_served",
+                help: b"Connections that a session serves.",
+                type_text: b"gauge",
+            },
+            ServerFigure::Waiting => Description {
+                name: b"mondlexi_connections_waiting",
+                help: b"Connections that wait for a session.",
+                type_text: b"gauge",
+            },
+            ServerFigure::Accepted => Description {
+                name: b"mondlexi_connections_total",
+                help: b"Connections that were accepted.",
+                type_text: b"counter",
+            },
+            ServerFigure::PassesInUse => Description {
+                name: b"mondlexi_passes_in_use",
+                help: b"Passes of the engine that are in use.",
+                type_text: b"gauge",
+            },
+            ServerFigure::PassWaits => Description {
+                name: b"mondlexi_pass_waits_total",
+                help: b"Requests that waited for a pass of the engine.",
+                type_text: b"counter",
+            },
+            ServerFigure::Received => Description {
+                name: b"mondlexi_received_bytes_total",
+                help: b"Bytes that clients sent.",
+                type_text: b"counter",
+            },
+            ServerFigure::Sent => Description {
+                name: b"mondlexi_sent_bytes_total",
+                help: b"Bytes that clients were sent.",
+                type_text: b"counter",
+            },
         }
     }
 }
 
-#[tactic(auto, unfolding(crate::specs::Names::family_name, crate::specs::Names::family_help, crate::specs::Names::family_type))]
 impl Family {
-    /// Gives the family's name.
-    pub(crate) fn name(self) -> &'static [u8]
-        ensures name { result.now ≡ spec.family_name self }
-        ensures short { length result.now ≤ MAX_FAMILY_NAME }
+    /// Gives what a scraper is told of the family.
+    #[tactic(auto, unfolding(crate::specs::Names::family_name, crate::specs::Names::family_help, crate::specs::Names::family_type))]
+    pub(crate) fn description(self) -> Description
+        ensures name { result.name.now ≡ spec.family_name self }
+        ensures help { result.help.now ≡ spec.family_help self }
+        ensures type_text { result.type_text.now ≡ spec.family_type self }
+        ensures short_name { length result.name.now ≤ MAX_FAMILY_NAME }
+        ensures short_help { length result.help.now ≤ MAX_HELP }
+        ensures short_type { length result.type_text.now ≤ 9 }
     {
         match self {
-            Family::Build => b"mondlexi_build_info",
-            Family::Uptime => b"mondlexi_uptime_seconds",
-            Family::Server(figure) => figure.name(),
-            Family::Closed => b"mondlexi_connections_closed_total",
-            Family::Tenant(gauge) => gauge.name(),
-            Family::Requests => b"mondlexi_requests_total",
-            Family::DeviceFailures => b"mondlexi_device_failures_total",
-            Family::RequestTime => b"mondlexi_request_seconds",
-            Family::DeviceTime => b"mondlexi_device_seconds",
-        }
-    }
-
-    /// Gives what the family tells, a sentence.
-    pub(crate) fn help(self) -> &'static [u8]
-        ensures help { result.now ≡ spec.family_help self }
-        ensures short { length result.now ≤ MAX_HELP }
-    {
-        match self {
-            Family::Build => b"The version of the server. The value is always 1.",
-            Family::Uptime => b"Seconds since the server started.",
-            Family::Server(figure) => figure.help(),
-            Family::Closed => b"Connections that were closed, by the reason.",
-            Family::Tenant(gauge) => gauge.help(),
-            Family::Requests => b"Requests that were answered, by their kind and their reply.",
-            Family::DeviceFailures => b"Calls of the device of a tenant's file that failed.",
-            Family::RequestTime => b"Seconds from a request's line to its reply.",
-            Family::DeviceTime => b"Seconds of a call of the device of a tenant's file.",
-        }
-    }
-
-    /// Gives the family's type.
-    pub(crate) fn type_text(self) -> &'static [u8]
-        ensures text { result.now ≡ spec.family_type self }
-        ensures short { length result.now ≤ 9 }
-    {
-        match self {
-            Family::Build | Family::Uptime | Family::Tenant(_) => b"gauge",
-            Family::Server(figure) => figure.type_text(),
-            Family::Closed | Family::Requests | Family::DeviceFailures => b"counter",
-            Family::RequestTime | Family::DeviceTime => b"histogram",
+            Family::Build => Description {
+                name: b"mondlexi_build_info",
+                help: b"The version of the server. The value is always 1.",
+                type_text: b"gauge",
+            },
+            Family::Uptime => Description {
+                name: b"mondlexi_uptime_seconds",
+                help: b"Seconds since the server started.",
+                type_text: b"gauge",
+            },
+            Family::Server(figure) => figure.description(),
+            Family::Closed => Description {
+                name: b"mondlexi_connections_closed_total",
+                help: b"Connections that were closed, by the reason.",
+                type_text: b"counter",
+            },
+            Family::Tenant(gauge) => gauge.description(),
+            Family::Requests => Description {
+                name: b"mondlexi_requests_total",
+                help: b"Requests that were answered, by their kind and their reply.",
+                type_text: b"counter",
+            },
+            Family::DeviceFailures => Description {
+                name: b"mondlexi_device_failures_total",
+                help: b"Calls of the device of a tenant's file that failed.",
+                type_text: b"counter",
+            },
+            Family::RequestTime => Description {
+                name: b"mondlexi_request_seconds",
+                help: b"Seconds from a request's line to its reply.",
+                type_text: b"histogram",
+            },
+            Family::DeviceTime => Description {
+                name: b"mondlexi_device_seconds",
+                help: b"Seconds of a call of the device of a tenant's file.",
+                type_text: b"histogram",
+            },
         }
     }
 }

@@ -4,7 +4,7 @@ use crate::histogram::HistogramFigures;
 use mw_report::TenantFigures;
 
 /// How many requests of one kind had each reply.
-#[derive(Clone, Copy, Debug, Default, PartialEq, Eq)]
+#[derive(Drop)]
 pub struct ReplyCounts {
     pub val: u64,
     pub yes: u64,
@@ -16,7 +16,7 @@ pub struct ReplyCounts {
 }
 
 /// The figures of one kind of request.
-#[derive(Clone, Copy, Debug, Default, PartialEq, Eq)]
+#[derive(Drop)]
 pub struct RequestFigures {
     /// How many were answered.
     pub replies: ReplyCounts,
@@ -25,7 +25,7 @@ pub struct RequestFigures {
 }
 
 /// The figures of one call of a device.
-#[derive(Clone, Copy, Debug, Default, PartialEq, Eq)]
+#[derive(Drop)]
 pub struct CallFigures {
     /// How many failed.
     pub failures: u64,
@@ -34,7 +34,7 @@ pub struct CallFigures {
 }
 
 /// What was counted for one tenant.
-#[derive(Clone, Copy, Debug, Default, PartialEq, Eq)]
+#[derive(Drop)]
 pub struct TenantCounts {
     pub get: RequestFigures,
     pub cas: RequestFigures,
@@ -45,7 +45,7 @@ pub struct TenantCounts {
 }
 
 /// The figures of one tenant.
-#[derive(Debug, Default, PartialEq, Eq, Drop)]
+#[derive(Drop)]
 pub struct TenantMetrics {
     /// Those of the moment.
     pub figures: TenantFigures,
@@ -54,7 +54,7 @@ pub struct TenantMetrics {
 }
 
 /// How many connections were closed, by the reason.
-#[derive(Clone, Copy, Debug, Default, PartialEq, Eq)]
+#[derive(Drop)]
 pub struct ClosedCounts {
     pub quit: u64,
     pub peer_end: u64,
@@ -66,7 +66,7 @@ pub struct ClosedCounts {
 }
 
 /// The figures of the whole server.
-#[derive(Clone, Copy, Debug, Default, PartialEq, Eq)]
+#[derive(Drop)]
 pub struct ServerMetrics {
     /// The time since the start, in nanoseconds.
     pub uptime_nanos: u64,

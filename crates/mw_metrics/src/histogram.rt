@@ -24,7 +24,7 @@ pub const BOUNDS: [u64; BOUNDED] = [
 ];
 
 /// The figures of a histogram.
-#[derive(Clone, Copy, Debug, Default, PartialEq, Eq)]
+#[derive(Drop)]
 pub struct HistogramFigures {
     /// How many durations were in each bucket: at most its bound, and above that of the bucket before it.
     pub counts: [u64; BUCKETS],

@@ -90,7 +90,7 @@ fn put_bucket(
     let labels = one_more_label(&labels, b"le", bound);
     let mut buffer = Buffer::new();
     let count = buffer.format(count).as_bytes();
-    put_sample(text, family.name(), b"_bucket", &labels, count);
+    put_sample(text, family.description().name, b"_bucket", &labels, count);
 }
 
 /// Puts the sum of the durations, and their number.
@@ -112,8 +112,8 @@ fn put_totals(
     ensures room { length text.new.bytes.items ≤ length text.old.bytes.items + 2 * MAX_SAMPLE }
 {
     let labels = one_more_label(&one_label(b"tenant", tenant), name, value);
-    put_sample(text, family.name(), b"_sum", &labels, &seconds(sum_nanos));
+    put_sample(text, family.description().name, b"_sum", &labels, &seconds(sum_nanos));
     let mut buffer = Buffer::new();
     let count = buffer.format(count).as_bytes();
-    put_sample(text, family.name(), b"_count", &labels, count);
+    put_sample(text, family.description().name, b"_count", &labels, count);
 }

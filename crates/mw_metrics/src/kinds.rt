@@ -5,7 +5,7 @@ ghost use Rattle.mw_metrics.specs.Names as spec;
 ghost use Rattle.mw_metrics.specs.declared.samples.TheConstants.{MAX_LABEL_VALUE};
 
 /// What a client's line asks for.
-#[derive(Clone, Copy, Debug, PartialEq, Eq)]
+#[derive(Clone, Copy)]
 pub enum RequestKind {
     /// The value of a word.
     Get,
@@ -16,7 +16,7 @@ pub enum RequestKind {
 }
 
 /// The kind of a reply.
-#[derive(Clone, Copy, Debug, PartialEq, Eq)]
+#[derive(Clone, Copy)]
 pub enum ReplyKind {
     Val,
     Yes,
@@ -28,7 +28,7 @@ pub enum ReplyKind {
 }
 
 /// A call of the device that holds a tenant's file.
-#[derive(Clone, Copy, Debug, PartialEq, Eq)]
+#[derive(Clone, Copy)]
 pub enum DeviceCall {
     Read,
     Write,
@@ -36,7 +36,7 @@ pub enum DeviceCall {
 }
 
 /// Why a connection was closed.
-#[derive(Clone, Copy, Debug, PartialEq, Eq)]
+#[derive(Clone, Copy)]
 pub enum CloseReason {
     /// The client said `QUIT`.
     Quit,

@@ -1,13 +1,19 @@
 //! Counts what a server does, and writes the figures in the text format of Prometheus.
 //!
-//! Threads share [`TenantCounters`] and [`ServerCounters`], and record what happens by calls on a `&`. Each call is one or a
-//! few additions to a shared number: no lock, no memory, no wait. [`metrics_text`] writes what they have counted, with the
-//! figures of the moment, of which mw_report has those of a tenant.
+//! A program makes one [`Meters`] before it opens a file, and lends it to all that counts: mw_opening counts the calls of
+//! the devices, mw_service the requests and the passes, and mw_connections the connections and their bytes. Nothing below
+//! them counts. A [`Stopwatch`] tells how long something took. [`Meters::text`] writes all figures for a scraper.
 //!
-//! `specs/Exposition` defines the format, `specs/Names` the names, and `specs/Figures` the text. No proof says what a shared
-//! number holds: that each record is counted where it belongs is tested.
+//! Threads share the [`TenantCounters`] and the [`ServerCounters`] of the meters, and record what happens by calls on a `&`.
+//! Each call is one or a few additions to a shared number: no lock, no memory, no wait. [`metrics_text`] writes what they
+//! have counted, with the figures of the moment, of which mw_report has those of a tenant.
+//!
+//! `specs/Exposition` defines the format, `specs/Names` the names, and `specs/Figures` the text. `specs/Counted` says under
+//! which kind a request and a reply are counted. No proof says what a shared number holds: that each record is counted
+//! where it belongs is tested.
 #![tactic(auto)]
 
+mod counted;
 mod counters;
 mod exposition;
 mod families;
@@ -15,11 +21,14 @@ mod figures;
 mod histogram;
 mod histogram_lines;
 mod kinds;
+mod meters;
 mod samples;
 mod server_lines;
+mod stopwatch;
 mod tenant_lines;
 mod text;
 
+pub use counted::{kind_of, reply_kind};
 pub use counters::{ServerCounters, TenantCounters};
 pub use exposition::metrics_text;
 pub use figures::{
@@ -31,5 +40,7 @@ pub use kinds::{
     CLOSE_REASONS, CloseReason, DEVICE_CALLS, DeviceCall, REPLY_KINDS, REQUEST_KINDS, ReplyKind,
     RequestKind,
 };
+pub use meters::Meters;
 pub use samples::MAX_LABEL_VALUE;
+pub use stopwatch::Stopwatch;
 pub use text::MAX_METRICS;

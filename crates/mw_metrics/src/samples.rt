@@ -12,9 +12,6 @@ use itoa::Buffer;
 /// The most bytes of a sample's labels, without the braces.
 pub(crate) const MAX_LABELS: usize = 128;
 
-/// The most bytes of a label's name.
-pub(crate) const MAX_LABEL_NAME: usize = 8;
-
 /// The most bytes of a label's value, before it is escaped.
 pub const MAX_LABEL_VALUE: usize = 16;
 
@@ -38,13 +35,15 @@ const SECOND: u64 = 1_000_000_000;
 
 /// Gives the labels with this one alone.
 pub(crate) fn one_label(name: &[u8], value: &[u8]) -> Labels
-    requires name { length name.now ≤ MAX_LABEL_NAME }
-    requires value { length value.now ≤ MAX_LABEL_VALUE }
+    requires { length name.now + length value.now * 2 + 3 ≤ MAX_LABELS }
     ensures label { result.items ≡ label_text (label name.now value.now) }
     ensures room { length result.items ≤ length name.now + length value.now * 2 + 3 }
 {
     let mut labels = Labels::new();
-    put_label(&mut labels, name, value);
+    push(&mut labels, name);
+    push(&mut labels, b"=\"");
+    put_escaped(&mut labels, value);
+    push(&mut labels, b"\"");
     labels
 }
 
@@ -57,19 +56,8 @@ pub(crate) fn one_more_label(labels: &[u8], name: &[u8], value: &[u8]) -> Labels
     let mut more = Labels::new();
     push(&mut more, labels);
     push(&mut more, b",");
-    put_label(&mut more, name, value);
+    push(&mut more, &one_label(name, value));
     more
-}
-
-fn put_label(labels: &mut Labels, name: &[u8], value: &[u8])
-    requires room { length labels.old.items + length name.now + length value.now * 2 + 3 ≤ MAX_LABELS }
-    ensures label { labels.new.items ≡ labels.old.items ++ label_text (label name.now value.now) }
-    ensures room { length labels.new.items ≤ length labels.old.items + length name.now + length value.now * 2 + 3 }
-{
-    push(labels, name);
-    push(labels, b"=\"");
-    put_escaped(labels, value);
-    push(labels, b"\"");
 }
 
 #[tactic(auto, unfolding(crate::specs::Exposition::escaped))]
@@ -105,41 +93,22 @@ fn push(labels: &mut Labels, bytes: &[u8])
 }
 
 /// Gives a number of nanoseconds as seconds, with nine digits after the point.
-#[tactic(auto, using(crate::proofs::Widths::widths))]
+#[tactic(auto, unfolding(crate::specs::Exposition::nine_digits), using(crate::proofs::Widths::widths))]
 pub(crate) fn seconds(nanos: u64) -> Seconds
     ensures seconds { result.items ≡ spec.seconds nanos }
     ensures room { length result.items ≤ 30 }
 {
+    let zeros: &[u8] = b"000000000";
     let mut text = Seconds::new();
     let mut whole = Buffer::new();
+    let mut part = Buffer::new();
+    let digits = part.format(nanos % SECOND).as_bytes();
     text.try_extend_from_slice(whole.format(nanos / SECOND).as_bytes())
         .unwrap();
     text.push(b'.');
-    put_nine_digits(&mut text, nanos % SECOND);
-    text
-}
-
-#[tactic(auto, unfolding(crate::specs::Exposition::nine_digits), using(crate::proofs::Widths::widths))]
-fn put_nine_digits(text: &mut Seconds, number: u64)
-    requires number { number < SECOND }
-    requires room { length text.old.items + 9 ≤ MAX_VALUE_TEXT }
-    ensures digits { text.new.items ≡ text.old.items ++ spec.nine_digits number }
-    ensures room { length text.new.items ≡ length text.old.items + 9 }
-{
-    let mut buffer = Buffer::new();
-    let digits = buffer.format(number).as_bytes();
-    put_zeros(text, 9 - digits.len());
+    text.try_extend_from_slice(&zeros[digits.len()..]).unwrap();
     text.try_extend_from_slice(digits).unwrap();
-}
-
-fn put_zeros(text: &mut Seconds, count: usize)
-    requires { length text.old.items + count ≤ MAX_VALUE_TEXT }
-    ensures zeros { text.new.items ≡ text.old.items ++ replicate count 48 }
-    ensures room { length text.new.items ≡ length text.old.items + count }
-{
-    for _ in 0..count {
-        text.push(b'0');
-    }
+    text
 }
 
 /// Puts a sample's line. The labels are in `labels`, without braces; the sample has at least one. The metric's name is
@@ -171,7 +140,7 @@ pub(crate) fn put_number(text: &mut Text, family: Family, labels: &Labels, numbe
 {
     let mut buffer = Buffer::new();
     let digits = buffer.format(number).as_bytes();
-    put_sample(text, family.name(), b"", labels, digits);
+    put_sample(text, family.description().name, b"", labels, digits);
 }
 
 /// Puts the line of a sample that has no labels.

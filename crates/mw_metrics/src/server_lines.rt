@@ -2,7 +2,7 @@
 ghost use Rattle.std.specs.Prelude.{◌≡◌, ◌+◌, ◌*◌, ◌≤◌, [], ◌∷◌, ◌++◌, length};
 ghost use Rattle.mw_metrics.specs.Figures as spec;
 
-use crate::families::{Family, SERVER_FIGURES, ServerFigure};
+use crate::families::{Description, Family, SERVER_FIGURES, ServerFigure};
 use crate::figures::{ClosedCounts, ServerMetrics};
 use crate::kinds::{CLOSE_REASONS, CloseReason};
 use crate::samples::{
@@ -24,75 +24,53 @@ pub(crate) fn put_header(text: &mut Text, family: Family)
     ensures header { text.new.bytes.items ≡ text.old.bytes.items ++ spec.header family }
     ensures room { length text.new.bytes.items ≤ length text.old.bytes.items + MAX_HEADER }
 {
+    let Description {
+        name,
+        help,
+        type_text,
+    } = family.description();
     text.put(b"# HELP ");
-    text.put(family.name());
+    text.put(name);
     text.put(b" ");
-    text.put(family.help());
+    text.put(help);
     text.put(b"\n# TYPE ");
-    text.put(family.name());
+    text.put(name);
     text.put(b" ");
-    text.put(family.type_text());
+    text.put(type_text);
     text.put(b"\n");
 }
 
 /// Puts the families of the whole server.
-#[tactic(auto, unfolding(crate::specs::Figures::of_server))]
+#[tactic(auto, unfolding(crate::specs::Figures::of_server, crate::specs::Figures::build_family, crate::specs::Figures::uptime_family))]
 pub(crate) fn put_server(text: &mut Text, version: &[u8], server: &ServerMetrics)
     requires version { length version.now ≤ MAX_LABEL_VALUE }
     requires room { length text.old.bytes.items + MAX_SERVER ≤ MAX_METRICS }
     ensures families { text.new.bytes.items ≡ text.old.bytes.items ++ spec.of_server version.now server.now }
     ensures room { length text.new.bytes.items ≤ length text.old.bytes.items + MAX_SERVER }
 {
-    put_build(text, version);
-    put_uptime(text, server.uptime_nanos);
+    put_header(text, Family::Build);
+    put_number(text, Family::Build, &one_label(b"version", version), 1);
+    put_header(text, Family::Uptime);
+    let uptime = seconds(server.uptime_nanos);
+    put_plain_sample(text, Family::Uptime.description().name, &uptime);
     put_figures(text, server);
     put_closed(text, &server.closed);
 }
 
-#[tactic(auto, unfolding(crate::specs::Figures::build_family))]
-fn put_build(text: &mut Text, version: &[u8])
-    requires version { length version.now ≤ MAX_LABEL_VALUE }
-    requires room { length text.old.bytes.items + (MAX_HEADER + MAX_SAMPLE) ≤ MAX_METRICS }
-    ensures family { text.new.bytes.items ≡ text.old.bytes.items ++ spec.build_family version.now }
-    ensures room { length text.new.bytes.items ≤ length text.old.bytes.items + (MAX_HEADER + MAX_SAMPLE) }
-{
-    put_header(text, Family::Build);
-    put_number(text, Family::Build, &one_label(b"version", version), 1);
-}
-
-#[tactic(auto, unfolding(crate::specs::Figures::uptime_family))]
-fn put_uptime(text: &mut Text, nanos: u64)
-    requires room { length text.old.bytes.items + (MAX_HEADER + MAX_SAMPLE) ≤ MAX_METRICS }
-    ensures family { text.new.bytes.items ≡ text.old.bytes.items ++ spec.uptime_family nanos }
-    ensures room { length text.new.bytes.items ≤ length text.old.bytes.items + (MAX_HEADER + MAX_SAMPLE) }
-{
-    put_header(text, Family::Uptime);
-    put_plain_sample(text, Family::Uptime.name(), &seconds(nanos));
-}
-
 /// Puts each figure of the server that has no label.
-#[tactic(auto, unfolding(crate::specs::Figures::figure_families))]
+#[tactic(auto, unfolding(crate::specs::Figures::figure_families), using(crate::proofs::Widths::widths))]
 fn put_figures(text: &mut Text, server: &ServerMetrics)
     requires room { length text.old.bytes.items + 8 * (MAX_HEADER + MAX_SAMPLE) ≤ MAX_METRICS }
     ensures families { text.new.bytes.items ≡ text.old.bytes.items ++ spec.figure_families server.now }
     ensures room { length text.new.bytes.items ≤ length text.old.bytes.items + 8 * (MAX_HEADER + MAX_SAMPLE) }
 {
     for figure in SERVER_FIGURES {
-        put_figure(text, server, figure);
+        let family = Family::Server(figure);
+        put_header(text, family);
+        let mut buffer = Buffer::new();
+        let number = buffer.format(figure_of(server, figure)).as_bytes();
+        put_plain_sample(text, family.description().name, number);
     }
-}
-
-#[tactic(auto, using(crate::proofs::Widths::widths))]
-fn put_figure(text: &mut Text, server: &ServerMetrics, figure: ServerFigure)
-    requires room { length text.old.bytes.items + (MAX_HEADER + MAX_SAMPLE) ≤ MAX_METRICS }
-    ensures family { text.new.bytes.items ≡ text.old.bytes.items ++ spec.figure_family server.now figure }
-    ensures room { length text.new.bytes.items ≤ length text.old.bytes.items + (MAX_HEADER + MAX_SAMPLE) }
-{
-    let family = Family::Server(figure);
-    put_header(text, family);
-    let mut buffer = Buffer::new();
-    let number = buffer.format(figure_of(server, figure)).as_bytes();
-    put_plain_sample(text, family.name(), number);
 }
 
 fn figure_of(server: &ServerMetrics, figure: ServerFigure) -> u64

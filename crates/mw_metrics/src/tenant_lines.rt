@@ -2,6 +2,7 @@
 ghost use Rattle.std.specs.Prelude.{◌≡◌, ◌+◌, ◌*◌, ◌≤◌, [], ◌∷◌, ◌++◌, length, codes, flat_map};
 ghost use Rattle.mw_words.specs.declared.limits.TheConstants.{MAX_TENANTS};
 ghost use Rattle.mw_metrics.specs.Figures as spec;
+ghost use Rattle.mw_metrics.specs.TenantLines.{lines_of, most_of};
 
 use crate::families::{Family, TENANT_GAUGES, TenantGauge};
 use crate::figures::{CallFigures, ReplyCounts, RequestFigures, TenantCounts, TenantMetrics};
@@ -31,14 +32,14 @@ pub(crate) fn put_tenants(text: &mut Text, tenants: &[TenantMetrics])
     ensures room { length text.new.bytes.items ≤ length text.old.bytes.items + MAX_TENANT_FAMILIES }
 {
     put_gauges(text, tenants);
-    put_requests(text, tenants);
-    put_failures(text, tenants);
-    put_request_times(text, tenants);
-    put_call_times(text, tenants);
+    put_family(text, Family::Requests, tenants);
+    put_family(text, Family::DeviceFailures, tenants);
+    put_family(text, Family::RequestTime, tenants);
+    put_family(text, Family::DeviceTime, tenants);
 }
 
 /// Puts each figure of each tenant at the moment.
-#[tactic(auto, unfolding(crate::specs::Figures::gauge_families))]
+#[tactic(auto, unfolding(crate::specs::Figures::gauge_families, crate::specs::Figures::gauge_family, crate::specs::Figures::tenant_family))]
 fn put_gauges(text: &mut Text, tenants: &[TenantMetrics])
     requires few { length tenants.now ≤ MAX_TENANTS }
     requires room { length text.old.bytes.items + 5 * (MAX_HEADER + MAX_TENANTS * MAX_SAMPLE) ≤ MAX_METRICS }
@@ -46,36 +47,41 @@ fn put_gauges(text: &mut Text, tenants: &[TenantMetrics])
     ensures room { length text.new.bytes.items ≤ length text.old.bytes.items + 5 * (MAX_HEADER + MAX_TENANTS * MAX_SAMPLE) }
 {
     for gauge in TENANT_GAUGES {
-        put_gauge(text, gauge, tenants);
+        put_family(text, Family::Tenant(gauge), tenants);
     }
 }
 
-/// Puts one figure of each tenant at the moment.
-#[tactic(auto, unfolding(crate::specs::Figures::gauge_family))]
-fn put_gauge(text: &mut Text, gauge: TenantGauge, tenants: &[TenantMetrics])
+/// Puts a family that has some lines for each tenant.
+#[tactic(auto, unfolding(crate::specs::Figures::tenant_family))]
+fn put_family(text: &mut Text, family: Family, tenants: &[TenantMetrics])
     requires few { length tenants.now ≤ MAX_TENANTS }
-    requires room { length text.old.bytes.items + (MAX_HEADER + MAX_TENANTS * MAX_SAMPLE) ≤ MAX_METRICS }
-    ensures family { text.new.bytes.items ≡ text.old.bytes.items ++ spec.gauge_family tenants.now gauge }
-    ensures room { length text.new.bytes.items ≤ length text.old.bytes.items + (MAX_HEADER + MAX_TENANTS * MAX_SAMPLE) }
+    requires room { length text.old.bytes.items + (MAX_HEADER + MAX_TENANTS * most_of family) ≤ MAX_METRICS }
+    ensures lines { text.new.bytes.items ≡ text.old.bytes.items ++ spec.tenant_family family (lines_of family) tenants.now }
+    ensures room { length text.new.bytes.items ≤ length text.old.bytes.items + (MAX_HEADER + MAX_TENANTS * most_of family) }
 {
-    put_header(text, Family::Tenant(gauge));
+    put_header(text, family);
     for tenant in tenants {
-        put_gauge_line(text, gauge, tenant);
+        put_tenant(text, family, tenant);
     }
 }
 
-fn put_gauge_line(text: &mut Text, gauge: TenantGauge, tenant: &TenantMetrics)
-    requires room { length text.old.bytes.items + MAX_SAMPLE ≤ MAX_METRICS }
-    ensures line { text.new.bytes.items ≡ text.old.bytes.items ++ spec.gauge_line gauge tenant.now }
-    ensures room { length text.new.bytes.items ≤ length text.old.bytes.items + MAX_SAMPLE }
+/// Puts the lines of a family for one tenant.
+fn put_tenant(text: &mut Text, family: Family, tenant: &TenantMetrics)
+    requires room { length text.old.bytes.items + most_of family ≤ MAX_METRICS }
+    ensures lines { text.new.bytes.items ≡ text.old.bytes.items ++ lines_of family tenant.now }
+    ensures room { length text.new.bytes.items ≤ length text.old.bytes.items + most_of family }
 {
-    let labels = one_label(b"tenant", &tenant.figures.name);
-    put_number(
-        text,
-        Family::Tenant(gauge),
-        &labels,
-        gauge_of(&tenant.figures, gauge),
-    );
+    match family {
+        Family::Tenant(gauge) => {
+            let labels = one_label(b"tenant", &tenant.figures.name);
+            put_number(text, family, &labels, gauge_of(&tenant.figures, gauge));
+        }
+        Family::Requests => put_requests(text, tenant),
+        Family::DeviceFailures => put_failures(text, tenant),
+        Family::RequestTime => put_request_times(text, tenant),
+        Family::DeviceTime => put_call_times(text, tenant),
+        Family::Build | Family::Uptime | Family::Server(_) | Family::Closed => {}
+    }
 }
 
 fn gauge_of(tenant: &TenantFigures, gauge: TenantGauge) -> u64
@@ -91,21 +97,8 @@ fn gauge_of(tenant: &TenantFigures, gauge: TenantGauge) -> u64
 }
 
 /// Puts how many requests were answered, by their kind and their reply.
-#[tactic(auto, unfolding(crate::specs::Figures::tenant_family))]
-fn put_requests(text: &mut Text, tenants: &[TenantMetrics])
-    requires few { length tenants.now ≤ MAX_TENANTS }
-    requires room { length text.old.bytes.items + (MAX_HEADER + MAX_TENANTS * MAX_REQUESTS) ≤ MAX_METRICS }
-    ensures family { text.new.bytes.items ≡ text.old.bytes.items ++ spec.tenant_family Family.Requests spec.request_lines tenants.now }
-    ensures room { length text.new.bytes.items ≤ length text.old.bytes.items + (MAX_HEADER + MAX_TENANTS * MAX_REQUESTS) }
-{
-    put_header(text, Family::Requests);
-    for tenant in tenants {
-        put_tenant_requests(text, tenant);
-    }
-}
-
 #[tactic(auto, unfolding(crate::specs::Figures::request_lines))]
-fn put_tenant_requests(text: &mut Text, tenant: &TenantMetrics)
+fn put_requests(text: &mut Text, tenant: &TenantMetrics)
     requires room { length text.old.bytes.items + MAX_REQUESTS ≤ MAX_METRICS }
     ensures lines { text.new.bytes.items ≡ text.old.bytes.items ++ spec.request_lines tenant.now }
     ensures room { length text.new.bytes.items ≤ length text.old.bytes.items + MAX_REQUESTS }
@@ -172,62 +165,24 @@ fn calls_of(counts: &TenantCounts, call: DeviceCall) -> &CallFigures
     }
 }
 
-/// Puts how many calls of the devices failed.
-#[tactic(auto, unfolding(crate::specs::Figures::tenant_family))]
-fn put_failures(text: &mut Text, tenants: &[TenantMetrics])
-    requires few { length tenants.now ≤ MAX_TENANTS }
-    requires room { length text.old.bytes.items + (MAX_HEADER + MAX_TENANTS * (3 * MAX_SAMPLE)) ≤ MAX_METRICS }
-    ensures family { text.new.bytes.items ≡ text.old.bytes.items ++ spec.tenant_family Family.DeviceFailures spec.failure_lines tenants.now }
-    ensures room { length text.new.bytes.items ≤ length text.old.bytes.items + (MAX_HEADER + MAX_TENANTS * (3 * MAX_SAMPLE)) }
-{
-    put_header(text, Family::DeviceFailures);
-    for tenant in tenants {
-        put_tenant_failures(text, tenant);
-    }
-}
-
+/// Puts how many calls of the device failed.
 #[tactic(auto, unfolding(crate::specs::Figures::failure_lines))]
-fn put_tenant_failures(text: &mut Text, tenant: &TenantMetrics)
+fn put_failures(text: &mut Text, tenant: &TenantMetrics)
     requires room { length text.old.bytes.items + 3 * MAX_SAMPLE ≤ MAX_METRICS }
     ensures lines { text.new.bytes.items ≡ text.old.bytes.items ++ spec.failure_lines tenant.now }
     ensures room { length text.new.bytes.items ≤ length text.old.bytes.items + 3 * MAX_SAMPLE }
 {
+    let label = one_label(b"tenant", &tenant.figures.name);
     for call in DEVICE_CALLS {
-        put_failure_line(text, tenant, call);
+        let labels = one_more_label(&label, b"call", call.text());
+        let failures = calls_of(&tenant.counts, call).failures;
+        put_number(text, Family::DeviceFailures, &labels, failures);
     }
-}
-
-fn put_failure_line(text: &mut Text, tenant: &TenantMetrics, call: DeviceCall)
-    requires room { length text.old.bytes.items + MAX_SAMPLE ≤ MAX_METRICS }
-    ensures line { text.new.bytes.items ≡ text.old.bytes.items ++ spec.failure_line tenant.now call }
-    ensures room { length text.new.bytes.items ≤ length text.old.bytes.items + MAX_SAMPLE }
-{
-    let labels = one_label(b"tenant", &tenant.figures.name);
-    let labels = one_more_label(&labels, b"call", call.text());
-    put_number(
-        text,
-        Family::DeviceFailures,
-        &labels,
-        calls_of(&tenant.counts, call).failures,
-    );
 }
 
 /// Puts how long requests took.
-#[tactic(auto, unfolding(crate::specs::Figures::tenant_family))]
-fn put_request_times(text: &mut Text, tenants: &[TenantMetrics])
-    requires few { length tenants.now ≤ MAX_TENANTS }
-    requires room { length text.old.bytes.items + (MAX_HEADER + MAX_TENANTS * MAX_TIMES) ≤ MAX_METRICS }
-    ensures family { text.new.bytes.items ≡ text.old.bytes.items ++ spec.tenant_family Family.RequestTime spec.request_times tenants.now }
-    ensures room { length text.new.bytes.items ≤ length text.old.bytes.items + (MAX_HEADER + MAX_TENANTS * MAX_TIMES) }
-{
-    put_header(text, Family::RequestTime);
-    for tenant in tenants {
-        put_tenant_request_times(text, tenant);
-    }
-}
-
 #[tactic(auto, unfolding(crate::specs::Figures::request_times))]
-fn put_tenant_request_times(text: &mut Text, tenant: &TenantMetrics)
+fn put_request_times(text: &mut Text, tenant: &TenantMetrics)
     requires room { length text.old.bytes.items + MAX_TIMES ≤ MAX_METRICS }
     ensures lines { text.new.bytes.items ≡ text.old.bytes.items ++ spec.request_times tenant.now }
     ensures room { length text.new.bytes.items ≤ length text.old.bytes.items + MAX_TIMES }
@@ -239,22 +194,9 @@ fn put_tenant_request_times(text: &mut Text, tenant: &TenantMetrics)
     }
 }
 
-/// Puts how long the calls of the devices took.
-#[tactic(auto, unfolding(crate::specs::Figures::tenant_family))]
-fn put_call_times(text: &mut Text, tenants: &[TenantMetrics])
-    requires few { length tenants.now ≤ MAX_TENANTS }
-    requires room { length text.old.bytes.items + (MAX_HEADER + MAX_TENANTS * MAX_TIMES) ≤ MAX_METRICS }
-    ensures family { text.new.bytes.items ≡ text.old.bytes.items ++ spec.tenant_family Family.DeviceTime spec.call_times tenants.now }
-    ensures room { length text.new.bytes.items ≤ length text.old.bytes.items + (MAX_HEADER + MAX_TENANTS * MAX_TIMES) }
-{
-    put_header(text, Family::DeviceTime);
-    for tenant in tenants {
-        put_tenant_call_times(text, tenant);
-    }
-}
-
+/// Puts how long the calls of the device took.
 #[tactic(auto, unfolding(crate::specs::Figures::call_times))]
-fn put_tenant_call_times(text: &mut Text, tenant: &TenantMetrics)
+fn put_call_times(text: &mut Text, tenant: &TenantMetrics)
     requires room { length text.old.bytes.items + MAX_TIMES ≤ MAX_METRICS }
     ensures lines { text.new.bytes.items ≡ text.old.bytes.items ++ spec.call_times tenant.now }
     ensures room { length text.new.bytes.items ≤ length text.old.bytes.items + MAX_TIMES }

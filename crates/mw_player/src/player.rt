@@ -27,7 +27,7 @@ use std::io::Write;
 const MOST_STEPS: u32 = 10_000;
 
 /// Why a line was not played to its end.
-#[derive(Clone, Copy, Debug, PartialEq, Eq)]
+#[derive(Clone, Copy, PartialEq, Eq)]
 pub enum PlayFault {
     /// What the line says can't happen in this state of the world.
     NotEnabled,

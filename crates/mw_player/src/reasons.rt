@@ -60,7 +60,7 @@ pub enum Reason {
 }
 
 /// Where a worker of a world is.
-#[derive(Clone, Copy, Debug)]
+#[derive(Clone, Copy)]
 pub enum Position {
     /// The world has no such worker.
     Absent,
@@ -73,7 +73,7 @@ pub enum Position {
 }
 
 /// What a line asks for, as far as the reason depends on it.
-#[derive(Clone, Copy, Debug)]
+#[derive(Clone, Copy)]
 pub enum Asked {
     /// This worker begins a request.
     Come(u8),

@@ -15,7 +15,7 @@ use mw_session::{PeerStream, RecordedStream};
 use std::sync::Wait;
 
 /// How an exchange ended.
-#[derive(Clone, Copy, Debug, PartialEq, Eq)]
+#[derive(Clone, Copy, PartialEq, Eq)]
 pub enum Exchanged {
     /// The client was answered, and took all of the answer.
     Answered,

@@ -7,7 +7,7 @@ ghost use Rattle.mw_server_pages.specs.Copies.{Copy};
 use mw_words::Name;
 
 /// Why there is no copy of a tenant's file.
-#[derive(Clone, Copy, Debug, PartialEq, Eq)]
+#[derive(Clone, Copy)]
 pub enum NoCopy {
     /// No tenant has this name.
     NoTenant,

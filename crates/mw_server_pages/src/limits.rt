@@ -15,7 +15,7 @@ pub const MAX_LIMITS: usize = 34;
 pub(crate) const MAX_LIMIT: usize = 180;
 
 /// What is limited.
-#[derive(Clone, Copy, Debug, Default, PartialEq, Eq)]
+#[derive(Clone, Copy, Default)]
 pub enum LimitKind {
     /// The changes of a tenant that are under way.
     #[default]
@@ -29,7 +29,7 @@ pub enum LimitKind {
 }
 
 /// A limit that is near.
-#[derive(Debug, Default, PartialEq, Eq, Drop)]
+#[derive(Default, Drop)]
 pub struct NearLimit {
     pub kind: LimitKind,
     /// The tenant whose limit it is, if it is one's.

@@ -12,7 +12,7 @@ use mw_words::Name;
 pub(crate) type NearLimits = ArrayVec<NearLimit, MAX_LIMITS>;
 
 /// How much a server can do at once.
-#[derive(Clone, Copy, Debug, Default, PartialEq, Eq)]
+#[derive(Clone, Copy, Default)]
 pub struct Capacity {
     /// How many workers there are for changes; 0 if it isn't counted how many have a request.
     pub workers: u64,

@@ -11,7 +11,7 @@ use mw_http::{ContentType, MAX_DATE, Route, Status};
 pub type Date = ArrayVec<u8, MAX_DATE>;
 
 /// The answer to a request.
-#[derive(Debug, PartialEq, Eq, Drop)]
+#[derive(Drop)]
 pub struct Page {
     pub status: Status,
     /// What the body is.

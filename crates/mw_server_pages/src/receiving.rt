@@ -19,7 +19,7 @@ const PIECE: usize = 512;
 type Bytes = ArrayVec<u8, MAX_HEAD>;
 
 /// What came from a client.
-#[derive(Debug, PartialEq, Eq, Drop)]
+#[derive(Drop)]
 pub(crate) enum Came {
     /// A request.
     Asked(Request),

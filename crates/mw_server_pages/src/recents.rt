@@ -30,14 +30,14 @@ const MAX_CURVE: usize = 650;
 pub(crate) const MAX_RECENT: usize = 2_300;
 
 /// A point of a curve: how far to the right it is, and how far down.
-#[derive(Clone, Copy, Debug, Default, PartialEq, Eq)]
+#[derive(Clone, Copy, Default)]
 pub struct Point {
     pub right: u8,
     pub down: u8,
 }
 
 /// How a figure went of late.
-#[derive(Debug, Default, PartialEq, Eq, Drop)]
+#[derive(Default, Drop)]
 pub struct Curve {
     /// The figure now.
     pub last: u64,
@@ -48,7 +48,7 @@ pub struct Curve {
 }
 
 /// How a tenant did of late.
-#[derive(Debug, Default, PartialEq, Eq, Drop)]
+#[derive(Default, Drop)]
 pub struct Recent {
     pub name: Name,
     /// For how many seconds it is known to be down. None: it is up.

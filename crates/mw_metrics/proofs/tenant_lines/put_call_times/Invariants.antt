@@ -1,12 +1,13 @@
 -- States what stays true from turn to turn in the loop of `put_call_times` (src/tenant_lines.rt). Used by: the proof of that function
 -- alone. It may change freely as long as this crate checks.
 use Rattle.std.proofs.Common.{◌≡◌, ◌+◌, ◌*◌, ◌≤◌, ◌++◌, length, drop, flat_map}
-use Rattle.mw_metrics.specs.Figures.{call_times}
+use Rattle.mw_metrics.specs.declared.kinds.TheConstants.{DEVICE_CALLS}
+use Rattle.mw_metrics.specs.Figures.{call_time}
 use Rattle.mw_metrics.proofs.tenant_lines.put_call_times.Given as goal
 
 -- what is put so far and what is left is all
-abbrev pub invariant-loop-tenant : goal.invariant-loop-tenant
-invariant-loop-tenant l = record {
-  lines : l.text.bytes.items ++ flat_map call_times (drop l.tenant-index l.tenants) ≡ l.initial.text.bytes.items ++ flat_map call_times l.tenants;
-  room : length l.text.bytes.items ≤ length l.initial.text.bytes.items + l.tenant-index * 9540;
+abbrev pub invariant-loop-call : goal.invariant-loop-call
+invariant-loop-call l = record {
+  lines : l.text.bytes.items ++ flat_map (call_time l.tenant) (drop l.call-index DEVICE_CALLS) ≡ l.initial.text.bytes.items ++ flat_map (call_time l.tenant) DEVICE_CALLS;
+  room : length l.text.bytes.items ≤ length l.initial.text.bytes.items + l.call-index * 3180;
 }

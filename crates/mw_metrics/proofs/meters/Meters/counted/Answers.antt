@@ -1,8 +1,8 @@
 -- Proves goals of `Meters::counted` (src/meters.rt) that the check does not prove by itself. Used by: the proof of that function
 -- alone. It may change freely as long as this crate checks.
 use Rattle.std.proofs.Common.{sym, ◌∙◌}
-use Rattle.mw_meters.proofs.CountedFigures.{begun, one_more, all_told}
-use Rattle.mw_meters.proofs.meters.Meters.counted.Goals as goal
+use Rattle.mw_metrics.proofs.CountedFigures.{begun, one_more, all_told}
+use Rattle.mw_metrics.proofs.meters.Meters.counted.Goals as goal
 
 pub loop-figures-init : goal.loop-figures-init
 loop-figures-init c = begun c.in_ok-all.all.items c.into_iter-figures-iterator.result c.args.figures.items c.in_ok-all.ensures.items c.into_iter-figures-iterator.ensures.into_iter_gives.0

@@ -4,7 +4,7 @@
 use Rattle.std.proofs.Common.{◌≡◌, refl, ap, sym, ◌∙◌, List, [], ◌∷◌, ◌++◌, map, Result, Ok, Err, is_ok, is_err, false, if◌then◌else◌}
 use Rattle.mw_report.specs.declared.figures.TenantFigures.{TenantFigures}
 use Rattle.mw_metrics.specs.declared.figures.TenantMetrics.{TenantMetrics}
-use Rattle.mw_meters.specs.Counted.{figures_of}
+use Rattle.mw_metrics.specs.Counted.{figures_of}
 
 -- the last of the first part is the first of the second
 moved : {A B : Type 0} (f : A → B) (all : List A) (last : A) (rest : List B) → map f (all ++ last ∷ []) ++ rest ≡ map f all ++ f last ∷ rest

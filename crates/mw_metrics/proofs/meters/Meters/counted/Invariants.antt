@@ -1,8 +1,8 @@
 -- States what stays true from turn to turn in the loop of `Meters::counted` (src/meters.rt). Used by: the proof of that
 -- function alone. It may change freely as long as this crate checks.
 use Rattle.std.proofs.Common.{◌≡◌, ◌++◌, map}
-use Rattle.mw_meters.specs.Counted.{figures_of}
-use Rattle.mw_meters.proofs.meters.Meters.counted.Given as goal
+use Rattle.mw_metrics.specs.Counted.{figures_of}
+use Rattle.mw_metrics.proofs.meters.Meters.counted.Given as goal
 
 -- the figures of the tenants so far, and those that are left, are all of them
 abbrev pub invariant-loop-figures : goal.invariant-loop-figures

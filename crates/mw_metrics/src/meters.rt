@@ -6,15 +6,16 @@ ghost use Rattle.std.specs.Prelude.{◌≡◌, ◌<◌, ◌≤◌, length, map, 
 ghost use Rattle.mw_metrics.specs.declared.samples.TheConstants.{MAX_LABEL_VALUE};
 ghost use Rattle.mw_metrics.specs.declared.text.TheConstants.{MAX_METRICS};
 ghost use Rattle.mw_words.specs.declared.limits.TheConstants.{MAX_TENANTS};
-ghost use Rattle.mw_meters.specs.Counted.{IsTextOf, figures_of};
+ghost use Rattle.mw_metrics.specs.Counted.{IsTextOf, figures_of};
 
-use crate::kinds::{kind_of, reply_kind};
+use crate::counted::{kind_of, reply_kind};
+use crate::counters::{ServerCounters, TenantCounters};
+use crate::exposition::metrics_text;
+use crate::figures::{TenantCounts, TenantMetrics};
+use crate::samples::MAX_LABEL_VALUE;
 use crate::stopwatch::Stopwatch;
+use crate::text::MAX_METRICS;
 use arrayvec::ArrayVec;
-use mw_metrics::{
-    MAX_LABEL_VALUE, MAX_METRICS, ServerCounters, TenantCounters, TenantCounts, TenantMetrics,
-    metrics_text,
-};
 use mw_report::{Figures, TenantFigures};
 use mw_words::{Job, MAX_TENANTS, Reply};
 use std::alloc::{AllocError, Global};
@@ -32,7 +33,7 @@ impl Meters {
     /// Makes counters that have counted nothing, of a server that starts now.
     pub fn new<K: Clock>(clock: &K) -> Meters {
         Meters {
-            tenants: std::array::from_fn(|_| TenantCounters::new()),
+            tenants: Default::default(),
             server: ServerCounters::new(),
             started: Stopwatch::start(clock),
         }
@@ -110,7 +111,7 @@ impl Meters {
     fn counts_of(&self, tenant: usize) -> TenantCounts {
         match self.tenants.get(tenant) {
             Some(counters) => counters.counts(),
-            None => TenantCounts::default(),
+            None => TenantCounters::default().counts(),
         }
     }
 }

@@ -2,9 +2,9 @@
 //!
 //! Used by: `meters`. A new job or reply needs a case here and in `specs/Counted`.
 ghost use Rattle.std.specs.Prelude.{◌≡◌};
-ghost use Rattle.mw_meters.specs.Counted as spec;
+ghost use Rattle.mw_metrics.specs.Counted as spec;
 
-use mw_metrics::{ReplyKind, RequestKind};
+use crate::kinds::{ReplyKind, RequestKind};
 use mw_words::{Job, Reply};
 
 /// Gives the kind of a request for this job.
