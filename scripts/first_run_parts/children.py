@@ -23,12 +23,13 @@ class Stopped(Exception):
         self.number = number
 
 
-def raise_at_signals() -> None:
-    """Lets Ctrl-C, SIGTERM and SIGHUP raise Stopped, once: what follows is not disturbed again. `nohup` keeps SIGHUP away."""
+def raise_at_signals(name: str) -> None:
+    """Lets Ctrl-C, SIGTERM and SIGHUP raise Stopped, once: what follows is not disturbed again. `nohup` keeps SIGHUP away.
+    `name` is the script's, which says that it stops."""
     def stop(number: int, _: object) -> None:
         for it in STOPPING:
             signal.signal(it, signal.SIG_IGN)
-        print("first-run: stopping", file=sys.stderr, flush=True)
+        print(f"{name}: stopping", file=sys.stderr, flush=True)
         raise Stopped(number)
 
     for it in STOPPING:

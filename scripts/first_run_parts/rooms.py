@@ -43,6 +43,14 @@ def link_or_copy(source: str, to: str) -> None:
         shutil.copyfile(source, to)
 
 
+def link_libraries(crates: Sequence[Crate], to: Path) -> None:
+    """Gives the copies of these crates the libraries that were built of them."""
+    for it in crates:
+        built = it.folder / "out" / "rlib"
+        if built.is_dir():
+            shutil.copytree(built, to / "crates" / it.name / "out" / "rlib", copy_function=link_or_copy)
+
+
 class Locks:
     """The locks that `rt` takes of crates' folders: of one crate alone, of those below it beside others that read."""
 
@@ -98,10 +106,7 @@ class Room:
     def fill(self) -> None:
         """Puts the sources, the libraries below and the crate's own `out/` into the room."""
         copy_sources([*self.below, self.crate], self.folder)
-        for it in self.below:
-            built = it.folder / "out" / "rlib"
-            if built.is_dir():
-                shutil.copytree(built, self.folder / "crates" / it.name / "out" / "rlib", copy_function=link_or_copy)
+        link_libraries(self.below, self.folder)
         if (self.crate.folder / "out").is_dir():
             shutil.move(str(self.crate.folder / "out"), str(self.working_folder() / "out"))
 

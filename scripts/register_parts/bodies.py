@@ -1,9 +1,11 @@
-"""Reads the must-fail edits of the crates, and the wrong bodies that are kept by hand in wrong_bodies.txt."""
+"""Reads the edits of the crates, in the gate and by rounds, and the wrong bodies that are kept by hand in wrong_bodies.txt."""
 import os
 import re
 
-from register_parts.source import files_below, read
+from register_parts.source import TOP, files_below, read
 
+# Where the edits of a crate are, in words and as a folder: `rt ci` tries the first, scripts/check-wrong-bodies the others.
+FOLDERS = {"in the gate": "crates/{}/must-fail", "by rounds": "wrong-bodies/{}"}
 BODIES = os.path.join("scripts", "register_parts", "wrong_bodies.txt")
 # Tests and schedules that a cell names: tests `a`, `b` and `c`.
 PROSE = re.compile(r"\b(tests?|schedules?) (`[\w-]+`(?:(?:, | and )`[\w-]+`)*)")
@@ -23,12 +25,18 @@ def edited(source, old):
     return next(filter(None, map(source.function_at, places)), None)
 
 
+def where(edit):
+    """In words, the folders that have an edit, which is told as `crate/edit`."""
+    crate, name = edit.split("/")
+    return [words for words, folder in FOLDERS.items() if os.path.isfile(os.path.join(TOP, folder.format(crate), name + ".edit"))]
+
+
 def edits(crates):
     """The function whose body each edit changes first, by `crate/edit`; None if no body has that text."""
     found = {}
     for crate in crates:
         sources = {source.path: source for source in crate.sources}
-        for path in files_below(f"crates/{crate.name}/must-fail", ".edit"):
+        for path in [it for folder in FOLDERS.values() for it in files_below(folder.format(crate.name), ".edit")]:
             text = read(path)
             file = re.search(r"^file: (.*)$", text, re.M).group(1)
             old = re.search(r"^old: (.*)$", text, re.M).group(1)
@@ -106,10 +114,18 @@ def row_faults(table, row, there):
     return found
 
 
-def faults(told, edit_places, crates):
-    """What the tables name though it isn't there, or leave out; and edits whose text is in no body."""
-    there = There(crates, edit_places)
+def edit_faults(edit_places):
+    """Edits whose text is in no body, that are in both folders, or that are of no crate."""
     found = [f"{edit}: its text is in no body" for edit, function in edit_places.items() if function is None]
+    found += [f"{edit}: it is in both folders, {' and '.join(FOLDERS.values())}" for edit in edit_places if len(where(edit)) > 1]
+    rounds = [path.split(os.sep)[1:] for path in files_below("wrong-bodies", ".edit")]
+    return found + [f"wrong-bodies/{'/'.join(it)}: crates.txt has no such crate" for it in rounds if "/".join(it)[:-5] not in edit_places]
+
+
+def faults(told, edit_places, crates):
+    """What the tables name though it isn't there, or leave out; and what is wrong with the edits."""
+    there = There(crates, edit_places)
+    found = edit_faults(edit_places)
     for table, rows in told.items():
         for row in rows:
             name = next(iter(row.values()))

@@ -12,8 +12,9 @@ PARTS = {
     "named": (
         "## Wrong bodies",
         """
-{count} mistakes that a server of this kind might make, each under a name. The edit mw_file/`kept_place` is the file
-`crates/mw_file/must-fail/kept_place.edit`: `rt ci` makes that change, and its proof must be refused.
+{count} mistakes that a server of this kind might make, each under a name. An edit makes the change, and its proof must be
+refused. Those *in the gate* are files `NAME.edit` in the folder `must-fail` of the crate, and `rt ci` tries them. Those
+*by rounds* are in the crate's folder below `wrong-bodies/`, and `scripts/check-wrong-bodies` tries them, many at once.
 """,
         ("wrong body", "what it does", "refused by", "at the contract of"),
         "",
@@ -89,6 +90,19 @@ def citing_part(function):
     return "**cites** " + "; ".join(f"{page} {quoted(names)}" for page, names in found.items()) if found else ""
 
 
+def by_place(edits, show):
+    """Edits as `show` makes their names, told by where they are: in the gate, or by rounds."""
+    found = {}
+    for edit in edits:
+        found.setdefault(" and ".join(bodies.where(edit)), []).append(show(edit))
+    return "; ".join(f"{', '.join(names)} (*{place}*)" for place, names in found.items())
+
+
+def edits_part(edits):
+    """The names of a function's edits."""
+    return "**edits** " + by_place(edits, lambda edit: f"`{edit.split('/')[1]}`") if edits else ""
+
+
 def tests_part(function, tests):
     """The first of its tests, those that call it themselves before the others."""
     direct, through = tests.of(function)
@@ -107,7 +121,7 @@ def entry(function, edits, tests, is_shown):
         clause_part(function, "requires"),
         clause_part(function, "ensures") or "*no contract*",
         citing_part(function),
-        "**edits** " + quoted(edits) if edits else "",
+        edits_part(edits),
         tests_part(function, tests),
     ]
     head = f"- `{function.label()}`{marks}" + (f": {function.doc}" if function.doc else "")
@@ -117,7 +131,7 @@ def entry(function, edits, tests, is_shown):
 def inside(edit, function, call):
     """The line of an edit of a private function."""
     at = f", refused at `{call}`" if call else ""
-    return f"- *inside* `{function.label()}`: **edit** `{edit.split('/')[1]}`{at}\n"
+    return f"- *inside* `{function.label()}`: **edit** {by_place([edit], lambda it: '`' + it.split('/')[1] + '`')}{at}\n"
 
 
 def file_part(crate, source, places, calls, tests):
@@ -126,7 +140,7 @@ def file_part(crate, source, places, calls, tests):
     for function in source.functions:
         if function.is_open:
             at = f"{source.path}: {function.label()}"
-            edits = [edit.split("/")[1] for edit in sorted(places) if calls.get(edit) == at]
+            edits = [edit for edit in sorted(places) if calls.get(edit) == at]
             lines.append(entry(function, edits, tests, crate.shows(function)))
     for edit, function in sorted(places.items()):
         if function and function.source is source and not function.is_open:
@@ -136,7 +150,7 @@ def file_part(crate, source, places, calls, tests):
 
 def refused(row):
     """The cell of a named wrong body that says what refuses it."""
-    edits = ", ".join("{}/`{}`".format(*edit.split("/")) for edit in bodies.edits_told(row))
+    edits = by_place([it for it in bodies.edits_told(row) if bodies.where(it)], lambda edit: "{}/`{}`".format(*edit.split("/")))
     told = bodies.tests_told(row)
     tests = "; ".join(f"{crate}: test{'s' if len(names) > 1 else ''} {quoted(names)}" for crate, names in told)
     besides = row.get("besides", "")

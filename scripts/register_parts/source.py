@@ -149,10 +149,10 @@ def above(lines):
 
 
 class Source:
-    """A source file of a crate."""
+    """A source file of a crate, with the text that it has or another."""
 
-    def __init__(self, crate, path):
-        self.crate, self.path, self.text = crate, path, read(path)
+    def __init__(self, crate, path, text=None):
+        self.crate, self.path, self.text = crate, path, read(path) if text is None else text
         self.code = masked(self.text)
         owners = [Owner(self.code, found) for found in OWNER.finditer(self.code)]
         self.functions = [
