@@ -1,18 +1,18 @@
--- A feed may search for the next line feed from where its last search ended, and finds the same first line.
--- Used by: the calls of Feed, and first_line and text_end, which name its rule sets. It may change freely as long as this crate
--- checks.
-use Rattle.std.proofs.Common.{◌≡◌, ℕ, zero, suc, ◌+◌, ◌-◌, ◌<◌, ◌≤◌, ◌++◌, Bool, true, false, List, [], ◌∷◌, length, drop, take, Some, None, slice_get, refl, sym, arith}
-use Rattle.std.proofs.lemmas.Bool.{and_parts}
-use Rattle.std.proofs.lemmas.List.{take_rest}
+-- A feed may search for the next line feed from where its last search ended, and what it finds tells the first line.
+-- Used by: Feed::feed, text_end and first_text, which name its rules, and the proof of Feed::next. It may change freely as long
+-- as this crate checks.
+use Rattle.std.proofs.Common.{◌≡◌, ℕ, zero, suc, ◌+◌, ◌-◌, ◌<◌, ◌≤◌, ◌++◌, Bool, true, false, List, [], ◌∷◌, length, drop, take, Option, Some, None, slice_get, refl, sym, ap, ◌∙◌, arith}
+use Rattle.std.proofs.lemmas.List.{length-take-le, take_rest}
 use Rattle.std.proofs.lemmas.List.Folds.{prefix_len-append}
 use Rattle.std.proofs.lemmas.List.Sums.{prefix_len-le-length}
-use Rattle.std.specs.List.{list_all, prefix_len}
-use Rattle.arrayvec.specs.ArrayVec.{ArrayVec}
+use Rattle.std.specs.List.{prefix_len}
+use Rattle.std.specs.Option.{option_to_list}
 use Rattle.mw_words.specs.declared.limits.TheConstants.{MAX_LINE}
-use Rattle.mw_frame.specs.declared.lines.Line.TheVariants.{Text, TooLong}
-use Rattle.mw_frame.specs.Lines.{IsText, is_text_byte, lines, text_line}
+use Rattle.mw_frame.specs.declared.lines.Line.{Line}
+use Rattle.mw_frame.specs.declared.lines.Line.TheVariants.{TooLong}
+use Rattle.mw_frame.specs.Lines.{is_text_byte, lines, text_line}
 use Rattle.mw_frame.specs.FeedBytes.{stream_of, text_len}
-use Rattle.mw_frame.specs.Stream.{Stream, Open, fed, lines_of}
+use Rattle.mw_frame.specs.Stream.{Stream, Open, IsPart, behind, fed, lines_of}
 use Rattle.mw_frame.proofs.CutTexts.{is_part}
 use Rattle.mw_frame.proofs.GivenLines.{answers_text, answers_too_long, answers_none, first_and_behind}
 
@@ -39,35 +39,35 @@ text_len-le-length bytes = prefix_len-le-length is_text_byte bytes
 pub first_text : (bytes : List ℕ) → text_len bytes < length bytes → text_len bytes ≤ MAX_LINE → slice_get (lines bytes) 0 ≡ Some (text_line (take (text_len bytes) bytes))
 first_text bytes h fits = (answers_text bytes h fits).first
 
-pub first_too_long : (bytes : List ℕ) → MAX_LINE < text_len bytes → slice_get (lines bytes) 0 ≡ Some TooLong
-first_too_long bytes h = (answers_too_long bytes h).first
-
-pub first_none : (bytes : List ℕ) → text_len bytes ≡ length bytes → text_len bytes ≤ MAX_LINE → slice_get (lines bytes) 0 ≡ None
-first_none bytes h fits = (answers_none bytes h fits).first
-
-pub ruleset first_lines = (first_text, first_too_long, first_none, is_part)
-
 pub ruleset ends = (text_len_from, text_len-le-length)
 
 pub searched_more : (bytes piece : List ℕ) → text_len bytes ≤ text_len (bytes ++ piece)
 unfolding text_len
 searched_more bytes piece = grind (arith, prefix_len-append is_text_byte bytes piece, prefix_len-le-length is_text_byte bytes)
 
-all_pass : (p : ℕ → Bool) (xs : List ℕ) → list_all p xs ≡ true → prefix_len p xs ≡ length xs
-all_pass p [] h = refl
-all_pass p (x ∷ xs) h = let parts = and_parts (p x) (list_all p xs) h in rw parts.0 (omega (arith, all_pass p xs parts.1))
+-- ---- the first line of a feed that goes on, whose bytes are these
 
-pub all_searched : (bytes : List ℕ) → IsText bytes → text_len bytes ≡ length bytes
-unfolding text_len
-all_searched bytes is = all_pass is_text_byte bytes is.no_line_feed
+pub open_so : (old : Stream) (ended : Bool) (bytes seen : List ℕ) → stream_of ended bytes ≡ old → ended ≡ false → seen ≡ bytes → Open seen ≡ old
+open_so old ended bytes seen is goes same = ap Open same ∙ ap (λ e. stream_of e bytes) (sym goes) ∙ is
 
--- a text was the first line, and the stream goes on after it
-pub goes_on_behind_text : (old : Stream) (ended : Bool) (bytes new : List ℕ) (text : ArrayVec ℕ) (more : List ℕ) → stream_of ended bytes ≡ old → ended ≡ false → Some (Text text) ≡ slice_get (lines bytes) 0 → new ≡ drop (length text.items + 1) bytes
-    → Text text ∷ lines_of (fed (stream_of ended new) more) ≡ lines_of (fed old more)
-goes_on_behind_text old ended bytes new text more is goes first left = rw (← is, goes, left) (sym (first_and_behind (Open bytes) (Some (Text text)) more first))
+module _ (old : Stream) (bytes : List ℕ) (is : Open bytes ≡ old) where
+  pub open_too_long : MAX_LINE < text_len bytes → Some TooLong ≡ slice_get (lines_of old) 0
+  open_too_long long = rw (← is) (sym (answers_too_long bytes long).first)
 
--- a line too long was the first line, and nothing follows
-pub ends_at_too_long : (old : Stream) (more : List ℕ) → Some TooLong ≡ slice_get (lines_of old) 0 → lines_of (fed old more) ≡ TooLong ∷ []
-ends_at_too_long old more is = first_and_behind old (Some TooLong) more is
+  pub open_none : text_len bytes ≡ length bytes → text_len bytes ≤ MAX_LINE → None ≡ slice_get (lines_of old) 0
+  open_none end fits = rw (← is) (sym (answers_none bytes end fits).first)
 
-pub ruleset next_lines = (goes_on_behind_text, ends_at_too_long, all_searched)
+  pub open_part : text_len bytes ≡ length bytes → text_len bytes ≤ MAX_LINE → IsPart old
+  open_part end fits = rw (← is) (is_part bytes end fits)
+
+  -- a line too long was the first line, and nothing follows
+  pub open_ends : MAX_LINE < text_len bytes → (more : List ℕ) → lines_of (fed old more) ≡ TooLong ∷ []
+  open_ends long more = first_and_behind old (Some TooLong) more (open_too_long long)
+
+  -- a text was the first line, and the stream goes on after it
+  pub open_goes_on : (end : ℕ) (line : Option Line) → end < length bytes → line ≡ Some (text_line (take end bytes)) → line ≡ slice_get (lines bytes) 0
+      → (more : List ℕ) → lines_of (fed old more) ≡ option_to_list line ++ lines_of (fed (Open (drop (end + 1) bytes)) more)
+  open_goes_on end line within text first more =
+      let left : behind line (Open bytes) ≡ Open (drop (end + 1) bytes) =
+      ap (λ l. behind l (Open bytes)) text ∙ ap (λ n. Open (drop (n + 1) bytes)) (length-take-le end bytes (omega arith)) in
+      rw (← is) (first_and_behind (Open bytes) line more first ∙ ap (λ s. option_to_list line ++ lines_of (fed s more)) left)

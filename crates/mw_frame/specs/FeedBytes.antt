@@ -1,9 +1,7 @@
 -- Defines which stream of lines the bytes in a feed represent, and what the feed keeps true of them.
 -- Used by: the contracts of feed.rt and lines.rt. Callers see Stream alone: it may change with feed.rt and lines.rt.
-use Rattle.std.specs.Prelude.{◌≡◌, ℕ, ◌<◌, ◌≤◌, Bool, true, false, List, [], length}
+use Rattle.std.specs.Prelude.{◌≡◌, ℕ, ◌≤◌, Bool, true, false, List, []}
 use Rattle.std.specs.List.{prefix_len}
-use Rattle.mw_frame.specs.declared.lines.Line.{Line}
-use Rattle.mw_frame.specs.declared.lines.Line.TheVariants.{Text, TooLong}
 use Rattle.mw_frame.specs.Lines.{is_text_byte}
 use Rattle.mw_frame.specs.Stream.{Stream, Open, Ended}
 
@@ -20,8 +18,3 @@ stream_of false bytes = Open bytes
 pub record IsKept (bytes : List ℕ) (searched : ℕ) (ended : Bool) : Type 0 where
   pub searched_text : searched ≤ text_len bytes
   pub dropped : ended ≡ true → bytes ≡ []
-
--- a text is shorter than these bytes, so that its line feed is among them too
-abbrev pub IsWithin : List ℕ → Line → Type 0
-IsWithin bytes (Text text) = length text.items < length bytes
-IsWithin bytes TooLong = Unit {0}

@@ -5,7 +5,7 @@ ghost use Rattle.std.specs.Prelude.{◌≡◌, ℕ, List, [], ◌++◌, IsOk, If
 ghost use Rattle.std.specs.Option.{option_to_list};
 ghost use Rattle.mw_frame.specs.Stream.{Open, Ended, IsPart, behind, fed, lines_of};
 
-use crate::lines::{Line, first_line};
+use crate::lines::{Line, first_text, text_end};
 use bytes::BytesMut;
 use mw_words::MAX_LINE;
 use std::alloc::{AllocError, Global};
@@ -75,7 +75,6 @@ impl Feed {
 
     /// Gives the next line, if it is there. `None`: at most [`MAX_LINE`] bytes are left, without a line feed; or
     /// [`Line::TooLong`] was given. It takes no memory.
-    #[tactic(auto, using(crate::proofs::Ends::next_lines))]
     pub fn next(&mut self) -> Option<Line>
         ensures first { result ≡ slice_get (lines_of self.old) 0 }
         ensures left { self.new ≡ behind result self.old }
@@ -88,22 +87,20 @@ impl Feed {
         if self.ended {
             return None;
         }
-        match first_line(self.bytes.as_slice(), self.searched) {
-            Some(Line::Text(text)) => {
-                self.bytes.advance(text.len() + 1);
-                self.searched = 0;
-                Some(Line::Text(text))
-            }
-            Some(Line::TooLong) => {
-                self.bytes.clear();
-                self.searched = 0;
-                self.ended = true;
-                Some(Line::TooLong)
-            }
-            None => {
-                self.searched = self.bytes.len();
-                None
-            }
+        let end = text_end(self.bytes.as_slice(), self.searched);
+        if end > MAX_LINE {
+            self.bytes.clear();
+            self.searched = 0;
+            self.ended = true;
+            return Some(Line::TooLong);
         }
+        if end == self.bytes.len() {
+            self.searched = end;
+            return None;
+        }
+        let line = first_text(self.bytes.as_slice(), end);
+        self.bytes.advance(end + 1);
+        self.searched = 0;
+        line
     }
 }

@@ -1,10 +1,10 @@
-//! Defines a line (a text, or one that is too long), and finds the first line of some bytes.
+//! Defines a line (a text, or one that is too long), finds where the first text of some bytes ends, and copies it.
 //!
-//! `feed.rt` calls [`first_line`], and sessions are given each [`Line`]. A new kind of line needs a case in
-//! `specs/Lines`, `specs/Stream` and `specs/FeedBytes`, and in mw_session.
-ghost use Rattle.std.specs.Prelude.{◌≡◌, ◌≤◌, ◌<◌, length, IfNone, IfSome, slice_get, take};
-ghost use Rattle.mw_frame.specs.Lines.{IsText, lines, text_line};
-ghost use Rattle.mw_frame.specs.FeedBytes.{IsWithin, text_len};
+//! `feed.rt` calls [`text_end`] and [`first_text`], and sessions are given each [`Line`]. A new kind of line needs a case
+//! in `specs/Lines` and `specs/Stream`, and in mw_session.
+ghost use Rattle.std.specs.Prelude.{◌≡◌, ◌≤◌, ◌<◌, length, Some, slice_get, take};
+ghost use Rattle.mw_frame.specs.Lines.{lines, text_line};
+ghost use Rattle.mw_frame.specs.FeedBytes.{text_len};
 
 use arrayvec::ArrayVec;
 use mw_words::MAX_LINE;
@@ -21,28 +21,10 @@ pub enum Line {
     TooLong,
 }
 
-/// Gives the first line of these bytes, if they have one. The first `searched` bytes must be known to be no line
-/// feeds. They aren't looked at.
-#[tactic(auto, using(crate::proofs::Ends::first_lines))]
-pub fn first_line(bytes: &[u8], searched: usize) -> Option<Line>
-    requires { searched ≤ text_len bytes.now }
-    ensures first { result ≡ slice_get (lines bytes.now) 0 }
-    ensures within { IfSome result (IsWithin bytes.now) }
-    ensures part { IfNone result (IsText bytes.now) }
-{
-    let end = text_end(bytes, searched);
-    if end > MAX_LINE {
-        return Some(Line::TooLong);
-    }
-    if end == bytes.len() {
-        return None;
-    }
-    Some(text_line(bytes, end))
-}
-
-/// [`text_len`] of all bytes. Looks only at those after the first `searched`.
+/// Tells where the text of the first line ends: how many bytes are before the first line feed, or all of them if there
+/// is none. The first `searched` bytes must be known to be no line feeds. They aren't looked at.
 #[tactic(auto, using(crate::proofs::Ends::ends))]
-fn text_end(bytes: &[u8], searched: usize) -> usize
+pub fn text_end(bytes: &[u8], searched: usize) -> usize
     requires { searched ≤ text_len bytes.now }
     ensures end { result ≡ text_len bytes.now }
     ensures within { result ≤ length bytes.now }
@@ -58,12 +40,17 @@ fn text_len(bytes: &[u8]) -> usize
     bytes.iter().take_while(|byte| **byte != LINE_FEED).count()
 }
 
-/// The line whose text is the first `len` bytes. Its line feed comes after them.
-fn text_line(bytes: &[u8], len: usize) -> Line
-    requires end { len < length bytes.now }
-    requires fits { len ≤ MAX_LINE }
-    ensures text { result ≡ text_line (take len bytes.now) }
-    ensures within { IsWithin bytes.now result }
+/// Gives the first line of these bytes, which is a text of so many bytes. Its line feed comes after them. The bytes are
+/// copied once.
+#[tactic(auto, using(crate::proofs::Ends::first_text))]
+pub fn first_text(bytes: &[u8], end: usize) -> Option<Line>
+    requires is_end { end ≡ text_len bytes.now }
+    requires line_feed { end < length bytes.now }
+    requires fits { end ≤ MAX_LINE }
+    ensures first { result ≡ slice_get (lines bytes.now) 0 }
+    ensures text { result ≡ Some (text_line (take end bytes.now)) }
 {
-    Line::Text(ArrayVec::try_from(&bytes[..len]).unwrap())
+    let mut text = ArrayVec::new();
+    text.try_extend_from_slice(&bytes[..end]).unwrap();
+    Some(Line::Text(text))
 }
