@@ -3,8 +3,7 @@
 //! Nothing else uses it: it may change with what it tests.
 
 use mw_http::{ContentType, Route, Status};
-use mw_server_pages::{Date, Page, Pages};
-use mw_server_pages::{FileCopies, NoCopy};
+use mw_server_pages::{Date, FileCopies, NoCopy, Page, Pages};
 use mw_words::Name;
 use std::alloc::Global;
 use std::cell::Cell;

@@ -3,11 +3,12 @@
 //! Nothing else uses it: it may change with what it tests.
 use crate::http_peers::{HandClock, OneFile};
 use mw_http::{ContentType, Route, Status};
-use mw_server_pages::Pages;
 use mw_metrics::Meters;
-use mw_server_pages::{Curve, LimitKind, NearLimit, Point, Recent, health_text, status_page};
 use mw_report::TenantFigures;
-use mw_server_pages::{Capacity, NoCopy, ServerPages, Version};
+use mw_server_pages::{
+    Capacity, Curve, LimitKind, NearLimit, NoCopy, Pages, Point, Recent, ServerPages, Version,
+    health_text, status_page,
+};
 use mw_test_server::Shelf;
 use mw_words::{Entries, Job, Name, Reply};
 use std::thread;

@@ -1,7 +1,6 @@
--- Numbers are printed in so many digits: nine below a second's nanoseconds, after zeros, and twenty in 64 bits.
+-- Numbers are printed in so many digits: nine below a second's nanoseconds, twenty in 64 bits.
 -- Used by: the proofs of samples.rt and families.rt. It may change freely as long as this crate checks.
-use Rattle.std.proofs.Common.{ℕ, ◌≡◌, ◌-◌, ◌≤◌, ◌<◌, ◌^◌, length, replicate, drop, decimal, codes, arith}
-use Rattle.std.proofs.lemmas.List.{drop-replicate}
+use Rattle.std.proofs.Common.{ℕ, ◌≤◌, ◌<◌, ◌^◌, length, decimal, arith}
 use Rattle.std.proofs.lemmas.Fmt.{length-decimal-le}
 
 pub nanos_width : (n : ℕ) → n < 1000000000 → length (decimal n) ≤ 9
@@ -10,8 +9,4 @@ nanos_width n h = length-decimal-le 9 n (omega arith) (omega arith) (omega arith
 pub number_width : (n : ℕ) → n < 2 ^ 64 → length (decimal n) ≤ 20
 number_width n h = length-decimal-le 20 n (omega arith) (omega arith) h
 
--- the zeros before so many digits
-pub zeros : (digits : ℕ) → drop digits (codes "000000000") ≡ replicate (9 - digits) 48
-zeros digits = drop-replicate digits 9 48
-
-pub ruleset widths = (nanos_width, number_width, zeros)
+pub ruleset widths = (nanos_width, number_width)

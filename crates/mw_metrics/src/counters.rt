@@ -226,8 +226,15 @@ impl ServerCounters {
         ensures uptime { result.uptime_nanos ≡ uptime_nanos }
         ensures pool { result.pool_free ≡ pool_free }
     {
-        let [quit, peer_end, too_long, read_fault, write_fault, memory, unserved] =
-            values(&self.closed);
+        let [
+            quit,
+            peer_end,
+            too_long,
+            read_fault,
+            write_fault,
+            memory,
+            unserved,
+        ] = values(&self.closed);
         ServerMetrics {
             uptime_nanos,
             pool_free,

@@ -112,7 +112,13 @@ fn put_totals(
     ensures room { length text.new.bytes.items ≤ length text.old.bytes.items + 2 * MAX_SAMPLE }
 {
     let labels = one_more_label(&one_label(b"tenant", tenant), name, value);
-    put_sample(text, family.description().name, b"_sum", &labels, &seconds(sum_nanos));
+    put_sample(
+        text,
+        family.description().name,
+        b"_sum",
+        &labels,
+        &seconds(sum_nanos),
+    );
     let mut buffer = Buffer::new();
     let count = buffer.format(count).as_bytes();
     put_sample(text, family.description().name, b"_count", &labels, count);

@@ -93,22 +93,41 @@ fn push(labels: &mut Labels, bytes: &[u8])
 }
 
 /// Gives a number of nanoseconds as seconds, with nine digits after the point.
-#[tactic(auto, unfolding(crate::specs::Exposition::nine_digits), using(crate::proofs::Widths::widths))]
+#[tactic(auto, using(crate::proofs::Widths::widths))]
 pub(crate) fn seconds(nanos: u64) -> Seconds
     ensures seconds { result.items ≡ spec.seconds nanos }
     ensures room { length result.items ≤ 30 }
 {
-    let zeros: &[u8] = b"000000000";
     let mut text = Seconds::new();
     let mut whole = Buffer::new();
-    let mut part = Buffer::new();
-    let digits = part.format(nanos % SECOND).as_bytes();
     text.try_extend_from_slice(whole.format(nanos / SECOND).as_bytes())
         .unwrap();
     text.push(b'.');
-    text.try_extend_from_slice(&zeros[digits.len()..]).unwrap();
-    text.try_extend_from_slice(digits).unwrap();
+    put_nine_digits(&mut text, nanos % SECOND);
     text
+}
+
+#[tactic(auto, unfolding(crate::specs::Exposition::nine_digits), using(crate::proofs::Widths::widths))]
+fn put_nine_digits(text: &mut Seconds, number: u64)
+    requires number { number < SECOND }
+    requires room { length text.old.items + 9 ≤ MAX_VALUE_TEXT }
+    ensures digits { text.new.items ≡ text.old.items ++ spec.nine_digits number }
+    ensures room { length text.new.items ≡ length text.old.items + 9 }
+{
+    let mut buffer = Buffer::new();
+    let digits = buffer.format(number).as_bytes();
+    put_zeros(text, 9 - digits.len());
+    text.try_extend_from_slice(digits).unwrap();
+}
+
+fn put_zeros(text: &mut Seconds, count: usize)
+    requires { length text.old.items + count ≤ MAX_VALUE_TEXT }
+    ensures zeros { text.new.items ≡ text.old.items ++ replicate count 48 }
+    ensures room { length text.new.items ≡ length text.old.items + count }
+{
+    for _ in 0..count {
+        text.push(b'0');
+    }
 }
 
 /// Puts a sample's line. The labels are in `labels`, without braces; the sample has at least one. The metric's name is

@@ -4,8 +4,7 @@
 //! the file's call gave.
 ghost use Rattle.std.specs.Prelude.{◌≡◌};
 
-use mw_metrics::Stopwatch;
-use mw_metrics::{DeviceCall, TenantCounters};
+use mw_metrics::{DeviceCall, Stopwatch, TenantCounters};
 use std::fs::{Metadata, OpenFile};
 use std::io::{self, ErrorKind};
 use std::os::unix::fs::FileExt;

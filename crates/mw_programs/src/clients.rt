@@ -12,9 +12,9 @@ use mw_config::Listening;
 use mw_connections::{
     ClientListener, Closer, MeteredListener, Patient, RoomWatch, TimeLimits, listen_at, port_of,
 };
-use mw_server_pages::Pages;
 use mw_metrics::ServerCounters;
 use mw_opening::note_cause;
+use mw_server_pages::Pages;
 use mw_session::Service;
 use mw_workers::{Desk, ServeEnd, serve_all, serve_beside};
 use std::fmt::Display;
