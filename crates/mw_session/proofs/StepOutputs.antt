@@ -1,6 +1,6 @@
 -- Each step of a session writes the text, and asks the service, as `specs/Talk` says.
--- Used by: the proof of `perform`, and for calls one after another those of Session::answer_all and Session::run. It may change
--- freely as long as this crate checks.
+-- Used by: the proofs of `perform` and `report`, and for calls one after another those of Session::answer_all and Session::run.
+-- It may change freely as long as this crate checks.
 use Rattle.std.proofs.Common.{◌≡◌, ℕ, List, [], ◌∷◌, ◌++◌, Some, None, refl, sym, ap, subst}
 use Rattle.arrayvec.specs.ArrayVec.{ArrayVec}
 use Rattle.mw_words.specs.declared.jobs.Job.{Job}
@@ -14,7 +14,7 @@ use Rattle.mw_report.specs.Table.{report}
 use Rattle.mw_session.specs.declared.steps.Bound.{Bound}
 use Rattle.mw_session.specs.declared.steps.Bound.TheVariants.{Tenant, Admin}
 use Rattle.mw_session.specs.declared.steps.Step.TheVariants.{Refuse, Find, BindAdmin, Ask, Report, Leave, Overrun}
-use Rattle.mw_session.specs.Talk.{Found, Replied, Counted, Call, Finds, Asks, Counts, Quits, Cuts, after, ends}
+use Rattle.mw_session.specs.Talk.{Found, Replied, Counted, Call, Finds, Asks, Counts, after}
 use Rattle.mw_session.specs.ServiceCalls.{AreAnswered}
 use Rattle.mw_session.specs.SessionParts.{Performs}
 
@@ -27,42 +27,40 @@ asked_then answered s t u [] ys h k = subst (λ state. AreAnswered answered stat
 asked_then answered s t u (x ∷ xs) ys h k = (h.0, h.1, asked_then answered h.0 t u xs ys h.2 k)
 
 module _ (Asked : List Call → Type 0) where
-  pub refused : (wrong : ErrCode) (bound : Bound) (text : List ℕ) → Asked [] → text ≡ text_of (say.Err wrong) → Performs Asked (Refuse wrong) bound bound text
-  refused wrong bound text h e = record { answers = []; calls = []; asked = h; does = λ unused rest. ap (λ t. after t [] (rest bound unused)) (sym e) }
+  pub refused : (wrong : ErrCode) (bound : Bound) → Asked [] → Performs Asked (Refuse wrong) bound bound (text_of (say.Err wrong))
+  refused wrong bound h = record { answers = []; calls = []; asked = h; does = λ unused rest. refl }
 
-  pub bound_to_admin : (bound : Bound) (text : List ℕ) → Asked [] → text ≡ text_of say.OkAdmin → Performs Asked BindAdmin bound Admin text
-  bound_to_admin bound text h e = record { answers = []; calls = []; asked = h; does = λ unused rest. ap (λ t. after t [] (rest Admin unused)) (sym e) }
+  pub bound_to_admin : (bound : Bound) → Asked [] → Performs Asked BindAdmin bound Admin (text_of say.OkAdmin)
+  bound_to_admin bound h = record { answers = []; calls = []; asked = h; does = λ unused rest. refl }
 
-  pub left : (bound : Bound) (text : List ℕ) → Asked [] → text ≡ text_of say.Bye → Performs Asked Leave bound bound text
-  left bound text h e = record { answers = []; calls = []; asked = h; does = λ unused rest. ap (λ t. after t [] (ends Quits)) (sym e) }
+  pub left : (bound : Bound) → Asked [] → Performs Asked Leave bound bound (text_of say.Bye)
+  left bound h = record { answers = []; calls = []; asked = h; does = λ unused rest. refl }
 
-  pub overran : (bound : Bound) (text : List ℕ) → Asked [] → text ≡ text_of (say.Err fault.LineTooLong) → Performs Asked Overrun bound bound text
-  overran bound text h e = record { answers = []; calls = []; asked = h; does = λ unused rest. ap (λ t. after t [] (ends Cuts)) (sym e) }
+  pub overran : (bound : Bound) → Asked [] → Performs Asked Overrun bound bound (text_of (say.Err fault.LineTooLong))
+  overran bound h = record { answers = []; calls = []; asked = h; does = λ unused rest. refl }
 
-  pub not_found : (name : ArrayVec ℕ) (bound : Bound) (text : List ℕ) → Asked (Finds name.items None ∷ []) → text ≡ text_of (say.Err fault.NoSuchTenant) → Performs Asked (Find name) bound bound text
-  not_found name bound text h e = record {
+  pub not_found : (name : ArrayVec ℕ) (bound : Bound) → Asked (Finds name.items None ∷ []) → Performs Asked (Find name) bound bound (text_of (say.Err fault.NoSuchTenant))
+  not_found name bound h = record {
     answers = Found None ∷ [];
     calls = Finds name.items None ∷ [];
     asked = h;
-    does = λ unused rest. ap (λ t. after t (Finds name.items None ∷ []) (rest bound unused)) (sym e);
+    does = λ unused rest. refl;
   }
 
-  pub is_found : (name : ArrayVec ℕ) (number words : ℕ) (bound : Bound) (text : List ℕ) → Asked (Finds name.items (Some (number, words)) ∷ []) → text ≡ text_of (say.Ok words)
-      → Performs Asked (Find name) bound (Tenant number words) text
-  is_found name number words bound text h e = record {
+  pub is_found : (name : ArrayVec ℕ) (number words : ℕ) (bound : Bound) → Asked (Finds name.items (Some (number, words)) ∷ []) → Performs Asked (Find name) bound (Tenant number words) (text_of (say.Ok words))
+  is_found name number words bound h = record {
     answers = Found (Some (number, words)) ∷ [];
     calls = Finds name.items (Some (number, words)) ∷ [];
     asked = h;
-    does = λ unused rest. ap (λ t. after t (Finds name.items (Some (number, words)) ∷ []) (rest (Tenant number words) unused)) (sym e);
+    does = λ unused rest. refl;
   }
 
-  pub replied : (tenant : ℕ) (wanted : Job) (reply : Reply) (bound : Bound) (text : List ℕ) → Asked (Asks tenant wanted reply ∷ []) → text ≡ text_of (say.Store reply)
-      → Performs Asked (Ask tenant wanted) bound bound text
-  replied tenant wanted reply bound text h e = record {
+  pub replied : (tenant : ℕ) (wanted : Job) (reply : Reply) (bound : Bound) → Asked (Asks tenant wanted reply ∷ []) → Performs Asked (Ask tenant wanted) bound bound (text_of (say.Store reply))
+  replied tenant wanted reply bound h = record {
     answers = Replied reply ∷ [];
     calls = Asks tenant wanted reply ∷ [];
     asked = h;
-    does = λ unused rest. ap (λ t. after t (Asks tenant wanted reply ∷ []) (rest bound unused)) (sym e);
+    does = λ unused rest. refl;
   }
 
   pub reported : (figures : Figures) (bound : Bound) (text : List ℕ) → Asked (Counts figures ∷ []) → text ≡ report figures.tenants.items figures.pool_free → Performs Asked Report bound bound text

@@ -8,12 +8,11 @@ use Rattle.mw_frame.specs.Stream.{Stream, fed, lines_of}
 use Rattle.mw_session.specs.declared.steps.Bound.{Bound}
 use Rattle.mw_session.specs.declared.steps.Step.{Step}
 use Rattle.mw_session.specs.declared.steps.Step.TheVariants.{Refuse, Find, BindAdmin, Ask, Report, Leave, Overrun}
-use Rattle.mw_session.specs.declared.replies.ReplyText.{ReplyText}
-use Rattle.mw_session.specs.declared.replies.ReplyText.TheVariants as text
 use Rattle.mw_session.specs.declared.session.Ended.{Ended}
 use Rattle.mw_session.specs.declared.session.Ended.TheVariants.{Quit, PeerEnd, TooLong, ReadFault, WriteFault, Memory}
 use Rattle.mw_session.specs.Talk.{Answer, Call, End, Quits, Cuts, Heard, Script, after, does, ends, talk}
 use Rattle.mw_session.specs.Lines.{HearsAll}
+use Rattle.mw_session.specs.StepOfLine.{Judges}
 
 -- the count with the bytes of one more text; it stops at its greatest value
 abbrev pub counted : ℕ → List ℕ → ℕ
@@ -73,11 +72,6 @@ end_of BindAdmin = None
 end_of (Ask tenant wanted) = None
 end_of Report = None
 
--- the bytes that are said to one line
-abbrev pub bytes_of : ReplyText → List ℕ
-bytes_of (text.Line line) = line.items
-bytes_of (text.Report report) = report.items
-
 -- A step gives this text, and leaves the session bound so. The service was asked what the step needs, and nothing else.
 pub record Performs (Asked : List Call → Type 0) (step : Step) (old new : Bound) (text : List ℕ) : Type 0 where
   pub answers : List Answer
@@ -124,6 +118,11 @@ Turned before now Asked count new_count lines bound new (Err Memory) = ⊥
 -- these are the next lines of a stream, whatever comes later, and the stream is left so
 abbrev pub Gives : Stream → List Line → Stream → Type 0
 Gives old lines new = (more : List ℕ) → lines_of (fed old more) ≡ lines ++ lines_of (fed new more)
+
+-- The next line was taken from a stream, which is left so, and the line asks for this step; or no line is left to take.
+abbrev pub Takes : Stream → Stream → Bound → Option Step → Type 0
+Takes old new bound (Some step) = (line : Line) × Gives old (line ∷ []) new × Judges bound line step
+Takes old new bound None = (new ≡ old) × (lines_of new ≡ [])
 
 -- A session that goes on: it took these lines from its stream, and answered them whole.
 pub record Spoken (before now : WriteRecord) (Asked : List Call → Type 0) (count new_count : ℕ) (old new : Stream) (bound new_bound : Bound) : Type 0 where

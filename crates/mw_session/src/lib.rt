@@ -23,7 +23,7 @@
 //!
 //! A session reads and writes a [`RecordedStream`], which records what was read and written, and which call failed.
 //!
-//! mw_workers runs a session for each connection, and mw_service one for a script. What a session says is
+//! mw_connections runs a session for each connection, and mw_service one for a script. What a session says is
 //! `specs/Talk`; CONTRIBUTING lists under *A command* what a new line needs.
 #![tactic(auto)]
 

@@ -1,26 +1,29 @@
 //! Runs one session: reads the client's bytes, and answers the lines that have come.
 //!
-//! mw_workers calls [`Session::run`] for each connection, and mw_service for a script. `specs/WholeSessions` says what it
-//! promises, and `specs/RecordedCalls` of which calls of the stream. The loop may change with `specs/UnderWay` and
-//! `specs/SessionParts`. README and docs/PROMISES cite `Session::run`.
-ghost use Rattle.std.specs.Prelude.{◌≡◌, [], ◌∷◌, List, OnOk};
+//! mw_connections calls [`Session::run`] for each connection, and mw_service for a script. `specs/WholeSessions` says
+//! what it promises, and `specs/RecordedCalls` of which calls of the stream. The loop may change with `specs/UnderWay`
+//! and `specs/SessionParts`. README and docs/PROMISES cite `Session::run`.
+ghost use Rattle.std.specs.Prelude.{◌≡◌, ℕ, [], ◌∷◌, List, OnOk};
 ghost use Rattle.std.specs.Io.KnownBytes.{IsAtEnd};
 ghost use Rattle.mw_frame.specs.declared.lines.Line.{Line as LineRead};
 ghost use Rattle.mw_frame.specs.Stream.{lines_of};
 ghost use Rattle.mw_session.specs.KnownStreams.{IsTied, inner_of, reads_of, writes_of};
 ghost use Rattle.mw_session.specs.RecordedCalls.{HasMade};
-ghost use Rattle.mw_session.specs.SessionParts.{Gives, Turned};
+ghost use Rattle.mw_session.specs.SessionParts.{Gives, Performs, Turned, Writes};
 ghost use Rattle.mw_session.specs.ServiceCalls.{AreAnswered, IsServed};
+ghost use Rattle.mw_session.specs.StepOfLine.{Judges, Suits};
+ghost use Rattle.mw_session.specs.declared.steps.Bound.{Bound as BoundRead};
+ghost use Rattle.mw_session.specs.declared.steps.Step.TheVariants.{Report};
 ghost use Rattle.mw_session.specs.WholeSessions.{Holds};
 ghost use Rattle.mw_session.specs.declared.session.Ended.TheVariants.{PeerEnd};
 
 use crate::recorded_stream::RecordedStream;
-use crate::replies::perform;
+use crate::replies::{perform, report};
 use crate::service::Service;
-use crate::steps::{Bound, step_at};
+use crate::steps::{Bound, Step, next_step};
 use crate::stream::{Others, PeerStream};
 use crate::writer::write_counted;
-use mw_frame::{Feed, Line};
+use mw_frame::Feed;
 use std::alloc::Global;
 use std::sync::Wait;
 
@@ -117,8 +120,8 @@ impl Session {
         ensures all { OnOk result (lines_of self.new.feed ≡ []) }
         ensures served { OnOk result (IsServed (S.has_words service.new) self.new.bound) }
     {
-        while let Some(line) = self.feed.next() {
-            let answered = self.answer(rt, others, &line, stream, service);
+        while let Some(step) = next_step(&mut self.feed, self.bound) {
+            let answered = self.answer(rt, others, &step, stream, service);
             if answered.is_err() {
                 return answered;
             }
@@ -126,27 +129,27 @@ impl Session {
         Ok(())
     }
 
-    /// Answers a line. The error says how the session ended.
+    /// Takes the step of a line, and writes the reply. The error says how the session ended.
     fn answer<T: PeerStream, R: Wait, O: Others, S: Service>(
         &mut self,
         rt: &R,
         others: &O,
-        line: &Line,
+        step: &Step,
         stream: &mut RecordedStream<T>,
         service: &mut S,
     ) -> Result<(), Ended>
-        requires { IsServed (S.has_words service.old) self.old.bound }
-        ensures turned { Turned (writes_of stream.old) (writes_of stream.new) (AreAnswered S.answered service.old service.new)
-            self.old.written self.new.written (line.now ∷ []) self.old.bound self.new.bound result }
+        requires served { IsServed (S.has_words service.old) self.old.bound }
+        requires suits { Suits self.old.bound step.now }
+        ensures turned { (line : LineRead) → Judges self.old.bound line step.now
+            → Turned (writes_of stream.old) (writes_of stream.new) (AreAnswered S.answered service.old service.new)
+            self.old.written self.new.written (line ∷ []) self.old.bound self.new.bound result }
         ensures reads { reads_of stream.new ≡ reads_of stream.old }
         ensures tied { IsTied T.remaining T.contents stream.old stream.new }
         ensures made { HasMade T.called stream.old stream.new }
         ensures served { IsServed (S.has_words service.new) self.new.bound }
         ensures feed { self.new.feed ≡ self.old.feed }
     {
-        let step = step_at(self.bound, line);
-        let text = perform(&step, &mut self.bound, service);
-        let sent = write_counted(rt, others, stream, text.bytes(), &mut self.written);
+        let sent = self.reply(rt, others, step, stream, service);
         if sent.is_err() {
             return sent;
         }
@@ -155,4 +158,56 @@ impl Session {
             None => Ok(()),
         }
     }
+
+    /// Takes a step, and writes the line to say or the report.
+    ///
+    /// # Errors
+    ///
+    /// As [`write_counted`].
+    fn reply<T: PeerStream, R: Wait, O: Others, S: Service>(
+        &mut self,
+        rt: &R,
+        others: &O,
+        step: &Step,
+        stream: &mut RecordedStream<T>,
+        service: &mut S,
+    ) -> Result<(), Ended>
+        requires served { IsServed (S.has_words service.old) self.old.bound }
+        requires suits { Suits self.old.bound step.now }
+        ensures replies { (text : List ℕ) × Performs (AreAnswered S.answered service.old service.new) step.now self.old.bound self.new.bound text
+            × Writes (writes_of stream.old) (writes_of stream.new) self.old.written self.new.written text result }
+        ensures reads { reads_of stream.new ≡ reads_of stream.old }
+        ensures tied { IsTied T.remaining T.contents stream.old stream.new }
+        ensures made { HasMade T.called stream.old stream.new }
+        ensures served { IsServed (S.has_words service.new) self.new.bound }
+        ensures feed { self.new.feed ≡ self.old.feed }
+    {
+        match perform(step, &mut self.bound, service) {
+            Some(say) => write_counted(rt, others, stream, &say.text(), &mut self.written),
+            None => write_report(rt, others, stream, service, &mut self.written),
+        }
+    }
+}
+
+/// Writes the report, and counts its bytes. Only this function needs the room of a report.
+///
+/// # Errors
+///
+/// As [`write_counted`].
+fn write_report<T: PeerStream, R: Wait, O: Others, S: Service>(
+    rt: &R,
+    others: &O,
+    stream: &mut RecordedStream<T>,
+    service: &mut S,
+    count: &mut u64,
+) -> Result<(), Ended>
+    ensures replies { (text : List ℕ) × ((bound : BoundRead) → Performs (AreAnswered S.answered service.old service.new) Report bound bound text)
+        × Writes (writes_of stream.old) (writes_of stream.new) count.old count.new text result }
+    ensures words { (number words : ℕ) → S.has_words service.old number words → S.has_words service.new number words }
+    ensures reads { reads_of stream.new ≡ reads_of stream.old }
+    ensures tied { IsTied T.remaining T.contents stream.old stream.new }
+    ensures made { HasMade T.called stream.old stream.new }
+{
+    let text = report(service);
+    write_counted(rt, others, stream, &text, count)
 }

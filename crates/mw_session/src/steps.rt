@@ -1,17 +1,17 @@
 //! Tells which step a line asks of the session: to refuse it, to bind, to ask for a job or the report, or to end.
 //!
-//! `session.rt` calls [`step_at`] for each line, and `replies.rt` takes the step. A new command needs a [`Step`]
+//! `session.rt` calls [`next_step`] for each line, and `replies.rt` takes the step. A new command needs a [`Step`]
 //! here, and a case in `specs/Talk` and `specs/StepOfLine`.
-ghost use Rattle.std.specs.Prelude.{◌≡◌, ℕ, IsTrue};
+ghost use Rattle.std.specs.Prelude.{◌≡◌, ℕ, IfSome, IsTrue};
 ghost use Rattle.mw_words.specs.Change.{is_well_formed};
 ghost use Rattle.mw_words.specs.declared.limits.TheConstants.{MAX_WORDS};
 ghost use Rattle.mw_session.specs.StepOfLine.{Judges, Suits};
-ghost use Rattle.mw_session.specs.SessionParts.{end_of};
+ghost use Rattle.mw_session.specs.SessionParts.{Takes, end_of};
 ghost use Rattle.mw_session.specs.Talk as spec;
 ghost use Rattle.mw_line.specs.Limits.{FitsLargestTenant};
 
 use crate::session::Ended;
-use mw_frame::Line;
+use mw_frame::{Feed, Line};
 use mw_line::{ErrCode, Request, read_line};
 use mw_words::{Job, Name};
 
@@ -58,8 +58,19 @@ impl Step {
     }
 }
 
+/// Takes the next line, if it is there, and gives the step that a session does at it, by what it is bound to.
+pub fn next_step(feed: &mut Feed, bound: Bound) -> Option<Step>
+    ensures takes { Takes feed.old feed.new bound result }
+    ensures suits { IfSome result (Suits bound) }
+{
+    let Some(line) = feed.next() else {
+        return None;
+    };
+    Some(step_at(bound, &line))
+}
+
 /// Gives the step that a session does at a line, by what it is bound to.
-pub fn step_at(bound: Bound, line: &Line) -> Step
+fn step_at(bound: Bound, line: &Line) -> Step
     ensures judges { Judges bound line.now result }
     ensures suits { Suits bound result }
 {

@@ -1,7 +1,6 @@
 -- Proves goals of `Session::answer` (src/session.rt) that the check does not prove by itself. Used by: the proof of that
 -- function alone. It may change freely as long as this crate checks.
-use Rattle.std.proofs.Common.{sym, subst, ◌∙◌}
-use Rattle.mw_session.specs.SessionParts.{Performs}
+use Rattle.std.proofs.Common.{sym, ◌∙◌}
 use Rattle.mw_session.specs.KnownStreams.{writes_of}
 use Rattle.mw_session.specs.ServiceCalls.{AreAnswered}
 use Rattle.mw_session.proofs.LineJudgments.{wrote_all}
@@ -12,36 +11,33 @@ pub returns-then-is_err-clause-turned : goal.returns-then-is_err-clause-turned
 returns-then-is_err-clause-turned g c =
     let s = g.S.Service in
     let old = c.args.self.now in
-    let sent = c.write_counted-sent in
-    let new = c.perform-text.new in
-    let step = c.step_at-step.result in
-    let Asked = AreAnswered s.answered c.args.service.now new.service in
-    line_breaks (writes_of c.args.stream.now) (writes_of sent.new.stream) Asked old.written sent.new.count c.args.line.now old.bound new.bound step c.bytes.result.now sent.result
-    (sym c.is_err.ensures.value ∙ c.if-is_err.true) c.step_at-step.ensures.judges
-    (subst (λ t. Performs Asked step old.bound new.bound t) (sym c.bytes.ensures) c.perform-text.ensures.performs) sent.ensures.writes
+    let sent = c.reply-sent in
+    let new = sent.new.self in
+    let replies = sent.ensures.replies in
+    let Asked = AreAnswered s.answered c.args.service.now sent.new.service in
+    λ line judges. line_breaks (writes_of c.args.stream.now) (writes_of sent.new.stream) Asked old.written new.written line old.bound new.bound c.args.step.now replies.0 sent.result
+    (sym c.is_err.ensures.value ∙ c.if-is_err.true) judges replies.1 replies.2
 
 pub returns-in-Some-clause-turned : goal.returns-in-Some-clause-turned
 returns-in-Some-clause-turned g c =
     let s = g.S.Service in
     let old = c.args.self.now in
-    let sent = c.write_counted-sent in
-    let new = c.perform-text.new in
-    let step = c.step_at-step.result in
-    let Asked = AreAnswered s.answered c.args.service.now new.service in
-    line_ends (writes_of c.args.stream.now) (writes_of sent.new.stream) Asked old.written sent.new.count c.args.line.now old.bound new.bound step c.bytes.result.now c.in-Some.ended
-    (sym c.end.ensures ∙ c.in-Some.is) c.step_at-step.ensures.judges
-    (subst (λ t. Performs Asked step old.bound new.bound t) (sym c.bytes.ensures) c.perform-text.ensures.performs)
-    (wrote_all (writes_of c.args.stream.now) (writes_of sent.new.stream) old.written sent.new.count c.bytes.result.now sent.result (sym c.is_err.ensures.value ∙ c.if-is_err.false) sent.ensures.writes)
+    let sent = c.reply-sent in
+    let new = sent.new.self in
+    let replies = sent.ensures.replies in
+    let Asked = AreAnswered s.answered c.args.service.now sent.new.service in
+    λ line judges. line_ends (writes_of c.args.stream.now) (writes_of sent.new.stream) Asked old.written new.written line old.bound new.bound c.args.step.now replies.0 c.in-Some.ended
+    (sym c.end.ensures ∙ c.in-Some.is) judges replies.1
+    (wrote_all (writes_of c.args.stream.now) (writes_of sent.new.stream) old.written new.written replies.0 sent.result (sym c.is_err.ensures.value ∙ c.if-is_err.false) replies.2)
 
 pub returns-in-None-clause-turned : goal.returns-in-None-clause-turned
 returns-in-None-clause-turned g c =
     let s = g.S.Service in
     let old = c.args.self.now in
-    let sent = c.write_counted-sent in
-    let new = c.perform-text.new in
-    let step = c.step_at-step.result in
-    let Asked = AreAnswered s.answered c.args.service.now new.service in
-    line_goes_on (writes_of c.args.stream.now) (writes_of sent.new.stream) Asked old.written sent.new.count c.args.line.now old.bound new.bound step c.bytes.result.now
-    (sym c.end.ensures ∙ c.in-None.is) c.step_at-step.ensures.judges
-    (subst (λ t. Performs Asked step old.bound new.bound t) (sym c.bytes.ensures) c.perform-text.ensures.performs)
-    (wrote_all (writes_of c.args.stream.now) (writes_of sent.new.stream) old.written sent.new.count c.bytes.result.now sent.result (sym c.is_err.ensures.value ∙ c.if-is_err.false) sent.ensures.writes)
+    let sent = c.reply-sent in
+    let new = sent.new.self in
+    let replies = sent.ensures.replies in
+    let Asked = AreAnswered s.answered c.args.service.now sent.new.service in
+    λ line judges. line_goes_on (writes_of c.args.stream.now) (writes_of sent.new.stream) Asked old.written new.written line old.bound new.bound c.args.step.now replies.0
+    (sym c.end.ensures ∙ c.in-None.is) judges replies.1
+    (wrote_all (writes_of c.args.stream.now) (writes_of sent.new.stream) old.written new.written replies.0 sent.result (sym c.is_err.ensures.value ∙ c.if-is_err.false) replies.2)

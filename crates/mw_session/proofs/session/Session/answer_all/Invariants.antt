@@ -9,8 +9,8 @@ use Rattle.mw_session.specs.ServiceCalls.{AreAnswered, IsServed}
 use Rattle.mw_session.proofs.session.Session.answer_all.Given as goal
 
 -- the lines so far were answered
-abbrev pub invariant-loop-line : goal.invariant-loop-line
-invariant-loop-line g l =
+abbrev pub invariant-loop-step : goal.invariant-loop-step
+invariant-loop-step g l =
     let T = g.T.PeerStream in
     let s = g.S.Service in
     record {
@@ -22,5 +22,5 @@ invariant-loop-line g l =
       served : IsServed (s.has_words l.service) l.self.bound;
     }
 
-abbrev pub decreases-loop-line : goal.decreases-loop-line
-decreases-loop-line g l = length (lines_of l.self.feed)
+abbrev pub decreases-loop-step : goal.decreases-loop-step
+decreases-loop-step g l = length (lines_of l.self.feed)

@@ -1,0 +1,15 @@
+-- Proves goals of `write_report` (src/session.rt) that the check does not prove by itself. Used by: the proof of that function
+-- alone. It may change freely as long as this crate checks.
+use Rattle.std.proofs.Common.{subst}
+use Rattle.mw_session.specs.KnownStreams.{writes_of}
+use Rattle.mw_session.specs.SessionParts.{Writes}
+use Rattle.mw_session.proofs.session.write_report.Goals as goal
+
+pub returns-clause-replies : goal.returns-clause-replies
+returns-clause-replies g c =
+    let sent = c.write_counted in (
+      c.report-text.result.items,
+      c.report-text.ensures.performs,
+      subst (λ text. Writes (writes_of c.args.stream.now) (writes_of sent.new.stream) c.args.count.now sent.new.count text sent.result)
+          c.deref.ensures.0 sent.ensures.writes,
+    )
