@@ -54,9 +54,9 @@ class Place:
         return bool(of) and parts[1:2] == [self.name]
 
 
-def read_edit(path: Path) -> Edit:
-    """Reads a file of an edit."""
-    label = f"{path.parent.name}/{path.stem}"
+def read_edit(path: Path, crate: str) -> Edit:
+    """Reads a file of an edit of this crate."""
+    label = f"{crate}/{path.stem}"
     file, old, changes = "", "", []
     for line in path.read_text(encoding="utf-8").split("\n"):
         if line.startswith("file: "):
@@ -72,15 +72,15 @@ def read_edit(path: Path) -> Edit:
             old = ""
     if not changes:
         raise BadEdit(f"{label}: it has no 'old:' and 'new:' pair")
-    return Edit(path.parent.name, path.stem, tuple(changes))
+    return Edit(crate, path.stem, tuple(changes))
 
 
 def edits_in(folder: Path) -> List[Edit]:
-    """The edits in the folder of a crate, in the order of their names."""
+    """The edits in the folder wrong-bodies/CRATE, in the order of their names."""
     wrong = [it.name for it in folder.iterdir() if not NAME.fullmatch(it.name) and it.suffix != ".md"]
     if wrong:
         raise BadEdit(f"{folder.name}/{wrong[0]}: an edit's name is of letters, digits, _, - and . and ends in .edit")
-    return [read_edit(it) for it in sorted(folder.glob("*.edit"))]
+    return [read_edit(it, folder.name) for it in sorted(folder.glob("*.edit"))]
 
 
 def apply(edit: Edit, crate: Path, texts: Dict[str, str]) -> None:

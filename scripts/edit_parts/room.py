@@ -34,12 +34,13 @@ class Room:
 
     def __init__(self, folder: Path, crate: Crate, below: Sequence[Crate], logs: Path):
         self.crate, self.logs = crate, logs
-        self.folder = folder / "crates" / crate.name
+        self.unedited, self.folder = folder / "unedited", folder / "tree" / "crates" / crate.name
         readers = Locks()
         try:
             self.wait_for(readers, [*below, crate])
-            copy_sources([*below, crate], folder)
-            link_libraries(below, folder)
+            copy_sources([*below, crate], folder / "tree")
+            link_libraries(below, folder / "tree")
+            copy_parts(self.folder, self.unedited)
             if (crate.folder / KEPT).is_dir():
                 shutil.copytree(crate.folder / KEPT, self.folder / KEPT)
         finally:
@@ -57,10 +58,15 @@ class Room:
 
     def check(self, texts: Dict[str, str]) -> Report:
         """Checks the crate with these texts in place of its own, by their paths in it."""
-        for part in PARTS:
-            shutil.rmtree(self.folder / part, ignore_errors=True)
-            if (self.crate.folder / part).is_dir():
-                shutil.copytree(self.crate.folder / part, self.folder / part)
+        copy_parts(self.unedited, self.folder)
         for path, text in texts.items():
             (self.folder / path).write_text(text, encoding="utf-8")
         return run_check(self.folder, self.logs, self.crate.name)
+
+
+def copy_parts(crate: Path, to: Path) -> None:
+    """Puts what a crate's proof reads in the place of what was there."""
+    for part in PARTS:
+        shutil.rmtree(to / part, ignore_errors=True)
+        if (crate / part).is_dir():
+            shutil.copytree(crate / part, to / part)

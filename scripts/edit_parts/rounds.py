@@ -1,6 +1,5 @@
 """Tries the wrong bodies of a crate, as many at once as change different functions, and tells which are refused."""
 from dataclasses import dataclass
-from pathlib import Path
 from typing import Dict, FrozenSet, List
 
 from register_parts.source import Source
@@ -27,8 +26,8 @@ class Unclear(Exception):
 class Trials:
     """The trials of a crate's edits."""
 
-    def __init__(self, room: Room, crate: Path, edits: List[Edit], sources: Dict[str, Source]):
-        self.room, self.crate, self.edits = room, crate, edits
+    def __init__(self, room: Room, edits: List[Edit], sources: Dict[str, Source]):
+        self.room, self.edits = room, edits
         self.places: Dict[Edit, FrozenSet[Place]] = {it: places_of(it, sources) for it in edits}
 
     def rounds(self) -> List[List[Edit]]:
@@ -55,7 +54,7 @@ class Trials:
         """The texts that these edits change."""
         texts: Dict[str, str] = {}
         for edit in edits:
-            apply(edit, self.crate, texts)
+            apply(edit, self.room.unedited, texts)
         return texts
 
     def run(self) -> Dict[Edit, Found]:

@@ -1,7 +1,9 @@
 """Reads the edits of the crates, in the gate and by rounds, and the wrong bodies that are kept by hand in wrong_bodies.txt."""
 import os
 import re
+from pathlib import Path
 
+from edit_parts.edits import BadEdit, apply, read_edit
 from register_parts.source import TOP, files_below, read
 
 # Where the edits of a crate are, in words and as a folder: `rt ci` tries the first, scripts/check-wrong-bodies the others.
@@ -114,10 +116,22 @@ def row_faults(table, row, there):
     return found
 
 
+def unfit(edit):
+    """Why an edit, told as `crate/edit`, can't be made, as of a text that isn't in its file once; nothing if it can."""
+    crate, name = edit.split("/")
+    try:
+        for words in where(edit):
+            apply(read_edit(Path(TOP, FOLDERS[words].format(crate), f"{name}.edit"), crate), Path(TOP, "crates", crate), {})
+    except BadEdit as fault:
+        return str(fault)
+    return ""
+
+
 def edit_faults(edit_places):
-    """Edits whose text is in no body, that are in both folders, or that are of no crate."""
-    found = [f"{edit}: its text is in no body" for edit, function in edit_places.items() if function is None]
-    found += [f"{edit}: it is in both folders, {' and '.join(FOLDERS.values())}" for edit in edit_places if len(where(edit)) > 1]
+    """Edits that can't be made, whose text is in no body, that are in both folders, or that are of no crate."""
+    found = [why for why in map(unfit, edit_places) if why]
+    found += [f"{edit}: its text is in no body" for edit, function in edit_places.items() if function is None]
+    found += [f"{edit}: it is in the gate and by rounds" for edit in edit_places if len(where(edit)) > 1]
     rounds = [path.split(os.sep)[1:] for path in files_below("wrong-bodies", ".edit")]
     return found + [f"wrong-bodies/{'/'.join(it)}: crates.txt has no such crate" for it in rounds if "/".join(it)[:-5] not in edit_places]
 
