@@ -19,7 +19,7 @@ class Allocator:
     """For one thread of one process at a time of this owner. After an exception a new one's `mine` tells what it has."""
 
     def __init__(self, client: mondlexi.Client, blocks: int, owner: int, wait: float = 30.0) -> None:
-        """`client`: its owner closes it; `wait`: for how many seconds to connect it anew before mondlexi.Lost is raised."""
+        """`client`: its owner closes it; `wait`: for how many seconds to connect it anew before a mondlexi.Error is raised."""
         self._client, self._blocks, self._used, self._wait = client, blocks, USED + owner, wait
         self._own = mondlexi.Counted(client, 2 + blocks + owner, wait)
 

@@ -27,15 +27,15 @@ one of them call at a time. Processes may not: one that was forked makes a clien
 **What goes wrong.** An argument out of its range is a ValueError and one of a wrong type a TypeError, both before
 anything is sent. All other failures are kinds of `Error`:
 
-| raised  | why                                                              | after `cas` the change is | the connection |
-|---------|------------------------------------------------------------------|---------------------------|----------------|
-| Lost    | not connected; or another call than `cas` broke off or timed out | not made                  | is closed      |
-| Full    | a kind of Lost: a new connection was closed before any reply     |                           | is closed      |
-| Unknown | `cas` alone: broke off or timed out in or after the sending      | undecided                 | is closed      |
-| Busy    | the server was busy for as long as the caller has patience       | not made                  | stays          |
-| Fault   | the tenant's file failed; down until the server restarts         | undecided                 | stays          |
-| Worn    | a number of the server is used up; it has to be restarted        | undecided                 | stays          |
-| Refused | the server refuses the line, by a number                         | not made                  | stays          |
+| raised  | why                                                              | after `cas` | after `Counted.cas` | the connection |
+|---------|------------------------------------------------------------------|-------------|---------------------|----------------|
+| Lost    | not connected; or another call than `cas` broke off or timed out | not made    | not made            | is closed      |
+| Full    | a kind of Lost: a new connection was closed before any reply     |             | not made            | is closed      |
+| Unknown | `cas` broke off or timed out in or after the sending             | undecided   | undecided           | is closed      |
+| Busy    | the server was busy for as long as the caller has patience       | not made    | not made            | stays          |
+| Fault   | the tenant's file failed; down until the server restarts         | undecided   | not made            | stays          |
+| Worn    | a number of the server is used up; it has to be restarted        | undecided   | not made            | stays          |
+| Refused | the server refuses the line, by a number                         | not made    | not made            | stays          |
 
 A constructor that raises leaves nothing open. If the connection breaks, `get`, `get_many`, `read` and `report` connect anew and
 ask again, once, or as often as `reconnects` says, before they raise Lost: they change nothing. `cas` never does: after Lost or
@@ -50,6 +50,10 @@ that it got. Words with their old values don't show that it won't come, and one 
     money, mine = client.get(0), client.get(8)
     if own.cas([(0, money, money - 5), (8, mine, mine + 5)]):
         ...                                                   # made, once; otherwise it wasn't, and never will be
+
+Whatever leaves its change undecided it raises as Unknown, and what that was is the `__cause__`: one of the others above. Then
+`own.settle()` tells whether the change was made, or raises Unknown again. If `Counted.cas` raises another `Error` the change was
+not made, and never will be: it was refused, or not sent because the change before it is still undecided.
 
 A process that may die needs no note elsewhere, if its changes write what the next one has to know into words of its own, as
 word 8 is here. Once the next one has made its `Counted`, an old change was made or never will be, and `get` tells which.
@@ -66,7 +70,7 @@ A change of an owner that died may still come. So a new owner that wants another
 own, until one is told as made.
 
 After `close` each call raises Lost and sends nothing, until `reconnect`. An exception from outside that interrupts a call, such as
-KeyboardInterrupt, ends the connection, and a change under way is undecided.
+KeyboardInterrupt, ends the connection, and a change under way is undecided. The next call of its `Counted` settles it first.
 """
 from ._client import Administrator, Client, Counted
 from ._protocol import MAX_ENTRIES, MAX_VALUE, MAX_WORDS, Entry, Outcome, Report, TenantReport

@@ -161,6 +161,11 @@ class _Caller:
     def __init__(self, client: Client) -> None:
         self._client = client
 
+    @property
+    def words(self) -> int:
+        """How many words the tenant has."""
+        return self._client.words
+
     async def cas(self, entries: Iterable[Entry]) -> Outcome:
         """A change."""
         return self._client.cas(entries)
@@ -183,19 +188,29 @@ class Counted:
     share a client, each with a count of its own."""
 
     def __init__(self, client: Client, address: int, wait: float = 30.0) -> None:
-        """`address`: the count's. `wait`: for how many seconds to connect `client` anew and ask again, 0 to 1,000,000.
+        """`address`: the count's. `wait`: for how many seconds to connect `client` anew and ask again, while that fails or the
+        server is busy, 0 to 1,000,000. A try that has begun is waited for.
 
-        Moves the count: from then on no change of an earlier `Counted` of it is made any more. Raises what `cas` does."""
+        Moves the count: from then on no change of an earlier `Counted` of it is made any more. Raises what `Client.cas` does."""
         self._count = Count(_Caller(client), address, wait)
         run(self._count.begin())
 
     def cas(self, entries: Iterable[Entry]) -> Outcome:
-        """As `Client.cas`, of up to fifteen entries; but after Lost or Unknown it connects `client` anew and finds out. What it
-        tells as not made never will be; if a reply was lost it tells no word then. Raises Lost and Unknown only after `wait`
-        seconds, and RuntimeError if something else has moved the count. After whatever it raises `settle` tells."""
+        """As `Client.cas`, of up to fifteen entries; but after Lost or Unknown it connects `client` anew and finds out, for `wait`
+        seconds. Before it sends anything it does so for the change before, if that is undecided. What it tells as not made never
+        will be; if a reply was lost it tells no word then.
+
+        Raises Unknown, from its cause, if its change stays undecided: then `settle` tells. After any other `Error`, ValueError or
+        TypeError its change was not made, and never will be: it was busy or refused; or not sent, because the one before stays
+        undecided, for the reason that is raised. RuntimeError if something else has moved the count: it may be undecided.
+
+        After an exception from outside, such as KeyboardInterrupt, the change is undecided, and the next call settles it first."""
         return run(self._count.cas(entries))
 
     def settle(self) -> bool:
-        """Whether the last change was made, whatever its `cas` raised; if not, it never will be. False before the first one.
-        Raises what `cas` does as long as it can't tell: Fault or Worn until the server was started again."""
+        """Whether the last change was made, whatever its `cas` raised; if not, it never will be. False before the first one. An
+        interrupt may come before `cas` has begun: then the last change is the one before.
+
+        Raises Unknown, from its cause, as long as it can't tell: after `wait` seconds, or at once from Fault or Worn, until the
+        server was started again, and from Refused. RuntimeError if something else has moved the count."""
         return run(self._count.settle())

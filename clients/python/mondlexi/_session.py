@@ -121,10 +121,9 @@ class Session:
         with await self._link.turn():
             was_open = self._state is _State.OPEN
             self._state = _State.CLOSED
-            if not was_open:
-                return
             try:
-                await self._link.finish(time.monotonic() + min(self.options.timeout, _GOODBYE_SECONDS))
+                if was_open:
+                    await self._link.finish(time.monotonic() + min(self.options.timeout, _GOODBYE_SECONDS))
             except OSError:
                 pass
             finally:
@@ -160,9 +159,9 @@ class Session:
 
     def _drop(self) -> None:
         """Closes the connection without a word."""
-        self._link.drop()
         self._state = _State.BROKEN
         self._replies = Replies()
+        self._link.drop()
 
     # Ask.
 
@@ -189,10 +188,12 @@ class Session:
 
     async def _answered(self, question: Question[Answer]) -> Answer:
         """The answer. Whatever ends the exchange before its last reply closes the connection, because a late reply would be
-        taken for that of the next line."""
+        taken for that of the next line. The session is broken meanwhile, so that it stays so wherever this is interrupted."""
+        before, self._state = self._state, _State.BROKEN
         try:
-            return question.answer(await self._exchange(question))
+            answer = question.answer(await self._exchange(question))
         except Error:
+            self._state = before
             raise
         except OSError as error:
             is_full = self._replies.is_silent and isinstance(error, ConnectionError)
@@ -203,6 +204,8 @@ class Session:
         except BaseException:
             self._drop()
             raise
+        self._state = before
+        return answer
 
     async def _exchange(self, question: Question[Answer]) -> List[Reply]:
         """Sends the lines and reads their replies."""
@@ -294,6 +297,10 @@ class AdministratorSession(Session):
 class Caller(Sleeper, Interface):
     """What a count needs of a client."""
 
+    @property
+    def words(self) -> int:
+        """How many words the tenant has."""
+
     async def cas(self, entries: Iterable[Entry]) -> Outcome:
         """A change."""
 
@@ -310,42 +317,73 @@ class _Known(NamedTuple):
 
 
 class Count:
-    """A word that only this moves, and what it tells of changes. `mondlexi.Counted` says what it promises."""
+    """A word that only this moves, and what it tells of changes. `mondlexi.Counted` says what it promises.
+
+    A change is noted as undecided before it is sent, and as decided by one assignment once that is known. So whatever ends a
+    call in the middle, an interrupt too, leaves it undecided, and the next call settles it first."""
 
     def __init__(self, caller: Caller, address: int, wait: float) -> None:
         self._caller, self._address, self._wait = caller, address, protocol.seconds_of("wait", wait, True)
         self._known = _Known(0, undecided=False, made=False)
+        self._has_begun = False
 
     async def begin(self) -> None:
-        """Moves the count, whatever it is, so that no earlier change with it is made any more."""
+        """Moves the count, whatever it is, unless this has done so: no earlier change with it is made any more."""
         count = 0
-        while True:
+        while not self._has_begun:
             value = await self._moved(count)
             if value is None:
-                break
-            count = value
-        self._known = _Known(count + 1, undecided=False, made=False)
+                self._known = _Known(count + 1, undecided=False, made=False)
+                self._has_begun = True
+            else:
+                count = value
+
+    def announce(self) -> None:
+        """The next change is the last one from now on. It isn't made yet."""
+        self._known = self._known._replace(made=False)
 
     async def cas(self, entries: Iterable[Entry]) -> Outcome:
-        """A change that moves the count by 2."""
-        self._known = self._known._replace(made=False)
-        await self.settle()
+        """A change that moves the count by 2. Raises Unknown, from its cause, if it leaves the change undecided."""
+        self.announce()
+        await self._make_ready()
         count = self._known.value
+        change = protocol.checked_entries([*entries, (self._address, count, count + 2)], self._caller.words)
         self._known = _Known(count, undecided=True, made=True)
         try:
-            outcome = await self._caller.cas([*entries, (self._address, count, count + 2)])
-        except (Lost, Unknown):
-            return Outcome(await self.settle())
-        except (ValueError, TypeError, Busy, Refused):
+            outcome = await self._caller.cas(change)
+        except (Busy, Refused):
             self._known = _Known(count, undecided=False, made=False)
             raise
+        except (Lost, Unknown):
+            return Outcome(await self.settle())
+        except Error as error:
+            raise self._undecided(error) from error
         self._known = _Known(count + 2 * outcome.made, undecided=False, made=outcome.made)
         if outcome.address == self._address:
             raise RuntimeError(f"something else has moved the count at {self._address}")
         return outcome
 
     async def settle(self) -> bool:
-        """Whether the last change was made."""
+        """Whether the last change was made. Raises Unknown, from its cause, as long as that can't be told."""
+        try:
+            return await self._settled()
+        except Error as error:
+            raise self._undecided(error) from error
+
+    def _undecided(self, error: Error) -> Unknown:
+        """What is raised if this leaves the last change undecided."""
+        return Unknown(f"the last change with the count at {self._address} is undecided: {error}")
+
+    async def _make_ready(self) -> None:
+        """Begins, and settles the change before. A new one that waits for this was not sent, so it isn't Unknown."""
+        try:
+            await self.begin()
+            await self._settled()
+        except Unknown as error:
+            raise Lost(f"not sent, because the count at {self._address} could not be moved: {error}") from error
+
+    async def _settled(self) -> bool:
+        """Whether the last change was made, once that is decided."""
         count, undecided, made = self._known
         if undecided:
             moved = await self._moved(count)
@@ -356,11 +394,13 @@ class Count:
         return self._known.made
 
     async def _moved(self, count: int) -> Optional[int]:
-        """Moves the count from this value, by 1: None; or the other value that it has."""
+        """Moves the count from this value, by 1: None; or the other value that it has. While the tenant is busy or there is no
+        connection it asks again, for `wait` seconds."""
         pause, end = FIRST_PAUSE, time.monotonic() + self._wait
         while True:
             try:
                 return (await self._caller.cas([(self._address, count, count + 1)])).value
-            except (Lost, Unknown) as error:
+            except (Busy, Lost, Unknown) as error:
                 pause = await paused(self._caller, pause, end, error)
-                await self._caller.reconnect(max(0.0, end - time.monotonic()))
+                if not isinstance(error, Busy):
+                    await self._caller.reconnect(max(0.0, end - time.monotonic()))

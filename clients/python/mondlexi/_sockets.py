@@ -118,7 +118,7 @@ class SocketLink(Link):
         time.sleep(seconds)
 
     async def turn(self) -> ContextManager[Any]:
-        """A lock of threads. An interrupt can't leave it held."""
+        """A lock of threads. From Python 3.10 on an interrupt can't leave it held."""
         return self._lock
 
     def _connected(self) -> socket.socket:

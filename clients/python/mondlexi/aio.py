@@ -251,6 +251,11 @@ class _Caller:
     def __init__(self, client: Client) -> None:
         self._client = client
 
+    @property
+    def words(self) -> int:
+        """How many words the tenant has."""
+        return self._client.words
+
     async def cas(self, entries: Iterable[Entry]) -> Outcome:
         """A change."""
         return await self._client.cas(entries)
@@ -267,24 +272,22 @@ class _Caller:
 class Counted:
     """Changes of which it is found out whether they were made: `mondlexi.Counted`, awaited. One task at a time uses it.
 
-    A call that is cancelled leaves its change undecided; `settle` tells."""
+    A call that is cancelled leaves its change undecided. The next call settles it first, and `settle` tells whether it was made."""
 
     def __init__(self, client: Client, address: int, wait: float = 30.0) -> None:
         """Takes what `mondlexi.Counted` takes, and moves nothing yet: `begin`, or else the first `cas`, moves the count."""
         self._count = Count(_Caller(client), address, wait)
-        self._has_begun = False
 
     async def begin(self) -> None:
         """Moves the count, unless this has done so: from then on no change of an earlier `Counted` of it is made any more.
-        Raises what `cas` does."""
-        if not self._has_begun:
-            await self._count.begin()
-            self._has_begun = True
+        Raises what `cas` of a `Client` does."""
+        await self._count.begin()
 
-    async def cas(self, entries: Iterable[Entry]) -> Outcome:
-        """A change that is found out, as `mondlexi.Counted.cas`."""
-        await self.begin()
-        return await self._count.cas(entries)
+    def cas(self, entries: Iterable[Entry]) -> Coroutine[Any, Any, Outcome]:
+        """A change that is found out, as `mondlexi.Counted.cas`. `settle` tells of it from this call on, also if what this gives is
+        cancelled before it begins."""
+        self._count.announce()
+        return self._count.cas(entries)
 
     async def settle(self) -> bool:
         """Whether the last change was made, as `mondlexi.Counted.settle`."""

@@ -40,7 +40,8 @@ class Full(Lost):
 class Unknown(Error):
     """The connection broke or timed out after a `cas` began to send its change, before the reply. The client has no connection.
 
-    The change was made, or it wasn't, or the server is still about to make it: wholly or not at all."""
+    The change was made, or it wasn't, or the server is still about to make it: wholly or not at all. A `Counted` raises this of
+    its last change, whatever is the reason: that is the `__cause__`, an `Error` of any kind. Its `settle` tries again."""
 
 
 class Busy(Error):
@@ -52,15 +53,15 @@ class Busy(Error):
 class Fault(Error):
     """The tenant's file has failed or did not open: all calls are answered so until the server is started again.
 
-    A `cas` that raised this was made or not, wholly or not at all, as the next start finds; other calls changed nothing.
-    Until then `reconnect` works, and to ask again does no harm."""
+    A `cas` of a `Client` that raised this was made or not, wholly or not at all, as the next start finds; other calls changed
+    nothing. Until then `reconnect` works, and to ask again does no harm."""
 
 
 class Worn(Error):
     """A number of the server has come to its end, 2^48 - 1. After a restart the server counts from 0 again.
 
     Each place for a change under way numbers its changes, and each worker its attempts to hold a word: for nine years, at a
-    million a second. A `cas` that raised this is undecided, a `read` changed nothing, and `get` works as before."""
+    million a second. A `cas` of a `Client` that raised this is undecided, other calls changed nothing; `get` works as before."""
 
 
 class Refused(Error):
