@@ -1,14 +1,16 @@
 //! Tests what is heard from an HTTP client, and the head of an answer.
-
+//!
+//! Nothing else uses it: it may change with what it tests.
 use mw_http::{
     Content, ContentType, Heard, Received, Request, Route, Status, answer_head, hear, receive,
 };
+use mw_test_peers::Sender;
 use std::io;
-use std::io::Read;
+use std::io::ErrorKind;
 use std::test::Fail;
 
 /// What a client sends, and what is heard.
-const CASES: [(&str, &str); 26] = [
+static CASES: [(&str, &str); 26] = [
     ("", "more"),
     ("GET / HTTP/1.1\r\nHost: a\r\n", "more"),
     ("GET / HTTP/1.1\r\nHost: a\r\n\r\n", "page"),
@@ -99,37 +101,44 @@ fn long_heads_are_refused(rt: HostRuntime) -> Result<(), Fail> {
     Ok(())
 }
 
-/// Gives one byte at a time, and then fails.
-#[derive(Drop)]
-struct Broken<'a>(&'a [u8]);
+/// More bytes than are read.
+const ALL: usize = usize::MAX;
 
-impl Read for Broken<'_> {
-    fn read(&mut self, piece: &mut [u8]) -> io::Result<usize> {
-        match (self.0, piece) {
-            ([first, rest @ ..], [place, ..]) => {
-                *place = *first;
-                self.0 = rest;
-                Ok(1)
-            }
-            _ => Err(io::Error::from(io::ErrorKind::ConnectionReset)),
-        }
+/// What a client sends, how many bytes a read gives, how a read fails after the last one, and what is received.
+static RECEIVED: [(&[u8], usize, Option<ErrorKind>, &[u8]); 5] = [
+    (b"GET / HTTP/1.0\r\n\r\nmore", ALL, None, b"page"),
+    (b"GET / HTTP", ALL, None, b"the end"),
+    (b"\0", ALL, None, b"Bad Request"),
+    (
+        b"GET / HTTP/1.0\r\n\r\nmore",
+        1,
+        Some(ErrorKind::ConnectionReset),
+        b"page",
+    ),
+    (
+        b"GET / HTTP",
+        1,
+        Some(ErrorKind::ConnectionReset),
+        b"a fault",
+    ),
+];
+
+fn text_of_received(received: &io::Result<Received>) -> &'static [u8] {
+    match received {
+        Ok(Received::Asked(request)) => asked(request),
+        Ok(Received::Refused(status)) => status.reason(),
+        Ok(Received::Ended) => b"the end",
+        Err(_) => b"a fault",
     }
 }
 
 #[test]
-fn requests_are_received(rt: HostRuntime) -> Result<(), Fail> {
-    let whole = b"GET / HTTP/1.0\r\n\r\nmore".as_slice();
-    let mut reader = whole;
-    assert!(rt; matches!(receive(&mut reader)?, Received::Asked(_)));
-    let mut early = &whole[..10];
-    assert!(rt; matches!(receive(&mut early)?, Received::Ended));
-    let mut wrong = b"\0".as_slice();
-    assert!(rt; matches!(receive(&mut wrong)?, Received::Refused(Status::BadRequest)));
-    let mut bytewise = Broken(whole);
-    assert!(rt; matches!(receive(&mut bytewise)?, Received::Asked(_)));
-    let mut broken = Broken(&whole[..10]);
-    assert!(rt; receive(&mut broken).is_err());
-    Ok(())
+fn requests_are_received(rt: HostRuntime) {
+    for (number, (sent, piece, fault, wanted)) in RECEIVED.iter().enumerate() {
+        let mut sender = Sender::with_fault(sent, *piece, *fault);
+        let received = receive(&mut sender);
+        assert!(rt; text_of_received(&received) == *wanted, "row {number}");
+    }
 }
 
 #[test]
