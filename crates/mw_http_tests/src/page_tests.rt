@@ -8,7 +8,7 @@ use mw_meters::Meters;
 use mw_pages::{Curve, LimitKind, NearLimit, Point, Recent, health_text, status_page};
 use mw_report::TenantFigures;
 use mw_server_pages::{Capacity, NoCopy, ServerPages, Version};
-use mw_test_server::Shelf;
+use mw_test_peers::Shelf;
 use mw_words::{Entries, Job, Name, Reply};
 use std::thread;
 use std::time::Duration;
