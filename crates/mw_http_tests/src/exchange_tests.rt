@@ -1,11 +1,12 @@
 //! Tests exchanges with HTTP clients: what a client says and is told, also cut into pieces, and with a peer that fails.
 //!
 //! Nothing else uses it: it may change with what it tests.
-use crate::http_peers::{CountedPages, Failing};
+use crate::http_peers::CountedPages;
 use mw_server_pages::{Exchanged, exchange};
 use mw_session::{Duplex, RecordedStream};
 use mw_test_peers::{Failure, Page, Sender};
-use std::io::{ErrorKind, Read, Write};
+use std::alloc::AllocError;
+use std::io::ErrorKind;
 use std::sync::Wait;
 
 /// More bytes than are read or written.
@@ -18,153 +19,218 @@ const ANSWER: &[u8] =
 /// A request.
 const REQUEST: &[u8] = b"GET /healthz HTTP/1.1\r\nHost: a\r\n\r\n";
 
+/// The first bytes of a request.
+const BEGINNING: &[u8] = b"GET /healthz HTTP/1.";
+
+/// The answer to what is no request.
+const BAD: &[u8] =
+    b"HTTP/1.1 400 Bad Request\r\nDate: then\r\nContent-Length: 0\r\nConnection: close\r\n\r\n";
+
+/// The answer to a client that is too slow.
+const LATE: &[u8] =
+    b"HTTP/1.1 408 Request Timeout\r\nDate: then\r\nContent-Length: 0\r\nConnection: close\r\n\r\n";
+
+/// A client, and its answer.
+struct Row {
+    says: &'static [u8],
+    /// How its next read fails. None: it sends no more.
+    fault: Option<ErrorKind>,
+    told: &'static [u8],
+    /// How many pages it is shown.
+    pages: u32,
+}
+
 /// Makes an exchange of these pages with a peer that says what this reader gives, and is told by this writer.
-fn run<R: Wait, I: Read + Drop, O: Write + Drop>(
+fn run<R: Wait>(
     rt: &R,
     pages: &mut CountedPages,
-    reader: I,
-    writer: O,
+    reader: Sender<'_>,
+    writer: &mut Page,
 ) -> Exchanged {
     let mut stream = RecordedStream::new(Duplex { reader, writer });
     exchange(rt, &mut stream, pages)
 }
 
-/// Tells whether a peer that says this, so many bytes at a time, is told just that.
-fn is_told(rt: &(impl Wait + AllocGlobal), says: &[u8], piece: usize, told: &[u8]) -> bool {
-    let (mut pages, mut page) = (
-        CountedPages::new(rt.alloc()),
-        Page::new(ALL, ALL, Failure::Error),
-    );
-    let sender = Sender::new(says, piece, Failure::Nothing);
-    let ended = run(rt, &mut pages, sender, &mut page);
-    let wanted = if told.is_empty() {
-        Exchanged::Unanswered
+/// Tells whether a client that says it in pieces of so many bytes is told just that, and the pages are asked for what it
+/// is shown, and for the date of an answer.
+fn is_told<R: Wait>(rt: &R, pages: &mut CountedPages, row: &Row, piece: usize) -> bool {
+    let (shown, dates) = (pages.pages, pages.dates);
+    let mut page = Page::new(ALL, ALL, Failure::Error);
+    let sender = Sender::with_fault(row.says, piece, row.fault);
+    let ended = run(rt, pages, sender, &mut page);
+    let (wanted, date) = if row.told.is_empty() {
+        (Exchanged::Unanswered, 0)
     } else {
-        Exchanged::Answered
+        (Exchanged::Answered, 1)
     };
-    let dates = u32::from(!told.is_empty());
-    ended == wanted && page.text.as_slice() == told && pages.dates == dates
+    ended == wanted
+        && page.text.as_slice() == row.told
+        && pages.pages == shown.saturating_add(row.pages)
+        && pages.dates == dates.saturating_add(date)
 }
 
-/// Requests, and what they are told.
-const REQUESTS: [(&[u8], &[u8]); 12] = [
-    (REQUEST, ANSWER),
-    (b"GET / HTTP/1.0\r\n\r\nmore", ANSWER),
-    (b"GET /metrics?a=b HTTP/1.1\r\nHost: a\r\n\r\n", ANSWER),
-    (
-        b"HEAD / HTTP/1.1\r\nHost: a\r\n\r\n",
-        b"HTTP/1.1 200 OK\r\nDate: then\r\nContent-Type: text/plain; charset=utf-8\r\nContent-Length: 3\r\nConnection: close\r\n\r\n",
-    ),
-    (
-        b"GET /tenants/a/file HTTP/1.1\r\nHost: a\r\n\r\n",
-        b"HTTP/1.1 404 Not Found\r\nDate: then\r\nContent-Type: text/plain; charset=utf-8\r\nContent-Length: 3\r\nConnection: close\r\n\r\nok\n",
-    ),
-    (
-        b"POST / HTTP/1.1\r\nHost: a\r\n\r\n",
-        b"HTTP/1.1 405 Method Not Allowed\r\nDate: then\r\nAllow: GET, HEAD\r\nContent-Length: 0\r\nConnection: close\r\n\r\n",
-    ),
-    (
-        b"BREW / HTTP/1.1\r\nHost: a\r\n\r\n",
-        b"HTTP/1.1 501 Not Implemented\r\nDate: then\r\nContent-Length: 0\r\nConnection: close\r\n\r\n",
-    ),
-    (
-        b"GET /nothing HTTP/1.1\r\nHost: a\r\n\r\n",
-        b"HTTP/1.1 404 Not Found\r\nDate: then\r\nContent-Length: 0\r\nConnection: close\r\n\r\n",
-    ),
-    (
-        b"GET / HTTP/1.1\r\n\r\n",
-        b"HTTP/1.1 400 Bad Request\r\nDate: then\r\nContent-Length: 0\r\nConnection: close\r\n\r\n",
-    ),
-    (
-        b"\0",
-        b"HTTP/1.1 400 Bad Request\r\nDate: then\r\nContent-Length: 0\r\nConnection: close\r\n\r\n",
-    ),
-    (b"", b""),
-    (b"GET / HTTP/1.1\r\nHost: a\r\n", b""),
+static ROWS: [Row; 16] = [
+    Row {
+        says: REQUEST,
+        fault: None,
+        told: ANSWER,
+        pages: 1,
+    },
+    Row {
+        says: b"GET / HTTP/1.0\r\n\r\nmore",
+        fault: None,
+        told: ANSWER,
+        pages: 1,
+    },
+    Row {
+        says: b"GET /metrics?a=b HTTP/1.1\r\nHost: a\r\n\r\n",
+        fault: None,
+        told: ANSWER,
+        pages: 1,
+    },
+    Row {
+        says: b"HEAD / HTTP/1.1\r\nHost: a\r\n\r\n",
+        fault: None,
+        told: b"HTTP/1.1 200 OK\r\nDate: then\r\nContent-Type: text/plain; charset=utf-8\r\nContent-Length: 3\r\nConnection: close\r\n\r\n",
+        pages: 1,
+    },
+    Row {
+        says: b"GET /tenants/a/file HTTP/1.1\r\nHost: a\r\n\r\n",
+        fault: None,
+        told: b"HTTP/1.1 404 Not Found\r\nDate: then\r\nContent-Type: text/plain; charset=utf-8\r\nContent-Length: 3\r\nConnection: close\r\n\r\nok\n",
+        pages: 1,
+    },
+    Row {
+        says: b"POST / HTTP/1.1\r\nHost: a\r\n\r\n",
+        fault: None,
+        told: b"HTTP/1.1 405 Method Not Allowed\r\nDate: then\r\nAllow: GET, HEAD\r\nContent-Length: 0\r\nConnection: close\r\n\r\n",
+        pages: 0,
+    },
+    Row {
+        says: b"BREW / HTTP/1.1\r\nHost: a\r\n\r\n",
+        fault: None,
+        told: b"HTTP/1.1 501 Not Implemented\r\nDate: then\r\nContent-Length: 0\r\nConnection: close\r\n\r\n",
+        pages: 0,
+    },
+    Row {
+        says: b"GET /nothing HTTP/1.1\r\nHost: a\r\n\r\n",
+        fault: None,
+        told: b"HTTP/1.1 404 Not Found\r\nDate: then\r\nContent-Length: 0\r\nConnection: close\r\n\r\n",
+        pages: 0,
+    },
+    Row {
+        says: b"GET / HTTP/1.1\r\n\r\n",
+        fault: None,
+        told: BAD,
+        pages: 0,
+    },
+    Row {
+        says: b"\0",
+        fault: None,
+        told: BAD,
+        pages: 0,
+    },
+    Row {
+        says: b"",
+        fault: None,
+        told: b"",
+        pages: 0,
+    },
+    Row {
+        says: b"GET / HTTP/1.1\r\nHost: a\r\n",
+        fault: None,
+        told: b"",
+        pages: 0,
+    },
+    // Slow clients are told so, and broken ones nothing.
+    Row {
+        says: b"",
+        fault: Some(ErrorKind::TimedOut),
+        told: LATE,
+        pages: 0,
+    },
+    Row {
+        says: BEGINNING,
+        fault: Some(ErrorKind::TimedOut),
+        told: LATE,
+        pages: 0,
+    },
+    Row {
+        says: b"",
+        fault: Some(ErrorKind::ConnectionReset),
+        told: b"",
+        pages: 0,
+    },
+    Row {
+        says: BEGINNING,
+        fault: Some(ErrorKind::ConnectionReset),
+        told: b"",
+        pages: 0,
+    },
 ];
 
 #[test]
 fn requests_are_answered_however_cut(rt: HostRuntime) {
-    for (says, told) in REQUESTS {
-        assert!(rt; is_told(&rt, says, ALL, told));
-        assert!(rt; is_told(&rt, says, 1, told));
-    }
-}
-
-#[test]
-fn a_page_is_asked_for_once(rt: HostRuntime) {
     let mut pages = CountedPages::new(rt.alloc());
-    run(
-        &rt,
-        &mut pages,
-        REQUEST,
-        Page::new(ALL, ALL, Failure::Error),
-    );
-    assert!(rt; pages.pages == 1 && pages.dates == 1);
-    run(
-        &rt,
-        &mut pages,
-        b"POST / HTTP/1.1\r\nHost: a\r\n\r\n".as_slice(),
-        Page::new(ALL, ALL, Failure::Error),
-    );
-    assert!(rt; pages.pages == 1 && pages.dates == 2);
-}
-
-/// Tells whether a head of so many bytes, which doesn't end, is refused by this line.
-fn is_too_long(rt: &(impl Wait + AllocGlobal), head: &[u8], line: &[u8]) -> bool {
-    let (mut pages, mut page) = (
-        CountedPages::new(rt.alloc()),
-        Page::new(ALL, ALL, Failure::Error),
-    );
-    let ended = run(rt, &mut pages, head, &mut page);
-    ended == Exchanged::Answered && pages.pages == 0 && page.text.starts_with(line)
-}
-
-#[test]
-fn long_heads_are_refused(rt: HostRuntime) {
-    let mut head = [b'a'; 9000];
-    assert!(rt; is_too_long(&rt, &head, b"HTTP/1.1 414 URI Too Long\r\n"));
-    let start = b"GET / HTTP/1.1\r\nHost: a\r\nX: ";
-    head[..start.len()].copy_from_slice(start);
-    assert!(rt;
-        is_too_long(
-            &rt,
-            &head,
-            b"HTTP/1.1 431 Request Header Fields Too Large\r\n"
-        )
-    );
-}
-
-/// Tells whether a client whose reads fail so after these bytes is told this.
-fn fails_so(rt: &(impl Wait + AllocGlobal), says: &[u8], kind: ErrorKind, told: &[u8]) -> bool {
-    let (mut pages, mut page) = (
-        CountedPages::new(rt.alloc()),
-        Page::new(ALL, ALL, Failure::Error),
-    );
-    run(rt, &mut pages, Failing(says, kind), &mut page);
-    pages.pages == 0 && page.text.as_slice() == told
-}
-
-#[test]
-fn slow_clients_are_told_so_and_broken_ones_nothing(rt: HostRuntime) {
-    let late =
-        b"HTTP/1.1 408 Request Timeout\r\nDate: then\r\nContent-Length: 0\r\nConnection: close\r\n\r\n";
-    for says in [b"".as_slice(), &REQUEST[..20]] {
-        assert!(rt; fails_so(&rt, says, ErrorKind::TimedOut, late));
-        assert!(rt; fails_so(&rt, says, ErrorKind::ConnectionReset, b""));
+    for (number, row) in ROWS.iter().enumerate() {
+        for piece in [ALL, 1] {
+            let told = is_told(&rt, &mut pages, row, piece);
+            assert!(rt; told, "row {number} in pieces of {piece}");
+        }
     }
+}
+
+/// How many bytes a head has besides its beginning that is too long.
+const LONG: usize = 9000;
+
+/// Beginnings of heads that are too long, and of their answers.
+static LONG_HEADS: [(&[u8], &[u8]); 2] = [
+    (b"", b"HTTP/1.1 414 URI Too Long\r\n"),
+    (
+        b"GET / HTTP/1.1\r\nHost: a\r\nX: ",
+        b"HTTP/1.1 431 Request Header Fields Too Large\r\n",
+    ),
+];
+
+#[test]
+fn long_heads_are_refused(rt: HostRuntime) -> Result<(), AllocError> {
+    for (number, (beginning, told)) in LONG_HEADS.iter().enumerate() {
+        let mut head = Vec::from_slice(rt.alloc(), beginning)?;
+        head.extend_from_slice(&[b'a'; LONG])?;
+        let mut pages = CountedPages::new(rt.alloc());
+        let mut page = Page::new(ALL, ALL, Failure::Error);
+        let ended = run(
+            &rt,
+            &mut pages,
+            Sender::new(&head, ALL, Failure::Nothing),
+            &mut page,
+        );
+        let refused = ended == Exchanged::Answered && pages.pages == 0;
+        assert!(rt; refused && page.text.starts_with(told), "row {number}");
+    }
+    Ok(())
+}
+
+/// Tells whether an answer to a client that takes so many bytes, one at a time, and then fails so, breaks off there.
+fn breaks_off<R: Wait>(rt: &R, pages: &mut CountedPages, room: usize, failure: Failure) -> bool {
+    let mut page = Page::new(1, room, failure);
+    let ended = run(
+        rt,
+        pages,
+        Sender::new(REQUEST, ALL, Failure::Nothing),
+        &mut page,
+    );
+    ended == Exchanged::WriteFault && Some(page.text.as_slice()) == ANSWER.get(..room)
 }
 
 #[test]
 fn an_answer_breaks_off_where_a_write_fails(rt: HostRuntime) {
+    let mut pages = CountedPages::new(rt.alloc());
     for room in 0..ANSWER.len() {
         for failure in [Failure::Error, Failure::Nothing] {
-            let (mut pages, mut page) = (
-                CountedPages::new(rt.alloc()),
-                Page::new(1, room, failure),
-            );
-            let ended = run(&rt, &mut pages, REQUEST, &mut page);
-            assert!(rt; ended == Exchanged::WriteFault && page.text.as_slice() == &ANSWER[..room]);
+            let broken = breaks_off(&rt, &mut pages, room, failure);
+            let error = failure.is_error();
+            assert!(rt; broken, "{room} bytes taken, then an error: {error}");
         }
     }
 }

@@ -7,7 +7,7 @@ use mw_server_pages::{Date, FileCopies, NoCopy, Page, Pages};
 use mw_words::Name;
 use std::alloc::Global;
 use std::cell::Cell;
-use std::io::{self, ErrorKind, Read, Write};
+use std::io;
 use std::time::{Clock, Duration};
 
 /// Pages that count what they are asked for. Each has the body `ok`, and the date is `then`.
@@ -116,21 +116,5 @@ impl Clock for HandClock {
 
     fn sleep(&self, duration: Duration) {
         self.now.set(self.now.get().saturating_add(duration));
-    }
-}
-
-/// A reader of these bytes that then fails so.
-#[derive(Drop)]
-pub struct Failing<'a>(pub &'a [u8], pub ErrorKind);
-
-impl Read for Failing<'_> {
-    fn read(&mut self, piece: &mut [u8]) -> io::Result<usize> {
-        if self.0.is_empty() {
-            return Err(io::Error::from(self.1));
-        }
-        let count = self.0.len().min(piece.len());
-        piece[..count].copy_from_slice(&self.0[..count]);
-        self.0 = &self.0[count..];
-        Ok(count)
     }
 }

@@ -1,4 +1,6 @@
-//! Tests how HTTP clients are served. The tests are apart from the crates that they test, so that those are proved once.
+//! Tests figures, and how HTTP clients are served: what is heard of them, the head of an answer, exchanges, and the pages
+//! of a server. Examples come from outside, and each public function is called once. The tests are apart from the crates
+//! that they test, so that those are proved once.
 #![tactic(auto)]
 
 #[cfg(test)]
@@ -6,4 +8,8 @@ mod exchange_tests;
 #[cfg(test)]
 mod http_peers;
 #[cfg(test)]
+mod metrics_tests;
+#[cfg(test)]
 mod page_tests;
+#[cfg(test)]
+mod request_tests;

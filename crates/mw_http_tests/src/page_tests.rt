@@ -9,10 +9,10 @@ use mw_server_pages::{
     Capacity, Curve, LimitKind, NearLimit, NoCopy, Pages, Point, Recent, ServerPages, Version,
     health_text, status_page,
 };
-use mw_test_server::Shelf;
+use mw_test_peers::Shelf;
 use mw_words::{Entries, Job, Name, Reply};
 use std::thread;
-use std::time::{Clock, Duration};
+use std::time::Duration;
 
 /// Memory is out.
 const MEMORY: &str = "memory";
@@ -31,104 +31,172 @@ const CAPACITY: Capacity = Capacity {
 /// The bytes of a tenant's file, some of which are no text.
 const FILE: &[u8] = b"MWCASF1\n\0\xff\r\n\r\nend";
 
-/// Tells whether the pages of a tenant that is up have these parts, at this place, with this status and type.
-fn shows(
-    rt: &(impl AllocGlobal + Clock),
-    route: &Route,
-    wanted: (Status, ContentType),
-    part: &[u8],
-) -> bool {
-    let meters = Meters::new(rt);
-    let version = Version::try_from(b"1.2".as_slice()).unwrap_or_default();
-    let files = one_file(rt, Ok(FILE));
-    let Ok(mut pages) = ServerPages::new(Shelf::new(2), files, &meters, rt, version, CAPACITY)
-    else {
-        return false;
-    };
-    let page = pages.page(route);
-    (page.status, page.kind) == wanted && is_in(part, &page.body)
-}
+/// The server's version.
+const VERSION: &[u8] = b"1.2";
 
-/// Gives the file of the tenant `t`, or why it isn't copied.
-fn one_file(rt: &impl AllocGlobal, file: Result<&'static [u8], NoCopy>) -> OneFile {
-    OneFile {
-        alloc: rt.alloc(),
+/// The pages of a server with one tenant, `t`, which is up.
+type OnePages<'a> = ServerPages<'a, Shelf, OneFile, HandClock>;
+
+/// Makes the pages of such a server, for whose tenant this file is given, or not. None: memory is out.
+fn pages_of<'a>(
+    clock: &'a HandClock,
+    meters: &'a Meters,
+    file: Result<&'static [u8], NoCopy>,
+) -> Option<OnePages<'a>> {
+    let files = OneFile {
+        alloc: clock.alloc(),
         file,
         asked: 0,
+    };
+    let version = Version::try_from(VERSION).unwrap_or_default();
+    ServerPages::new(Shelf::new(2), files, meters, clock, version, CAPACITY).ok()
+}
+
+/// What is asked for.
+#[derive(Clone, Copy)]
+enum Asked {
+    Health,
+    Page,
+    Metrics,
+    /// The file of the tenant with this name.
+    File(&'static [u8]),
+}
+
+impl Asked {
+    fn route(self) -> Route {
+        match self {
+            Asked::Health => Route::Health,
+            Asked::Page => Route::Page,
+            Asked::Metrics => Route::Metrics,
+            Asked::File(name) => Route::File(Name::try_from(name).unwrap_or_default()),
+        }
     }
 }
 
-/// Tells whether the file of the tenant with this name is answered so, with just this body, by pages that can or can't copy
-/// that of `t`.
-fn gives_file(
-    rt: &(impl AllocGlobal + Clock),
-    name: &[u8],
+/// What the body of a page is.
+#[derive(Clone, Copy)]
+enum Body {
+    /// Just this.
+    Is(&'static [u8]),
+    /// This is somewhere in it.
+    Has(&'static [u8]),
+}
+
+impl Body {
+    fn suits(self, body: &[u8]) -> bool {
+        match self {
+            Body::Is(whole) => body == whole,
+            Body::Has(part) => is_in(part, body),
+        }
+    }
+}
+
+/// What is asked for, the file of the tenant `t`, or why it isn't copied, and what is answered.
+struct Row {
+    asked: Asked,
     file: Result<&'static [u8], NoCopy>,
-    wanted: (Status, ContentType),
-    body: &[u8],
-) -> bool {
-    let meters = Meters::new(rt);
-    let files = one_file(rt, file);
-    let version = Version::new();
-    let Ok(mut pages) = ServerPages::new(Shelf::new(2), files, &meters, rt, version, CAPACITY)
-    else {
+    status: Status,
+    kind: ContentType,
+    body: Body,
+}
+
+static ROWS: [Row; 11] = [
+    Row {
+        asked: Asked::Health,
+        file: Ok(FILE),
+        status: Status::Ok,
+        kind: ContentType::Text,
+        body: Body::Has(b"ok\n"),
+    },
+    Row {
+        asked: Asked::Page,
+        file: Ok(FILE),
+        status: Status::Ok,
+        kind: ContentType::Html,
+        body: Body::Has(b"<p>Version 1.2, up for 0 d 0 h 0 min "),
+    },
+    Row {
+        asked: Asked::Page,
+        file: Ok(FILE),
+        status: Status::Ok,
+        kind: ContentType::Html,
+        body: Body::Has(b"<td>t</td><td>up</td><td>2</td><td>0 of 1</td>"),
+    },
+    Row {
+        asked: Asked::Metrics,
+        file: Ok(FILE),
+        status: Status::Ok,
+        kind: ContentType::Metrics,
+        body: Body::Has(b"mondlexi_up{tenant=\"t\"} 1\n"),
+    },
+    // Files are given byte for byte.
+    Row {
+        asked: Asked::File(b"t"),
+        file: Ok(FILE),
+        status: Status::Ok,
+        kind: ContentType::Bytes,
+        body: Body::Is(FILE),
+    },
+    Row {
+        asked: Asked::File(b"t"),
+        file: Ok(b""),
+        status: Status::Ok,
+        kind: ContentType::Bytes,
+        body: Body::Is(b""),
+    },
+    // A status says why there is no copy.
+    Row {
+        asked: Asked::File(b"u"),
+        file: Ok(FILE),
+        status: Status::NotFound,
+        kind: ContentType::Text,
+        body: Body::Is(b""),
+    },
+    Row {
+        asked: Asked::File(b"t"),
+        file: Err(NoCopy::NoTenant),
+        status: Status::NotFound,
+        kind: ContentType::Text,
+        body: Body::Is(b""),
+    },
+    Row {
+        asked: Asked::File(b"t"),
+        file: Err(NoCopy::Failed),
+        status: Status::Unavailable,
+        kind: ContentType::Text,
+        body: Body::Is(b""),
+    },
+    Row {
+        asked: Asked::File(b"t"),
+        file: Err(NoCopy::Disk),
+        status: Status::InternalError,
+        kind: ContentType::Text,
+        body: Body::Is(b""),
+    },
+    Row {
+        asked: Asked::File(b"t"),
+        file: Err(NoCopy::Memory),
+        status: Status::InternalError,
+        kind: ContentType::Text,
+        body: Body::Is(b""),
+    },
+];
+
+/// Tells whether what a row asks for is answered as it says.
+fn is_answered(clock: &HandClock, row: &Row) -> bool {
+    let meters = Meters::new(clock);
+    let Some(mut pages) = pages_of(clock, &meters, row.file) else {
         return false;
     };
-    let route = Route::File(Name::try_from(name).unwrap_or_default());
-    let page = pages.page(&route);
-    (page.status, page.kind) == wanted && page.body.as_slice() == body
+    let page = pages.page(&row.asked.route());
+    page.status == row.status && page.kind == row.kind && row.body.suits(&page.body)
 }
 
 #[test]
 fn each_place_shows_its_page(rt: HostRuntime) {
-    let text = (Status::Ok, ContentType::Text);
-    assert!(rt; shows(&rt, &Route::Health, text, b"ok\n"));
-    let html = (Status::Ok, ContentType::Html);
-    assert!(rt;
-        shows(
-            &rt,
-            &Route::Page,
-            html,
-            b"<p>Version 1.2, up for 0 d 0 h 0 min "
-        )
-    );
-    assert!(rt;
-        shows(
-            &rt,
-            &Route::Page,
-            html,
-            b"<td>t</td><td>up</td><td>2</td><td>0 of 1</td>"
-        )
-    );
-    let metrics = (Status::Ok, ContentType::Metrics);
-    assert!(rt;
-        shows(
-            &rt,
-            &Route::Metrics,
-            metrics,
-            b"mondlexi_up{tenant=\"t\"} 1\n"
-        )
-    );
-}
-
-#[test]
-fn files_are_given_byte_for_byte(rt: HostRuntime) {
-    let copy = (Status::Ok, ContentType::Bytes);
-    assert!(rt; gives_file(&rt, b"t", Ok(FILE), copy, FILE));
-    assert!(rt; gives_file(&rt, b"t", Ok(b""), copy, b""));
-}
-
-#[test]
-fn a_status_says_why_there_is_no_copy(rt: HostRuntime) {
-    for (name, file, status) in [
-        (b"u", Ok(FILE), Status::NotFound),
-        (b"t", Err(NoCopy::NoTenant), Status::NotFound),
-        (b"t", Err(NoCopy::Failed), Status::Unavailable),
-        (b"t", Err(NoCopy::Disk), Status::InternalError),
-        (b"t", Err(NoCopy::Memory), Status::InternalError),
-    ] {
-        let wanted = (status, ContentType::Text);
-        assert!(rt; gives_file(&rt, name, file, wanted, b""));
+    let clock = HandClock::new(rt.alloc());
+    for (number, row) in ROWS.iter().enumerate() {
+        assert!(rt; is_answered(&clock, row), "row {number}");
     }
 }
 
@@ -143,10 +211,16 @@ fn tenant(name: &[u8], up: bool) -> TenantFigures {
 
 #[test]
 fn health_names_those_that_are_down(rt: HostRuntime) {
-    assert!(rt; health_text(&[]).as_slice() == b"ok\n".as_slice());
-    assert!(rt; health_text(&[tenant(b"a", true)]).as_slice() == b"ok\n".as_slice());
-    let some = [tenant(b"a", false), tenant(b"b", true), tenant(b"c", false)];
-    assert!(rt; health_text(&some).as_slice() == b"down a\ndown c\n".as_slice());
+    let one = [tenant(b"a", true)];
+    let three = [tenant(b"a", false), tenant(b"b", true), tenant(b"c", false)];
+    for (tenants, text) in [
+        ([].as_slice(), b"ok\n".as_slice()),
+        (one.as_slice(), b"ok\n"),
+        (three.as_slice(), b"down a\ndown c\n"),
+    ] {
+        let count = tenants.len();
+        assert!(rt; health_text(tenants).as_slice() == text, "{count} tenants");
+    }
 }
 
 #[test]
@@ -154,12 +228,12 @@ fn names_are_escaped(rt: HostRuntime) {
     let tenants = [tenant(b"<a&\">", false)];
     let page = status_page(rt.alloc(), b"<", 90061, &tenants, &[], &[], 7).expect(&rt, MEMORY);
     for part in [
-        b"<p>Version &lt;, up for 1 d 1 h 1 min 1 s.</p>\n".as_slice(),
-        b"<p><strong>Down: &lt;a&amp;&quot;&gt;.</strong></p>\n",
-        b"<tr class=\"down\"><td>&lt;a&amp;&quot;&gt;</td><td>down</td><td>0</td><td>0 of 0</td><td>",
-        b"<p>Free slots of the pool: 7.</p>\n",
+        "<p>Version &lt;, up for 1 d 1 h 1 min 1 s.</p>\n",
+        "<p><strong>Down: &lt;a&amp;&quot;&gt;.</strong></p>\n",
+        "<tr class=\"down\"><td>&lt;a&amp;&quot;&gt;</td><td>down</td><td>0</td><td>0 of 0</td><td>",
+        "<p>Free slots of the pool: 7.</p>\n",
     ] {
-        assert!(rt; is_in(part, &page));
+        assert!(rt; is_in(part.as_bytes(), &page), "{part}");
     }
 }
 
@@ -206,56 +280,52 @@ fn limits_and_curves_are_drawn(rt: HostRuntime) {
     ];
     let page = status_page(rt.alloc(), b"1", 0, &[], &near, &recents, 0).expect(&rt, MEMORY);
     for part in [
-        b"<p>Near a limit:</p>\n<ul>\n<li>quota of a: 3 of 4</li>\n<li>sessions: 5 of 5</li>\n</ul>\n".as_slice(),
-        b"<tr><td>a</td><td>down for 0 d 0 h 1 min 1 s</td><td>0 (most 0) <svg",
-        b"<td>3 (most 12) <svg width=\"180\" height=\"30\"><polyline points=\"0,30 180,0 \"/></svg></td><td>",
+        "<p>Near a limit:</p>\n<ul>\n<li>quota of a: 3 of 4</li>\n<li>sessions: 5 of 5</li>\n</ul>\n",
+        "<tr><td>a</td><td>down for 0 d 0 h 1 min 1 s</td><td>0 (most 0) <svg",
+        "<td>3 (most 12) <svg width=\"180\" height=\"30\"><polyline points=\"0,30 180,0 \"/></svg></td><td>",
     ] {
-        assert!(rt; is_in(part, &page));
+        assert!(rt; is_in(part.as_bytes(), &page), "{part}");
     }
 }
 
-/// Thirty changes of two milliseconds each in 15 seconds, and then none.
+/// What the status page says of a limit that is far and of one that is near.
+const FAR: &str = "<p>No limit is near.</p>\n";
+
+const NEAR: &str = "<p>Near a limit:</p>\n<ul>\n<li>sessions: 3 of 4</li>\n</ul>\n";
+
+/// Thirty changes of two milliseconds each, what the curves show of them after 15 and after 30 seconds.
+static CURVES: [&[u8]; 2] = [
+    b"<td>2 (most 2) <svg width=\"180\" height=\"30\"><polyline points=\"180,0 \"/></svg></td>",
+    b"<td>0 (most 2) <svg width=\"180\" height=\"30\"><polyline points=\"177,0 180,30 \"/></svg></td><td>0 (most 2000) <svg",
+];
+
+/// Thirty changes in 15 seconds, and then none.
 #[test]
 fn curves_show_what_was_counted(rt: HostRuntime) {
     let clock = HandClock::new(rt.alloc());
     let meters = Meters::new(&clock);
-    let files = one_file(&rt, Ok(FILE));
-    let version = Version::new();
-    let made = ServerPages::new(Shelf::new(2), files, &meters, &clock, version, CAPACITY);
-    let mut pages = made.expect(&rt, MEMORY);
+    let mut pages = pages_of(&clock, &meters, Ok(FILE)).expect(&rt, MEMORY);
     let job = Job::Cas(Entries::new());
     for _ in 0..30 {
         meters.record_request(0, &job, &Reply::Yes, 2_000_000);
     }
-    for (row, wanted) in [
-        (
-            2,
-            b"<td>2 (most 2) <svg width=\"180\" height=\"30\"><polyline points=\"180,0 \"/></svg></td>".as_slice(),
-        ),
-        (
-            0,
-            b"<td>0 (most 2) <svg width=\"180\" height=\"30\"><polyline points=\"177,0 180,30 \"/></svg></td><td>0 (most 2000) <svg",
-        ),
-    ] {
+    for (number, wanted) in CURVES.iter().enumerate() {
         thread::sleep(&clock, Duration::from_secs(15));
         let page = pages.page(&Route::Page);
-        assert!(rt; is_in(wanted, &page.body), "{row}");
+        assert!(rt; is_in(wanted, &page.body), "row {number}");
     }
 }
 
 /// Two of four sessions serve, and then three.
 #[test]
 fn a_limit_is_near_from_three_quarters_on(rt: HostRuntime) {
-    let meters = Meters::new(&rt);
-    let files = one_file(&rt, Ok(FILE));
-    let version = Version::new();
-    let made = ServerPages::new(Shelf::new(2), files, &meters, &rt, version, CAPACITY);
-    let mut pages = made.expect(&rt, MEMORY);
+    let clock = HandClock::new(rt.alloc());
+    let meters = Meters::new(&clock);
+    let mut pages = pages_of(&clock, &meters, Ok(FILE)).expect(&rt, MEMORY);
     meters.server().record_served();
-    meters.server().record_served();
-    let far = b"<p>No limit is near.</p>\n";
-    assert!(rt; is_in(far, &pages.page(&Route::Page).body));
-    meters.server().record_served();
-    let near = b"<p>Near a limit:</p>\n<ul>\n<li>sessions: 3 of 4</li>\n</ul>\n";
-    assert!(rt; is_in(near, &pages.page(&Route::Page).body));
+    for part in [FAR, NEAR] {
+        meters.server().record_served();
+        let page = pages.page(&Route::Page);
+        assert!(rt; is_in(part.as_bytes(), &page.body), "{part}");
+    }
 }

@@ -1,5 +1,5 @@
 -- Defines what a test's service (`Notebook`) writes down: each job that it is asked for. Only the contract in
--- src/session_peers.rt uses it: change both together.
+-- src/notebook.rt uses it: change both together.
 use Rattle.std.specs.Prelude.{◌≡◌, Bool, List, [], ◌∷◌, ◌++◌, Some, IsTrue}
 use Rattle.mw_session.specs.Talk.{Call, Finds, Asks, Counts}
 

@@ -1,18 +1,31 @@
-//! Tests sessions and the serving of clients. The tests are apart from the crates that they test, so that
-//! those are proved once.
+//! Tests sessions, connections, workers and listeners: clients in memory, clients over TCP and by local sockets, a desk
+//! beside other clients, and a lack of room. The tests are apart from the crates that they test, so that those are
+//! proved once.
+//!
+//! A session in memory is played by `guests`, and clients over sockets by `scenes`: tests are tables of these.
 #![tactic(auto)]
 
 #[cfg(test)]
-mod session_peers;
+mod callers;
+#[cfg(test)]
+mod crowd_tests;
+#[cfg(test)]
+mod desk_tests;
+#[cfg(test)]
+mod doors;
+#[cfg(test)]
+mod guests;
+#[cfg(test)]
+mod local_lookout;
+#[cfg(test)]
+mod notebook;
+#[cfg(test)]
+mod scene_rows;
+#[cfg(test)]
+mod scenes;
+#[cfg(test)]
+mod serving;
 #[cfg(test)]
 mod session_tests;
 #[cfg(test)]
-mod silence_tests;
-#[cfg(test)]
-mod slow_tests;
-#[cfg(test)]
-mod test_crowd;
-#[cfg(test)]
-mod wait_tests;
-#[cfg(test)]
-mod workers_tests;
+mod socket_tests;

@@ -1,6 +1,7 @@
 //! A reader and a writer that fail when they are told to, for tests of sessions.
 //!
-//! Used by: mw_engine_tests, mw_serving_tests. It may change with these crates.
+//! Used by: mw_engine_tests, mw_http_tests, mw_serving_tests. It may change with these crates.
+ghost use Rattle.std.specs.Prelude.{Some};
 
 use arrayvec::ArrayVec;
 use std::io;
@@ -16,39 +17,48 @@ pub enum Failure {
 }
 
 impl Failure {
-    fn is_error(self) -> bool {
+    /// Tells whether the peer answers an error.
+    pub fn is_error(self) -> bool {
         matches!(self, Failure::Error)
     }
 }
 
-/// A reader of these bytes, so many a call. After them it fails.
+/// A reader of these bytes, so many a call, at least one. After them it fails.
 #[derive(Drop)]
 pub struct Sender<'a> {
-    rest: &'a [u8],
+    /// What it hasn't given yet.
+    pub rest: &'a [u8],
     piece: usize,
-    failure: Failure,
+    /// The error that it answers after the last byte. None: it gives nothing then.
+    fault: Option<ErrorKind>,
 }
 
 impl<'a> Sender<'a> {
     /// Makes a reader of these bytes, so many a call, that fails so after them.
     pub fn new(bytes: &'a [u8], piece: usize, failure: Failure) -> Self {
+        let fault = failure.is_error().then_some(ErrorKind::Interrupted);
+        Sender::with_fault(bytes, piece, fault)
+    }
+
+    /// Makes a reader of these bytes, so many a call, that answers this error after them, if there is one.
+    pub fn with_fault(bytes: &'a [u8], piece: usize, fault: Option<ErrorKind>) -> Self {
         Sender {
             rest: bytes,
             piece,
-            failure,
+            fault,
         }
     }
 }
 
 impl<'a> Read for Sender<'a> {
+    ghost remaining = { λ s. Some s.rest.now };
+
     fn read(&mut self, buf: &mut [u8]) -> io::Result<usize> {
-        if self.rest.is_empty() && self.failure.is_error() {
-            return Err(io::Error::from(ErrorKind::Interrupted));
+        if let (true, Some(fault)) = (self.rest.is_empty(), self.fault) {
+            return Err(io::Error::from(fault));
         }
-        let count = self.piece.min(self.rest.len()).min(buf.len());
-        buf[..count].copy_from_slice(&self.rest[..count]);
-        self.rest = &self.rest[count..];
-        Ok(count)
+        let count = self.piece.max(1).min(buf.len());
+        self.rest.read(&mut buf[..count])
     }
 }
 

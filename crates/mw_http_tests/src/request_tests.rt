@@ -1,14 +1,11 @@
 //! Tests what is heard from an HTTP client, and the head of an answer.
-
-use mw_http::{
-    Content, ContentType, Heard, Received, Request, Route, Status, answer_head, hear, receive,
-};
-use std::io;
-use std::io::Read;
+//!
+//! Nothing else uses it: it may change with what it tests.
+use mw_http::{Content, ContentType, Heard, Request, Route, Status, answer_head, hear};
 use std::test::Fail;
 
 /// What a client sends, and what is heard.
-const CASES: [(&str, &str); 26] = [
+static CASES: [(&str, &str); 26] = [
     ("", "more"),
     ("GET / HTTP/1.1\r\nHost: a\r\n", "more"),
     ("GET / HTTP/1.1\r\nHost: a\r\n\r\n", "page"),
@@ -96,39 +93,6 @@ fn long_heads_are_refused(rt: HostRuntime) -> Result<(), Fail> {
     let mut fields = Vec::from_slice(rt.alloc(), b"GET / HTTP/1.1\r\nHost: a\r\nX: ")?;
     fields.extend_from_slice(&long)?;
     assert!(rt; text_of(&hear(&fields)) == b"Request Header Fields Too Large".as_slice());
-    Ok(())
-}
-
-/// Gives one byte at a time, and then fails.
-#[derive(Drop)]
-struct Broken<'a>(&'a [u8]);
-
-impl Read for Broken<'_> {
-    fn read(&mut self, piece: &mut [u8]) -> io::Result<usize> {
-        match (self.0, piece) {
-            ([first, rest @ ..], [place, ..]) => {
-                *place = *first;
-                self.0 = rest;
-                Ok(1)
-            }
-            _ => Err(io::Error::from(io::ErrorKind::ConnectionReset)),
-        }
-    }
-}
-
-#[test]
-fn requests_are_received(rt: HostRuntime) -> Result<(), Fail> {
-    let whole = b"GET / HTTP/1.0\r\n\r\nmore".as_slice();
-    let mut reader = whole;
-    assert!(rt; matches!(receive(&mut reader)?, Received::Asked(_)));
-    let mut early = &whole[..10];
-    assert!(rt; matches!(receive(&mut early)?, Received::Ended));
-    let mut wrong = b"\0".as_slice();
-    assert!(rt; matches!(receive(&mut wrong)?, Received::Refused(Status::BadRequest)));
-    let mut bytewise = Broken(whole);
-    assert!(rt; matches!(receive(&mut bytewise)?, Received::Asked(_)));
-    let mut broken = Broken(&whole[..10]);
-    assert!(rt; receive(&mut broken).is_err());
     Ok(())
 }
 

@@ -1,6 +1,6 @@
 //! A system for tests, which tries to connect to a local socket at the moment at which its mode is set.
 //!
-//! Used by: `local_tests`. It may change freely as long as this crate checks and its tests pass.
+//! Used by: `socket_tests`. It may change freely as long as this crate checks and its tests pass.
 use std::alloc::Allocator;
 use std::cell::Cell;
 use std::fs::{File, Metadata, OpenOptions, Permissions};

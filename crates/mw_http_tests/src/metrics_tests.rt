@@ -1,5 +1,6 @@
 //! Tests counters and the text of all figures.
-
+//!
+//! Nothing else uses it: it may change with what it tests.
 use mw_metrics::{
     CloseReason, DeviceCall, ReplyKind, RequestKind, ServerCounters, TenantCounters, TenantMetrics,
     bucket_of, metrics_text,
@@ -9,7 +10,7 @@ use mw_words::Name;
 use std::test::Fail;
 
 /// Lines that a scraper reads after `record_all`.
-const LINES: [&str; 22] = [
+static LINES: [&str; 22] = [
     "# HELP mondlexi_build_info The version of the server. The value is always 1.",
     "# TYPE mondlexi_build_info gauge",
     "mondlexi_build_info{version=\"1.\\\"2\\\\\"} 1",
@@ -89,11 +90,18 @@ fn figures_are_written(rt: HostRuntime) -> Result<(), Fail> {
     Ok(())
 }
 
+/// Durations, in nanoseconds, and the numbers of their buckets.
+static BUCKETS: [(u64, usize); 5] = [
+    (0, 0),
+    (1_000, 0),
+    (1_001, 1),
+    (5_000_000_000, 11),
+    (5_000_000_001, 12),
+];
+
 #[test]
 fn durations_have_buckets(rt: HostRuntime) {
-    assert_eq!(rt; bucket_of(0), 0);
-    assert_eq!(rt; bucket_of(1_000), 0);
-    assert_eq!(rt; bucket_of(1_001), 1);
-    assert_eq!(rt; bucket_of(5_000_000_000), 11);
-    assert_eq!(rt; bucket_of(5_000_000_001), 12);
+    for (nanos, bucket) in BUCKETS {
+        assert_eq!(rt; bucket_of(nanos), bucket, "{nanos}");
+    }
 }
