@@ -20,7 +20,6 @@
 //! the first settle, so 10,045 are left after `to 0 settle`. The last of them is the `drop`.
 use crate::replay_tests::play;
 use std::alloc::{AllocError, Global};
-use std::process::Abort;
 use std::test::Fail;
 
 /// How many words a change has.
@@ -59,43 +58,47 @@ fn chain(alloc: Global) -> Result<String, AllocError> {
     Ok(schedule)
 }
 
-/// Plays the chain, then so many single steps of worker 0, and then this line. It must end with this status, print
-/// this and say that.
-fn play_chain<R: Abort + AllocGlobal>(
-    rt: &R,
-    steps: usize,
-    line: &str,
-    wanted: (u8, &str, &str),
-) -> Result<(), Fail> {
-    let mut schedule = chain(rt.alloc())?;
-    schedule.push_str("step 0\n".repeat(rt.alloc(), steps)?.as_str())?;
-    schedule.push_str(line)?;
-    play(rt, line, &mut schedule.as_bytes(), false, wanted)
-}
+/// What follows the chain: so many single steps of worker 0, and then this line. Then the status with which the
+/// schedule ends, what it prints and what it says.
+type Limit = (usize, &'static str, u8, &'static str, &'static str);
 
-/// 10,000 steps are left to the reply, and then 10,001.
-#[test]
-fn steps_to_a_reply(rt: HostRuntime) -> Result<(), Fail> {
-    play_chain(&rt, 45, "end 0\n", (0, "0 t YES\n", ""))?;
-    let late =
-        "line 83 did not arrive\nmwreplay: worker 0 does not come there in 10000 steps, and is at `drop`\n";
-    play_chain(&rt, 44, "end 0\n", (4, "", late))
-}
+static LIMITS: [Limit; 6] = [
+    // 10,000 steps are left to the reply, and then 10,001.
+    (45, "end 0\n", 0, "0 t YES\n", ""),
+    (
+        44,
+        "end 0\n",
+        4,
+        "",
+        "line 83 did not arrive\nmwreplay: worker 0 does not come there in 10000 steps, and is at `drop`\n",
+    ),
+    // The last of 10,000 steps is the one that the line names, and then one step is missing.
+    (45, "to 0 drop\nend 0\n", 0, "0 t YES\n", ""),
+    (
+        44,
+        "to 0 drop\nend 0\n",
+        4,
+        "",
+        "line 83 did not arrive\nmwreplay: worker 0 does not come there in 10000 steps, and is at `free`\n",
+    ),
+    // After 10,000 steps the next one is of the kind that the line names, and then one step is missing.
+    (44, "before 0 drop\nend 0\n", 0, "0 t YES\n", ""),
+    (
+        43,
+        "before 0 drop\nend 0\n",
+        4,
+        "",
+        "line 82 did not arrive\nmwreplay: worker 0 does not come there in 10000 steps, and is at `free`\n",
+    ),
+];
 
-/// The last of 10,000 steps is the one that the line names, and then one step is missing.
 #[test]
-fn steps_past_a_kind(rt: HostRuntime) -> Result<(), Fail> {
-    play_chain(&rt, 45, "to 0 drop\nend 0\n", (0, "0 t YES\n", ""))?;
-    let late =
-        "line 83 did not arrive\nmwreplay: worker 0 does not come there in 10000 steps, and is at `free`\n";
-    play_chain(&rt, 44, "to 0 drop\nend 0\n", (4, "", late))
-}
-
-/// After 10,000 steps the next one is of the kind that the line names, and then one step is missing.
-#[test]
-fn steps_before_a_kind(rt: HostRuntime) -> Result<(), Fail> {
-    play_chain(&rt, 44, "before 0 drop\nend 0\n", (0, "0 t YES\n", ""))?;
-    let late =
-        "line 82 did not arrive\nmwreplay: worker 0 does not come there in 10000 steps, and is at `free`\n";
-    play_chain(&rt, 43, "before 0 drop\nend 0\n", (4, "", late))
+fn steps_of_one_line(rt: HostRuntime) -> Result<(), Fail> {
+    for (steps, line, status, out, err) in LIMITS {
+        let mut schedule = chain(rt.alloc())?;
+        schedule.push_str("step 0\n".repeat(rt.alloc(), steps)?.as_str())?;
+        schedule.push_str(line)?;
+        play(&rt, line, &schedule, false, (status, out, err))?;
+    }
+    Ok(())
 }

@@ -45,15 +45,13 @@ come 0 t CAS 0:5:6 1:0:1
 end 0
 ";
 
-/// Gives these schedules, each with its name and what is printed.
-pub fn of_mistakes() -> [Schedule; 3] {
-    [
-        (
-            "late-attempt-of-refused",
-            LATE_ATTEMPT_OF_REFUSED,
-            "0 t NO 1 0\n0 t YES\n2 t VAL 2\n",
-        ),
-        ("unsettled", UNSETTLED, "1 t YES\n0 t YES\n"),
-        ("first-entry-differs", FIRST_ENTRY_DIFFERS, "0 t NO 0 0\n"),
-    ]
-}
+/// These schedules, each with its name and what is printed.
+pub static OF_MISTAKES: [Schedule; 3] = [
+    (
+        "late-attempt-of-refused",
+        LATE_ATTEMPT_OF_REFUSED,
+        "0 t NO 1 0\n0 t YES\n2 t VAL 2\n",
+    ),
+    ("unsettled", UNSETTLED, "1 t YES\n0 t YES\n"),
+    ("first-entry-differs", FIRST_ENTRY_DIFFERS, "0 t NO 0 0\n"),
+];

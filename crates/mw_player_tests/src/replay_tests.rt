@@ -1,21 +1,20 @@
 //! Tests what playing a schedule gives. A schedule is a text of the events of a world (a model of a whole server).
 //!
-//! Used by: `restart_tests`. It may change freely as long as this crate checks and its tests pass.
+//! Used by: `limit_tests`, `restart_tests`. It may change freely as long as this crate checks and its tests pass.
 ghost use Rattle.mw_schedule.specs.Playable.{IsSchedule};
 
 use crate::line_tests::{
-    HEAD, lines_without_arrival, missing_lines, steps_not_enabled, stops_not_enabled,
-    workers_not_enabled, wrong_lines, wrong_old_lines,
+    HEAD, LINES_WITHOUT_ARRIVAL, Lines, MISSING_LINES, STEPS_NOT_ENABLED, STOPS_NOT_ENABLED,
+    WORKERS_NOT_ENABLED, WRONG_LINES, WRONG_OLD_LINES,
 };
-use crate::mistake_tests::of_mistakes;
+use crate::mistake_tests::OF_MISTAKES;
 use crate::schedule_tests::{
-    CLAIM_LOST, OLD_FILE, SLOT_RECYCLED, of_files, of_late_workers, of_requests, of_settles,
-    of_stale_references,
+    OF_FILES, OF_LATE_WORKERS, OF_OLD_FILES_AND_SLOTS, OF_REQUESTS, OF_SETTLES,
+    OF_STALE_REFERENCES, OF_TRACED_CLAIMS, SLOT_RECYCLED, Schedule as Text,
 };
 use mw_look::Kind;
 use mw_player::{PlayFault, Player, replay, replay_args, replay_schedule};
 use mw_schedule::{Command, Schedule, StepKind, read_schedule};
-use std::alloc::{AllocError, Global};
 use std::fs::File;
 use std::io::{self, ErrorKind, Read, Write};
 use std::process::Abort;
@@ -48,9 +47,11 @@ impl Played {
         Played::new(status, out, err)
     }
 
-    /// Runs a command line.
-    fn of_args<R: Files<File = File> + AllocGlobal>(rt: &R, args: &[&str]) -> Result<Played, Fail> {
-        let args = strings(rt.alloc(), args)?;
+    /// Runs the command line with this argument.
+    fn of_arg<R: Files<File = File> + AllocGlobal>(rt: &R, arg: &str) -> Result<Played, Fail> {
+        let mut args = Vec::new(rt.alloc());
+        args.push(String::from_str(rt.alloc(), "mwreplay")?)?;
+        args.push(String::from_str(rt.alloc(), arg)?)?;
         let mut out = Vec::new(rt.alloc());
         let mut err = Vec::new(rt.alloc());
         let status = replay_args(rt, &args, &mut out, &mut err);
@@ -62,195 +63,119 @@ impl Played {
         let is_so = self.status == status && self.out.as_str() == out && self.err.as_str() == err;
         assert!(rt; is_so, "{what}: {self:?}");
     }
-
-    /// The program ended with this status, and wrote to this one of its outputs and not to the other.
-    fn tells<R: Abort>(&self, rt: &R, status: u8, to_out: bool) {
-        let wrote = (!self.out.is_empty(), !self.err.is_empty());
-        assert_eq!(rt; (self.status, wrote), (status, (to_out, !to_out)));
-    }
 }
 
-/// A schedule that is read from `input`, traced or not, ends with this status, prints this and says that.
-/// `what` says what is played.
-pub fn play<R: Abort + AllocGlobal, I: Read>(
+/// A schedule, traced or not, ends with this status, prints this and says that. `what` says what is played.
+pub fn play<R: Abort + AllocGlobal>(
     rt: &R,
     what: &str,
-    input: &mut I,
+    text: &str,
     trace: bool,
     wanted: (u8, &str, &str),
 ) -> Result<(), Fail> {
-    let played = Played::of(rt, input, trace)?;
+    let played = Played::of(rt, &mut text.as_bytes(), trace)?;
     let (status, out, err) = wanted;
     played.is(rt, what, status, out, err);
     Ok(())
 }
 
-fn strings(alloc: Global, texts: &[&str]) -> Result<Vec<String>, AllocError> {
-    let mut strings = Vec::new(alloc);
-    for text in texts {
-        strings.push(String::from_str(alloc, text)?)?;
-    }
-    Ok(strings)
-}
+/// A schedule that can't be read. A device may have no end: the second one is empty, and would be a wrong schedule
+/// if it was read.
+const UNREAD: [&str; 3] = ["no-such-schedule", "/dev/null", "."];
 
 #[test]
-fn an_absent_schedule(rt: HostRuntime) -> Result<(), Fail> {
-    let absent = Played::of_args(&rt, &["mwreplay", "no-such-schedule"])?;
-    absent.is(&rt, "no schedule", 1, "", "mwreplay: cannot read\n");
-    Ok(())
-}
-
-/// A device may have no end. This one is empty, and would be a wrong schedule if it was read.
-#[test]
-fn a_schedule_that_is_no_plain_file(rt: HostRuntime) -> Result<(), Fail> {
-    for path in ["/dev/null", "."] {
-        let refused = Played::of_args(&rt, &["mwreplay", path])?;
+fn schedules_that_are_not_read(rt: HostRuntime) -> Result<(), Fail> {
+    for path in UNREAD {
+        let refused = Played::of_arg(&rt, path)?;
         refused.is(&rt, path, 1, "", "mwreplay: cannot read\n");
     }
     Ok(())
 }
 
-#[test]
-fn a_command_line_without_a_schedule(rt: HostRuntime) -> Result<(), Fail> {
-    let unnamed = Played::of_args(&rt, &["mwreplay", "--trace"])?;
-    unnamed.tells(&rt, 2, false);
-    Ok(())
-}
+/// Command lines without a schedule, each with its status. The program writes to its output if that is 0, else to its
+/// other output, and to one of them alone.
+const WITHOUT_SCHEDULE: [(&str, u8); 2] = [("--trace", 2), ("--help", 0)];
 
 #[test]
-fn a_command_line_that_asks_for_help(rt: HostRuntime) -> Result<(), Fail> {
-    let help = Played::of_args(&rt, &["mwreplay", "--help"])?;
-    help.tells(&rt, 0, true);
+fn command_lines_without_a_schedule(rt: HostRuntime) -> Result<(), Fail> {
+    for (arg, status) in WITHOUT_SCHEDULE {
+        let played = Played::of_arg(&rt, arg)?;
+        let is_told = played.out.is_empty() == (status != 0)
+            && played.err.is_empty() == (status == 0);
+        assert!(rt; played.status == status && is_told, "{arg}: {played:?}");
+    }
     Ok(())
 }
 
 /// Plays each of these schedules, which comes with its name and with what it must print.
-fn play_each<R: Abort + AllocGlobal>(rt: &R, schedules: &[(&str, &str, &str)]) -> Result<(), Fail> {
-    for (name, schedule, out) in schedules {
-        play(rt, name, &mut schedule.as_bytes(), false, (0, out, ""))?;
+fn play_each<R: Abort + AllocGlobal>(rt: &R, trace: bool, texts: &[Text]) -> Result<(), Fail> {
+    for (name, text, out) in texts {
+        play(rt, name, text, trace, (0, out, ""))?;
     }
     Ok(())
 }
 
 #[test]
-fn schedules_of_requests(rt: HostRuntime) -> Result<(), Fail> {
-    play_each(&rt, &of_requests())
+fn schedules_that_end_well(rt: HostRuntime) -> Result<(), Fail> {
+    play_each(&rt, false, &OF_REQUESTS)?;
+    play_each(&rt, false, &OF_FILES)?;
+    play_each(&rt, false, &OF_SETTLES)?;
+    play_each(&rt, false, &OF_OLD_FILES_AND_SLOTS)?;
+    play_each(&rt, false, &OF_LATE_WORKERS)?;
+    play_each(&rt, false, &OF_STALE_REFERENCES)?;
+    play_each(&rt, false, &OF_MISTAKES)?;
+    play_each(&rt, true, &OF_TRACED_CLAIMS)
 }
 
-#[test]
-fn schedules_of_files(rt: HostRuntime) -> Result<(), Fail> {
-    play_each(&rt, &of_files())?;
-    play_each(&rt, &of_settles())
-}
-
-#[test]
-fn old_file_schedule(rt: HostRuntime) -> Result<(), Fail> {
-    let replies = "0 t FAULT\n0 t VAL 5\n0 t YES\n0 t VAL 1\n";
-    let mut input = OLD_FILE.as_bytes();
-    play(&rt, "old file", &mut input, false, (0, replies, ""))
-}
-
-#[test]
-fn schedules_of_late_workers(rt: HostRuntime) -> Result<(), Fail> {
-    play_each(&rt, &of_late_workers())?;
-    play_each(&rt, &of_stale_references())?;
-    play_each(&rt, &of_mistakes())
-}
-
-#[test]
-fn claims_that_are_traced(rt: HostRuntime) -> Result<(), Fail> {
-    let traced = "claim 0 0 t\n0 t YES\nclaim 0 1 u\n0 u YES\n";
-    let mut input = SLOT_RECYCLED.as_bytes();
-    play(&rt, "traced", &mut input, true, (0, traced, ""))
-}
-
-#[test]
-fn claims_that_are_not_traced(rt: HostRuntime) -> Result<(), Fail> {
-    let replies = "0 t YES\n0 u YES\n";
-    let mut input = SLOT_RECYCLED.as_bytes();
-    play(&rt, "not traced", &mut input, false, (0, replies, ""))
-}
-
-#[test]
-fn claims_that_are_lost(rt: HostRuntime) -> Result<(), Fail> {
-    let traced = "claim 0 0 t\nclaim 1 0 t\n0 t YES\n1 t YES\n";
-    let mut input = CLAIM_LOST.as_bytes();
-    play(&rt, "lost", &mut input, true, (0, traced, ""))
-}
-
-/// Gives the schedule with these lines after [`HEAD`].
-fn behind_head(alloc: Global, lines: &str) -> Result<String, AllocError> {
-    let mut schedule = String::from_str(alloc, HEAD)?;
-    schedule.push_str(lines)?;
-    Ok(schedule)
-}
-
-/// A schedule with these lines after [`HEAD`] ends with this status, prints this and says that.
-pub fn play_behind_head<R: Abort + AllocGlobal>(
-    rt: &R,
-    lines: &str,
-    wanted: (u8, &str, &str),
-) -> Result<(), Fail> {
-    let schedule = behind_head(rt.alloc(), lines)?;
-    play(rt, lines, &mut schedule.as_bytes(), false, wanted)
-}
-
-/// Plays schedules with each of these lines after [`HEAD`]. Each must end with this status, print nothing,
+/// Plays schedules with each of these lines after these first lines. Each must end with this status, print nothing,
 /// and say what is beside its lines.
 fn end_each<R: Abort + AllocGlobal>(
     rt: &R,
     status: u8,
-    cases: &[(&str, &str)],
+    head: &str,
+    cases: &[Lines],
 ) -> Result<(), Fail> {
     for (lines, err) in cases {
-        play_behind_head(rt, lines, (status, "", err))?;
+        let mut text = String::from_str(rt.alloc(), head)?;
+        text.push_str(lines)?;
+        play(rt, lines, &text, false, (status, "", err))?;
     }
     Ok(())
 }
 
-#[test]
-fn lines_that_are_wrong(rt: HostRuntime) -> Result<(), Fail> {
-    end_each(&rt, 2, &wrong_lines())
-}
+/// A schedule with a line that can't be played after a reply was printed.
+const HALTED_LATE: &str = "\
+pool 3
+workers 2
+tenant t 2 2
+tenant u 1 1
+come 0 t GET 0
+end 0
+step 0
+end 0
+";
 
 #[test]
-fn old_lines_that_are_wrong(rt: HostRuntime) -> Result<(), Fail> {
-    end_each(&rt, 2, &wrong_old_lines())
-}
-
-#[test]
-fn a_first_line_that_is_missing(rt: HostRuntime) -> Result<(), Fail> {
-    for (text, err) in missing_lines() {
-        play(&rt, text, &mut text.as_bytes(), false, (2, "", err))?;
-    }
-    Ok(())
-}
-
-#[test]
-fn lines_of_workers_that_can_not_go_on(rt: HostRuntime) -> Result<(), Fail> {
-    end_each(&rt, 3, &workers_not_enabled())
-}
-
-#[test]
-fn lines_of_other_steps(rt: HostRuntime) -> Result<(), Fail> {
-    end_each(&rt, 3, &steps_not_enabled())
-}
-
-#[test]
-fn stops_that_can_not_happen(rt: HostRuntime) -> Result<(), Fail> {
-    end_each(&rt, 3, &stops_not_enabled())
-}
-
-#[test]
-fn lines_that_do_not_arrive(rt: HostRuntime) -> Result<(), Fail> {
-    end_each(&rt, 4, &lines_without_arrival())
-}
-
-#[test]
-fn replies_before_a_halt_stay(rt: HostRuntime) -> Result<(), Fail> {
-    let lines = "come 0 t GET 0\nend 0\nstep 0\nend 0\n";
-    let err = "line 7 not enabled\nmwreplay: worker 0 has no request\n";
-    play_behind_head(&rt, lines, (3, "0 t VAL 0\n", err))
+fn lines_that_end_a_schedule(rt: HostRuntime) -> Result<(), Fail> {
+    end_each(&rt, 2, "", &MISSING_LINES)?;
+    end_each(&rt, 2, HEAD, &WRONG_LINES)?;
+    end_each(&rt, 2, HEAD, &WRONG_OLD_LINES)?;
+    end_each(&rt, 3, HEAD, &WORKERS_NOT_ENABLED)?;
+    end_each(&rt, 3, HEAD, &STEPS_NOT_ENABLED)?;
+    end_each(&rt, 3, HEAD, &STOPS_NOT_ENABLED)?;
+    end_each(&rt, 4, HEAD, &LINES_WITHOUT_ARRIVAL)?;
+    let halted = (
+        3,
+        "0 t VAL 0\n",
+        "line 7 not enabled\nmwreplay: worker 0 has no request\n",
+    );
+    play(
+        &rt,
+        "a reply before a halt stays",
+        HALTED_LATE,
+        false,
+        halted,
+    )
 }
 
 /// Plays a schedule that was read already.
@@ -283,35 +208,31 @@ fn player_of<R: Abort + AllocGlobal, W: Write>(
     let schedule = read_schedule(rt.alloc(), text).expect(rt, "a schedule");
     let mut player = Player::new(rt.alloc(), schedule.config, false)?;
     for line in schedule.lines {
-        assert_eq!(rt; player.obey(line.command, out), Ok(()));
+        assert!(rt;
+            player.obey(line.command, out).is_ok(),
+            "line {}",
+            line.number
+        );
     }
     Ok(player)
 }
 
-/// The worker 0 of a player is one step before its door is raised. Tells how the player goes there with no
-/// step left, with one, with none again, and past it.
-fn go_to_the_door<W: Write>(player: &mut Player, out: &mut W) -> [Result<(), PlayFault>; 4] {
-    let admits = StepKind::Change(Kind::Admit);
-    let early = player.go_before(0, admits, 0, out);
-    let there = player.go_before(0, admits, 1, out);
-    let again = player.go_before(0, admits, 0, out);
-    [
-        early,
-        there,
-        again,
-        player.obey(Command::To(0, admits), out),
-    ]
-}
-
+/// The worker 0 of a player is one step before its door is raised. It goes there with no step left, with one, with
+/// none again, and past it.
 #[test]
 fn steps_are_counted(rt: HostRuntime) -> Result<(), Fail> {
     let text = b"pool 1\nworkers 1\ntenant t 1 1\ncome 0 t CAS 0:0:1\n";
     let mut out = Vec::new(rt.alloc());
     let mut player = player_of(&rt, text, &mut out)?;
-    let ends = go_to_the_door(&mut player, &mut out);
-    assert_eq!(rt;
-        ends,
-        [Err(PlayFault::DidNotArrive), Ok(()), Ok(()), Ok(())]
+    let admits = StepKind::Change(Kind::Admit);
+    let early = player.go_before(0, admits, 0, &mut out);
+    let there = player.go_before(0, admits, 1, &mut out);
+    let again = player.go_before(0, admits, 0, &mut out);
+    let past = player.obey(Command::To(0, admits), &mut out);
+    assert!(rt; matches!(early, Err(PlayFault::DidNotArrive)), "early");
+    assert!(rt;
+        there.is_ok() && again.is_ok() && past.is_ok(),
+        "there, again, past"
     );
     Ok(())
 }
@@ -327,7 +248,7 @@ fn names_of_kinds(rt: HostRuntime) -> Result<(), Fail> {
         let Some(kind) = StepKind::named(name.as_bytes()) else {
             panic!(rt; "no kind {name}");
         };
-        assert_eq!(rt; kind.name(), name);
+        assert!(rt; kind.name() == name, "{name}");
     }
     Ok(())
 }
@@ -356,8 +277,9 @@ fn a_reader_that_fails(rt: HostRuntime) -> Result<(), Fail> {
     let mut input = Failing {
         rest: SLOT_RECYCLED.as_bytes(),
     };
-    let wanted = (1, "", "mwreplay: cannot read\n");
-    play(&rt, "a reader that fails", &mut input, false, wanted)
+    let played = Played::of(&rt, &mut input, false)?;
+    played.is(&rt, "a reader that fails", 1, "", "mwreplay: cannot read\n");
+    Ok(())
 }
 
 #[test]
@@ -366,6 +288,7 @@ fn a_writer_that_fails(rt: HostRuntime) -> Result<(), Fail> {
     let mut err = Vec::new(rt.alloc());
     let mut input = SLOT_RECYCLED.as_bytes();
     let status = replay(&rt, &mut input, false, &mut room.as_mut_slice(), &mut err);
-    assert_eq!(rt; (status, err.len(), room), (1, 0, *b"0 t YES\n0 "));
+    assert!(rt; status == 1 && err.is_empty(), "{status}");
+    assert!(rt; room == *b"0 t YES\n0 ", "{room:?}");
     Ok(())
 }

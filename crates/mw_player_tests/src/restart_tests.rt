@@ -3,33 +3,9 @@
 //!
 //! Nothing else uses it: it may change with what it tests.
 
-use crate::replay_tests::{play, play_behind_head};
-use std::alloc::{AllocError, Global};
+use crate::replay_tests::play;
 use std::process::Abort;
 use std::test::Fail;
-
-/// Plays a schedule. After it, each after a `|`, come what must be printed and what must be said. It must
-/// end with this status.
-fn play_case<R: Abort + AllocGlobal>(rt: &R, status: u8, case: &str) -> Result<(), Fail> {
-    let lines = case.replace(rt.alloc(), "/", "\n")?;
-    let (schedule, told) = lines.split_once('|').expect(rt, "what is printed");
-    let (out, err) = told.split_once('|').expect(rt, "what is said");
-    play(
-        rt,
-        case,
-        &mut schedule.as_bytes(),
-        false,
-        (status, out, err),
-    )
-}
-
-/// Plays such schedules, one a line.
-fn play_cases<R: Abort + AllocGlobal>(rt: &R, status: u8, cases: &str) -> Result<(), Fail> {
-    for case in cases.split('\n') {
-        play_case(rt, status, case)?;
-    }
-    Ok(())
-}
 
 /// A start gives a tenant a second slot.
 const QUOTA_AT_RESTART: &str =
@@ -38,12 +14,6 @@ const QUOTA_AT_RESTART: &str =
 /// The same with a third slot, for which the file has no place.
 const NO_PLACE_AT_RESTART: &str =
     "pool 3/workers 2/tenant t 2 1/come 0 t CAS 0:0:1/to 0 plant/come 1 t CAS 1:0:1/end 1/restart t=-,-,,q3/come 0 t CAS 0:0:1/to 0 plant/come 1 t CAS 1:0:1/end 1/end 0/|1 t BUSY/|line 8 not enabled/mwreplay: item 1 gives a quota that is not 1 to 64, or is above the places of the file/";
-
-#[test]
-fn quota_at_restart(rt: HostRuntime) -> Result<(), Fail> {
-    play_case(&rt, 0, QUOTA_AT_RESTART)?;
-    play_case(&rt, 3, NO_PLACE_AT_RESTART)
-}
 
 /// Quotas that are given, stay, or move to another tenant.
 const QUOTAS: &str = "\
@@ -56,11 +26,6 @@ pool 64/workers 1/tenant t 1 32/restart t=-,-,,q64/come 0 t CAS 0:0:1/end 0/|0 t
 pool 64/workers 1/tenant t 1 32/old t 0:1/restart t=-,-,,q64/come 0 t GET 0/end 0/|0 t VAL 1/|
 pool 2/workers 2/tenant t 2 1/old t 0:5/restart t=-,-,,7,q2/restart t=-,-,00/come 0 t CAS 0:5:1/to 0 plant/come 1 t CAS 1:0:1/end 1/end 0/|1 t YES/0 t YES/|";
 
-#[test]
-fn quotas_of_restarts(rt: HostRuntime) -> Result<(), Fail> {
-    play_cases(&rt, 0, QUOTAS)
-}
-
 /// Quotas below what was under way: a change that wasn't sealed; one that was, in a place above the new
 /// quota; a seal that is cut off, and is found or not; a change that another worker had decided.
 const LOWERED: &str = "\
@@ -69,11 +34,6 @@ pool 2/workers 2/tenant t 2 2/come 0 t CAS 0:0:1/to 0 plant/come 1 t CAS 1:0:1/b
 pool 2/workers 2/tenant t 2 2/come 0 t CAS 0:0:1/to 0 plant/come 1 t CAS 1:0:1/before 1 seal/restart t=1,1,00,q1/come 0 t GET 0/end 0/come 0 t GET 1/end 0/|0 t VAL 0/0 t VAL 0/|
 pool 2/workers 2/tenant t 2 2/come 0 t CAS 0:0:1/to 0 plant/come 1 t CAS 1:0:1/before 1 seal/restart t=1,1,a5,3,q1/come 0 t GET 0/end 0/restart t=-,-,ff/come 0 t GET 1/end 0/|0 t FAULT/0 t VAL 1/|
 pool 2/workers 2/tenant t 2 2/come 0 t CAS 0:0:1/to 0 plant/come 1 t CAS 0:0:5/end 1/restart t=-,-,,q1/come 0 t GET 0/end 0/|1 t NO 0 1/0 t VAL 1/|";
-
-#[test]
-fn quotas_below_what_was_under_way(rt: HostRuntime) -> Result<(), Fail> {
-    play_cases(&rt, 0, LOWERED)
-}
 
 /// Quotas that no tenant may have or that are above the places of the file or the pool, and openings that
 /// make no such call.
@@ -92,11 +52,6 @@ pool 4/workers 1/tenant t 1 1/old t 0:1/restart t=-,-,,q3/||line 5 not enabled/m
 pool 4/workers 1/tenant t 1 1/old t 0:1/restart/restart t=-,-,,q3/||line 6 not enabled/mwreplay: item 1 gives a quota that is not 1 to 64, or is above the places of the file/
 pool 1/workers 1/tenant t 1 1/old t 0:1/restart t=-,-,,8/||line 5 not enabled/mwreplay: a call or an opening makes fewer device calls than its item says/
 pool 1/workers 1/tenant t 1 1/old t 0:1/restart t=-,-,,7/restart t=-,-,a5,3/||line 6 not enabled/mwreplay: a call or an opening makes fewer device calls than its item says/";
-
-#[test]
-fn restarts_that_can_not_happen(rt: HostRuntime) -> Result<(), Fail> {
-    play_cases(&rt, 3, NOT_ENABLED)
-}
 
 /// Items whose part of the quota is wrong, or doesn't come last.
 const WRONG_ITEMS: &str = "\
@@ -123,18 +78,11 @@ t=-,-,00,q2,1
 t=-,-,,q2 u=-,-,,q
 t=-,-,,q 2";
 
-/// What is said of a restart with such an item.
-const WRONG_RESTART: &str =
-    "line 5 wrong\nmwreplay: the line isn't `restart ITEM ..`, each item NAME=W,K,HEX or NAME=W,K,HEX,F, perhaps with ,qN, and no tenant twice\n";
+/// What comes before and after the items above: first lines and the word of the line, and what is said of it.
+const BEFORE_ITEM: &str = "pool 3/workers 2/tenant t 2 2/tenant u 1 1/restart ";
 
-#[test]
-fn items_that_are_wrong(rt: HostRuntime) -> Result<(), Fail> {
-    for item in WRONG_ITEMS.split('\n') {
-        let line = format!(in rt.alloc(); "restart {item}\n")?;
-        play_behind_head(&rt, &line, (2, "", WRONG_RESTART))?;
-    }
-    Ok(())
-}
+const AFTER_ITEM: &str =
+    "/||line 5 wrong/mwreplay: the line isn't `restart ITEM ..`, each item NAME=W,K,HEX or NAME=W,K,HEX,F, perhaps with ,qN, and no tenant twice/";
 
 /// First lines at a limit.
 const FIRST_LINES: &str = "\
@@ -143,11 +91,6 @@ pool 33/workers 1/tenant t 1 33/come 0 t GET 0/end 0/|0 t VAL 0/|
 pool 64/workers 1/tenant t 1 64/come 0 t CAS 0:0:1/end 0/|0 t YES/|
 pool 1/workers 1/tenant t 9 1/old t 0:1 1:2 2:3 3:4 4:5 5:6 6:7 8:281474976710655/restart/come 0 t GET 7/end 0/come 0 t GET 8/end 0/|0 t VAL 0/0 t VAL 281474976710655/|
 pool 2/workers 1/tenant t 1 1/tenant u 1 1/old u 0:2/old t 0:1/restart t=-,-,/come 0 t GET 0/end 0/come 0 u GET 0/end 0/|0 t VAL 1/0 u VAL 2/|";
-
-#[test]
-fn first_lines_at_a_limit(rt: HostRuntime) -> Result<(), Fail> {
-    play_cases(&rt, 0, FIRST_LINES)
-}
 
 /// First lines past a limit, or at a wrong place.
 const WRONG_FIRST_LINES: &str = "\
@@ -159,11 +102,6 @@ pool 1/workers 1/tenant t 1 1/old t 0:1/old t 0:1/||line 5 wrong/mwreplay: the l
 pool 1/workers 1/old t 0:1/tenant t 1 1/||line 3 wrong/mwreplay: a line `tenant NAME WORDS QUOTA` is missing before the line/
 pool 2/workers 1/tenant t 1 1/old t 0:1/tenant u 1 1/||line 5 wrong/mwreplay: the line isn't `tenant NAME WORDS QUOTA` before all old files and commands, with a new name, 1 to 4096 words and a quota of 1 to 64, all quotas together at most the pool/
 pool 2/workers 1/tenant t 1 1/old u 0:1/tenant u 1 1/||line 4 wrong/mwreplay: the line isn't `old NAME A:V ..` before all commands, of a tenant of quota 32 or less that has no such line yet, with 1 to 8 entries, rising addresses and values up to 281474976710655/";
-
-#[test]
-fn first_lines_that_are_wrong(rt: HostRuntime) -> Result<(), Fail> {
-    play_cases(&rt, 2, WRONG_FIRST_LINES)
-}
 
 /// What comes before and after the restarts below, and what is printed: the words that the old file has,
 /// and a change that a further start finds.
@@ -193,19 +131,34 @@ restart t=-,-,,7/restart t=-,-,7f/
 restart t=-,-,,3/restart t=-,-,ffff,4/restart t=-,-,ffffffffffffffffffff,5/restart t=-,-,ff,6/restart t=-,-,01,7/restart t=-,-,00/
 restart t=-,-,,7/restart t=-,-,a5,2/restart/";
 
-/// Gives the schedule with these openings of the old file.
-fn with_openings(alloc: Global, openings: &str) -> Result<String, AllocError> {
-    let mut schedule = String::from_str(alloc, OLD_FILE)?;
-    schedule.push_str(openings)?;
-    schedule.push_str(OLD_WORDS)?;
-    Ok(schedule)
+/// Plays schedules, one a line, between these two other texts. After a schedule, each after a `|`, come what must be
+/// printed and what must be said. Each must end with this status.
+fn play_cases<R: Abort + AllocGlobal>(
+    rt: &R,
+    status: u8,
+    before: &str,
+    schedules: &str,
+    after: &str,
+) -> Result<(), Fail> {
+    for schedule in schedules.split('\n') {
+        let case = format!(in rt.alloc(); "{before}{schedule}{after}")?;
+        let lines = case.replace(rt.alloc(), "/", "\n")?;
+        let (text, told) = lines.split_once('|').expect(rt, "what is printed");
+        let (out, err) = told.split_once('|').expect(rt, "what is said");
+        play(rt, schedule, text, false, (status, out, err))?;
+    }
+    Ok(())
 }
 
 #[test]
-fn old_files_are_opened(rt: HostRuntime) -> Result<(), Fail> {
-    for openings in OPENINGS.split('\n') {
-        let case = with_openings(rt.alloc(), openings)?;
-        play_case(&rt, 0, &case)?;
-    }
-    Ok(())
+fn restarts_and_first_lines(rt: HostRuntime) -> Result<(), Fail> {
+    play_cases(&rt, 0, "", QUOTA_AT_RESTART, "")?;
+    play_cases(&rt, 3, "", NO_PLACE_AT_RESTART, "")?;
+    play_cases(&rt, 0, "", QUOTAS, "")?;
+    play_cases(&rt, 0, "", LOWERED, "")?;
+    play_cases(&rt, 3, "", NOT_ENABLED, "")?;
+    play_cases(&rt, 2, BEFORE_ITEM, WRONG_ITEMS, AFTER_ITEM)?;
+    play_cases(&rt, 0, "", FIRST_LINES, "")?;
+    play_cases(&rt, 2, "", WRONG_FIRST_LINES, "")?;
+    play_cases(&rt, 0, OLD_FILE, OPENINGS, OLD_WORDS)
 }

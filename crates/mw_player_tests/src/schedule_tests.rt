@@ -406,7 +406,7 @@ end 1
 ";
 
 /// A file that no start has opened yet, an opening of it that fails, and one that succeeds.
-pub const OLD_FILE: &str = "\
+const OLD_FILE: &str = "\
 pool 1
 workers 1
 tenant t 2 1
@@ -437,7 +437,7 @@ end 0
 ";
 
 /// Two workers claim one slot, and one of them loses it.
-pub const CLAIM_LOST: &str = "\
+const CLAIM_LOST: &str = "\
 pool 2
 workers 2
 tenant t 2 2
@@ -453,140 +453,154 @@ end 1
 /// A schedule: its name, its text and what playing it prints.
 pub type Schedule = (&'static str, &'static str, &'static str);
 
-/// Gives schedules of requests that come between each other, each with its name and what is printed.
-pub fn of_requests() -> [Schedule; 6] {
-    [
-        (
-            "own-quota-busy",
-            OWN_QUOTA_BUSY,
-            "1 t BUSY\n0 t YES\n1 t YES\n",
-        ),
-        (
-            "neighbour-unhindered",
-            NEIGHBOUR_UNHINDERED,
-            "1 t BUSY\n0 t YES\n1 t YES\n2 u YES\n",
-        ),
-        ("stale-no", STALE_NO, "1 t YES\n0 t NO 0 0\n"),
-        (
-            "late-finisher",
-            LATE_FINISHER,
-            "1 t YES\n0 t YES\n2 t NO 0 1\n1 t VAL 0\n",
-        ),
-        (
-            "stale-reference",
-            STALE_REFERENCE,
-            "0 t YES\n0 u YES\n0 u YES\n1 t VAL 1\n",
-        ),
-        (
-            "worn-numbers",
-            WORN_NUMBERS,
-            "0 t YES\n0 t WORN\n0 t VAL 1\n",
-        ),
-    ]
-}
+/// Schedules of requests that come between each other, each with its name and what is printed.
+pub static OF_REQUESTS: [Schedule; 6] = [
+    (
+        "own-quota-busy",
+        OWN_QUOTA_BUSY,
+        "1 t BUSY\n0 t YES\n1 t YES\n",
+    ),
+    (
+        "neighbour-unhindered",
+        NEIGHBOUR_UNHINDERED,
+        "1 t BUSY\n0 t YES\n1 t YES\n2 u YES\n",
+    ),
+    ("stale-no", STALE_NO, "1 t YES\n0 t NO 0 0\n"),
+    (
+        "late-finisher",
+        LATE_FINISHER,
+        "1 t YES\n0 t YES\n2 t NO 0 1\n1 t VAL 0\n",
+    ),
+    (
+        "stale-reference",
+        STALE_REFERENCE,
+        "0 t YES\n0 u YES\n0 u YES\n1 t VAL 1\n",
+    ),
+    (
+        "worn-numbers",
+        WORN_NUMBERS,
+        "0 t YES\n0 t WORN\n0 t VAL 1\n",
+    ),
+];
 
-/// Gives schedules of files that stop, or fail in a seal, each with its name and what is printed.
-pub fn of_files() -> [Schedule; 7] {
-    [
-        ("torn-gate", TORN_GATE, "0 t VAL 1\n0 t VAL 2\n"),
-        (
-            "torn-gate, the other byte",
-            TORN_GATE_OTHER_BYTE,
-            "0 t VAL 0\n0 t VAL 0\n",
-        ),
-        (
-            "failed-opening",
-            FAILED_OPENING,
-            "0 t FAULT\n0 t VAL 1\n0 t VAL 2\n",
-        ),
-        (
-            "failed-seal",
-            FAILED_SEAL,
-            "0 t FAULT\n0 t FAULT\n0 u YES\n0 t VAL 1\n0 u VAL 1\n",
-        ),
-        (
-            "failed-seal, the other byte",
-            FAILED_SEAL_OTHER_BYTE,
-            "0 t FAULT\n0 t FAULT\n0 u YES\n0 t VAL 0\n0 u VAL 1\n",
-        ),
-        (
-            "failed-seal, not written",
-            FAILED_SEAL_NOT_WRITTEN,
-            "0 t FAULT\n0 t VAL 0\n",
-        ),
-        (
-            "failed-seal, not synced",
-            FAILED_SEAL_NOT_SYNCED,
-            "0 t FAULT\n0 t VAL 1\n",
-        ),
-    ]
-}
+/// Schedules of files that stop, or fail in a seal, each with its name and what is printed.
+pub static OF_FILES: [Schedule; 7] = [
+    ("torn-gate", TORN_GATE, "0 t VAL 1\n0 t VAL 2\n"),
+    (
+        "torn-gate, the other byte",
+        TORN_GATE_OTHER_BYTE,
+        "0 t VAL 0\n0 t VAL 0\n",
+    ),
+    (
+        "failed-opening",
+        FAILED_OPENING,
+        "0 t FAULT\n0 t VAL 1\n0 t VAL 2\n",
+    ),
+    (
+        "failed-seal",
+        FAILED_SEAL,
+        "0 t FAULT\n0 t FAULT\n0 u YES\n0 t VAL 1\n0 u VAL 1\n",
+    ),
+    (
+        "failed-seal, the other byte",
+        FAILED_SEAL_OTHER_BYTE,
+        "0 t FAULT\n0 t FAULT\n0 u YES\n0 t VAL 0\n0 u VAL 1\n",
+    ),
+    (
+        "failed-seal, not written",
+        FAILED_SEAL_NOT_WRITTEN,
+        "0 t FAULT\n0 t VAL 0\n",
+    ),
+    (
+        "failed-seal, not synced",
+        FAILED_SEAL_NOT_SYNCED,
+        "0 t FAULT\n0 t VAL 1\n",
+    ),
+];
 
-/// Gives schedules of files that fail in a settle, each with its name and what is printed.
-pub fn of_settles() -> [Schedule; 2] {
-    [
-        (
-            "settle-failure",
-            SETTLE_FAILURE,
-            "0 t YES\n0 t FAULT\n0 t VAL 1\n0 t VAL 2\n",
-        ),
-        (
-            "settle-failure, the first call",
-            SETTLE_FAILURE_FIRST_CALL,
-            "0 t YES\n0 t FAULT\n0 t VAL 1\n0 t VAL 2\n",
-        ),
-    ]
-}
+/// Schedules of files that fail in a settle, each with its name and what is printed.
+pub static OF_SETTLES: [Schedule; 2] = [
+    (
+        "settle-failure",
+        SETTLE_FAILURE,
+        "0 t YES\n0 t FAULT\n0 t VAL 1\n0 t VAL 2\n",
+    ),
+    (
+        "settle-failure, the first call",
+        SETTLE_FAILURE_FIRST_CALL,
+        "0 t YES\n0 t FAULT\n0 t VAL 1\n0 t VAL 2\n",
+    ),
+];
 
-/// Gives schedules of workers that go on late, each with its name and what is printed.
-pub fn of_late_workers() -> [Schedule; 4] {
-    [
-        (
-            "late-finisher-under-done-no",
-            LATE_FINISHER_UNDER_DONE_NO,
-            "2 t YES\n2 t VAL 5\n1 t YES\n0 t NO 1 0\n2 t VAL 5\n",
-        ),
-        (
-            "late-finisher-under-no",
-            LATE_FINISHER_UNDER_NO,
-            "2 t YES\n2 t VAL 5\n0 t NO 1 0\n1 t YES\n2 t VAL 5\n",
-        ),
-        (
-            "late-plant-after-done-yes",
-            LATE_PLANT_AFTER_DONE_YES,
-            "0 t YES\n2 t VAL 0\n1 t NO 0 1\n2 t VAL 0\n",
-        ),
-        (
-            "lost-release-under-done-yes",
-            LOST_RELEASE_UNDER_DONE_YES,
-            "0 t YES\n1 t YES\n",
-        ),
-    ]
-}
+/// Schedules of workers that go on late, each with its name and what is printed.
+pub static OF_LATE_WORKERS: [Schedule; 4] = [
+    (
+        "late-finisher-under-done-no",
+        LATE_FINISHER_UNDER_DONE_NO,
+        "2 t YES\n2 t VAL 5\n1 t YES\n0 t NO 1 0\n2 t VAL 5\n",
+    ),
+    (
+        "late-finisher-under-no",
+        LATE_FINISHER_UNDER_NO,
+        "2 t YES\n2 t VAL 5\n0 t NO 1 0\n1 t YES\n2 t VAL 5\n",
+    ),
+    (
+        "late-plant-after-done-yes",
+        LATE_PLANT_AFTER_DONE_YES,
+        "0 t YES\n2 t VAL 0\n1 t NO 0 1\n2 t VAL 0\n",
+    ),
+    (
+        "lost-release-under-done-yes",
+        LOST_RELEASE_UNDER_DONE_YES,
+        "0 t YES\n1 t YES\n",
+    ),
+];
 
-/// Gives schedules of workers that meet late what named a slot before, each with its name and what is
+/// Schedules of workers that meet late what named a slot before, each with its name and what is
 /// printed.
-pub fn of_stale_references() -> [Schedule; 4] {
-    [
-        (
-            "late-stale-dirty",
-            LATE_STALE_DIRTY,
-            "0 t YES\n1 t YES\n0 u YES\n0 u VAL 7\n",
-        ),
-        (
-            "late-stale-held-get",
-            LATE_STALE_HELD_GET,
-            "0 t YES\n0 u YES\n1 t VAL 1\n1 t YES\n0 u YES\n",
-        ),
-        (
-            "late-stale-row-get",
-            LATE_STALE_ROW_GET,
-            "0 t YES\n0 u YES\n1 t VAL 1\n0 u YES\n1 t YES\n",
-        ),
-        (
-            "late-stale-row-of-neighbour",
-            LATE_STALE_ROW_OF_NEIGHBOUR,
-            "0 t YES\n1 t NO 0 1\n0 u YES\n0 u VAL 7\n",
-        ),
-    ]
-}
+pub static OF_STALE_REFERENCES: [Schedule; 4] = [
+    (
+        "late-stale-dirty",
+        LATE_STALE_DIRTY,
+        "0 t YES\n1 t YES\n0 u YES\n0 u VAL 7\n",
+    ),
+    (
+        "late-stale-held-get",
+        LATE_STALE_HELD_GET,
+        "0 t YES\n0 u YES\n1 t VAL 1\n1 t YES\n0 u YES\n",
+    ),
+    (
+        "late-stale-row-get",
+        LATE_STALE_ROW_GET,
+        "0 t YES\n0 u YES\n1 t VAL 1\n0 u YES\n1 t YES\n",
+    ),
+    (
+        "late-stale-row-of-neighbour",
+        LATE_STALE_ROW_OF_NEIGHBOUR,
+        "0 t YES\n1 t NO 0 1\n0 u YES\n0 u VAL 7\n",
+    ),
+];
+
+/// Schedules of an old file, and of slots that are claimed, each with its name and what is printed.
+pub static OF_OLD_FILES_AND_SLOTS: [Schedule; 2] = [
+    (
+        "old file",
+        OLD_FILE,
+        "0 t FAULT\n0 t VAL 5\n0 t YES\n0 t VAL 1\n",
+    ),
+    ("not traced", SLOT_RECYCLED, "0 t YES\n0 u YES\n"),
+];
+
+/// Schedules that are traced, each with its name and what is printed: a line for each claim too.
+pub static OF_TRACED_CLAIMS: [Schedule; 2] = [
+    (
+        "traced",
+        SLOT_RECYCLED,
+        "claim 0 0 t\n0 t YES\nclaim 0 1 u\n0 u YES\n",
+    ),
+    (
+        "lost",
+        CLAIM_LOST,
+        "claim 0 0 t\nclaim 1 0 t\n0 t YES\n1 t YES\n",
+    ),
+];

@@ -1,6 +1,6 @@
 //! Makes random choices.
 //!
-//! Used by: `jobs`, `trial`, and the larger runs. It may change freely as long as this crate checks and its tests
+//! Used by: `jobs`, `run`, `tests`, `larger/tests`. It may change freely as long as this crate checks and its tests
 //! pass.
 ghost use Rattle.std.specs.Prelude.{◌<◌, ◌≤◌};
 

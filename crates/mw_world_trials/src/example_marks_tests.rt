@@ -3,187 +3,150 @@
 //!
 //! Nothing else uses it: it may change with what it tests.
 
-use mw_line::{Request, Say, behind, field, read_line, value_at};
+use mw_line::{Request, read_line};
 use mw_lone::{Lone, Mark};
-use mw_words::{Job, Reply};
+use mw_words::Reply;
 use std::process::Abort;
 use std::test::Fail;
 
-/// Reads the mark of a line: what happens, the request to which it happens, and what goes with it.
-fn mark_of(line: &[u8]) -> Option<Mark> {
-    if let Some(found) = behind(b"restart ", line) {
-        return restart_of(found);
-    }
-    let (word, rest) = field(b' ', line)?;
-    let (request, rest) = value_at(rest)?;
-    match behind(b" ", rest) {
-        Some(more) => long_mark(word, request, more),
-        None => short_mark(word, request),
-    }
+/// A mark of a run. A job is a text, and beside the mark of a reply is the reply that the store must hand out.
+#[derive(Clone, Copy)]
+enum Row {
+    Ask(u64, &'static str),
+    Admit(u64),
+    Look(u64),
+    Miss(u64, u8),
+    Seal(u64),
+    SealFail(u64),
+    GiveUp(u64),
+    Retire(u64),
+    Reply(u64, Reply),
+    /// A start with this quota, in which the file opens and the change in doubt is found.
+    RestartFound(u8),
+    /// A start with this quota, in which the file opens. The change of this request was under way and is lost.
+    RestartLost(u8, u64),
 }
 
-/// Reads a start with a quota, in which the file opens. The change in doubt is found, or the change of this
-/// request was under way and is lost.
-fn restart_of(found: &[u8]) -> Option<Mark> {
-    let (quota, found) = value_at(found)?;
-    let interrupted = match behind(b" lost ", found) {
-        Some(request) => Some(value_at(request)?.0),
-        None => None,
-    };
-    Some(Mark::Restart {
-        interrupted,
-        take: interrupted.is_none(),
-        opened: true,
-        quota: u8::try_from(quota).ok()?,
+static LATE_FINISHER: [Row; 18] = [
+    Row::Ask(0, "CAS 0:0:1 1:0:1"),
+    Row::Admit(0),
+    Row::Ask(1, "CAS 0:0:9"),
+    Row::Admit(1),
+    Row::Ask(2, "CAS 1:1:0"),
+    Row::Admit(2),
+    Row::Seal(0),
+    Row::Seal(2),
+    Row::Retire(2),
+    Row::Reply(2, Reply::Yes),
+    Row::Reply(0, Reply::Yes),
+    Row::Retire(0),
+    Row::Miss(1, 0),
+    Row::Retire(1),
+    Row::Reply(1, Reply::No(0, 1)),
+    Row::Ask(3, "GET 1"),
+    Row::Look(3),
+    Row::Reply(3, Reply::Val(0)),
+];
+
+static STALE_REFUSAL: [Row; 10] = [
+    Row::Ask(0, "CAS 0:5:6"),
+    Row::Admit(0),
+    Row::Miss(0, 0),
+    Row::Ask(1, "CAS 0:0:5"),
+    Row::Admit(1),
+    Row::Seal(1),
+    Row::Retire(1),
+    Row::Reply(1, Reply::Yes),
+    Row::Retire(0),
+    Row::Reply(0, Reply::No(0, 0)),
+];
+
+static FAILED_SEAL: [Row; 11] = [
+    Row::Ask(0, "CAS 0:0:1"),
+    Row::Admit(0),
+    Row::SealFail(0),
+    Row::Reply(0, Reply::Fault),
+    Row::Ask(1, "GET 0"),
+    Row::GiveUp(1),
+    Row::Reply(1, Reply::Fault),
+    Row::RestartFound(1),
+    Row::Ask(2, "GET 0"),
+    Row::Look(2),
+    Row::Reply(2, Reply::Val(1)),
+];
+
+static TORN_GATE: [Row; 9] = [
+    Row::Ask(0, "CAS 0:0:1 1:0:2"),
+    Row::Admit(0),
+    Row::RestartLost(1, 0),
+    Row::Ask(1, "GET 0"),
+    Row::Look(1),
+    Row::Reply(1, Reply::Val(0)),
+    Row::Ask(2, "GET 1"),
+    Row::Look(2),
+    Row::Reply(2, Reply::Val(0)),
+];
+
+/// Gives the mark of a row, or `None` if its text is no job.
+fn mark_of(row: Row) -> Option<Mark> {
+    Some(match row {
+        Row::Ask(request, text) => match read_line(text.as_bytes()) {
+            Ok(Request::Job(job)) => Mark::Ask(request, job),
+            _ => return None,
+        },
+        Row::Admit(request) => Mark::Admit(request),
+        Row::Look(request) => Mark::Look(request),
+        Row::Miss(request, entry) => Mark::Miss(request, entry),
+        Row::Seal(request) => Mark::Seal(request),
+        Row::SealFail(request) => Mark::SealFail(request),
+        Row::GiveUp(request) => Mark::GiveUp(request),
+        Row::Retire(request) => Mark::Retire(request),
+        Row::Reply(request, _) => Mark::Reply(request),
+        Row::RestartFound(quota) => Mark::Restart {
+            interrupted: None,
+            take: true,
+            opened: true,
+            quota,
+        },
+        Row::RestartLost(quota, request) => Mark::Restart {
+            interrupted: Some(request),
+            take: false,
+            opened: true,
+            quota,
+        },
     })
 }
 
-fn long_mark(word: &[u8], request: u64, more: &[u8]) -> Option<Mark> {
-    match word {
-        b"ask" => Some(Mark::Ask(request, job_of(more)?)),
-        b"miss" => Some(Mark::Miss(request, entry_of(more)?)),
-        b"reply" => Some(Mark::Reply(request)),
-        _ => None,
-    }
-}
-
-fn short_mark(word: &[u8], request: u64) -> Option<Mark> {
-    match word {
-        b"admit" => Some(Mark::Admit(request)),
-        b"look" => Some(Mark::Look(request)),
-        b"seal" => Some(Mark::Seal(request)),
-        b"seal-fail" => Some(Mark::SealFail(request)),
-        b"give-up" => Some(Mark::GiveUp(request)),
-        b"retire" => Some(Mark::Retire(request)),
-        _ => None,
-    }
-}
-
-/// Reads the index of an entry.
-fn entry_of(text: &[u8]) -> Option<u8> {
-    let (index, _) = value_at(text)?;
-    u8::try_from(index).ok()
-}
-
-fn job_of(line: &[u8]) -> Option<Job> {
-    match read_line(line) {
-        Ok(Request::Job(job)) => Some(job),
-        _ => None,
-    }
-}
-
-/// Gives the text of the reply after a mark.
-fn reply_in(line: &[u8]) -> Option<&[u8]> {
-    let (_, reply) = field(b' ', behind(b"reply ", line)?)?;
-    Some(reply)
-}
-
-/// Tells whether a reply has the text after a mark.
-fn is_reply(reply: Reply, line: &[u8]) -> bool {
-    match reply_in(line) {
-        Some(text) => matches!(behind(text, &Say::Store(reply).text()), Some(b"\n")),
-        None => false,
-    }
-}
-
-/// Tells whether the store takes a mark, and hands out the reply after it, or none.
-fn takes_mark(lone: &mut Lone, line: &[u8]) -> bool {
-    let Some(mark) = mark_of(line) else {
-        return false;
-    };
-    match lone.mark(mark) {
-        Ok(Some(reply)) => is_reply(reply, line),
-        Ok(None) => reply_in(line).is_none(),
-        Err(_) => false,
-    }
-}
-
-/// A new store takes these marks, a line each, and hands out the replies after them.
-fn takes<R: Abort + AllocGlobal>(
+/// A new store with these words and this quota takes the marks of an example run, and hands out the replies beside them, or none.
+fn plays<R: Abort + AllocGlobal>(
     rt: &R,
+    name: &str,
     words: &[u64],
     quota: u8,
-    marks: &str,
+    rows: &[Row],
 ) -> Result<(), Fail> {
     let mut lone = Lone::new(rt.alloc(), words, quota, false)?;
-    for line in marks.split('\n') {
-        assert!(rt; takes_mark(&mut lone, line.as_bytes()), "{line}");
+    for (index, row) in rows.iter().enumerate() {
+        let wanted = match row {
+            Row::Reply(_, reply) => Some(*reply),
+            _ => None,
+        };
+        let is_taken = match mark_of(*row) {
+            Some(mark) => match lone.mark(mark) {
+                Ok(found) => found == wanted,
+                Err(_) => false,
+            },
+            None => false,
+        };
+        assert!(rt; is_taken, "{name}, row {index}");
     }
     Ok(())
 }
 
-const LATE_FINISHER: &str = "\
-ask 0 CAS 0:0:1 1:0:1
-admit 0
-ask 1 CAS 0:0:9
-admit 1
-ask 2 CAS 1:1:0
-admit 2
-seal 0
-seal 2
-retire 2
-reply 2 YES
-reply 0 YES
-retire 0
-miss 1 0
-retire 1
-reply 1 NO 0 1
-ask 3 GET 1
-look 3
-reply 3 VAL 0";
-
 #[test]
-fn late_finisher(rt: HostRuntime) -> Result<(), Fail> {
-    takes(&rt, &[0, 0], 3, LATE_FINISHER)
-}
-
-const STALE_REFUSAL: &str = "\
-ask 0 CAS 0:5:6
-admit 0
-miss 0 0
-ask 1 CAS 0:0:5
-admit 1
-seal 1
-retire 1
-reply 1 YES
-retire 0
-reply 0 NO 0 0";
-
-#[test]
-fn stale_refusal(rt: HostRuntime) -> Result<(), Fail> {
-    takes(&rt, &[0], 2, STALE_REFUSAL)
-}
-
-const FAILED_SEAL: &str = "\
-ask 0 CAS 0:0:1
-admit 0
-seal-fail 0
-reply 0 FAULT
-ask 1 GET 0
-give-up 1
-reply 1 FAULT
-restart 1 found
-ask 2 GET 0
-look 2
-reply 2 VAL 1";
-
-#[test]
-fn failed_seal(rt: HostRuntime) -> Result<(), Fail> {
-    takes(&rt, &[0], 1, FAILED_SEAL)
-}
-
-const TORN_GATE: &str = "\
-ask 0 CAS 0:0:1 1:0:2
-admit 0
-restart 1 lost 0
-ask 1 GET 0
-look 1
-reply 1 VAL 0
-ask 2 GET 1
-look 2
-reply 2 VAL 0";
-
-#[test]
-fn torn_gate(rt: HostRuntime) -> Result<(), Fail> {
-    takes(&rt, &[0, 0], 1, TORN_GATE)
+fn marks_of_examples(rt: HostRuntime) -> Result<(), Fail> {
+    plays(&rt, "late finisher", &[0, 0], 3, &LATE_FINISHER)?;
+    plays(&rt, "stale refusal", &[0], 2, &STALE_REFUSAL)?;
+    plays(&rt, "failed seal", &[0], 1, &FAILED_SEAL)?;
+    plays(&rt, "torn gate", &[0, 0], 1, &TORN_GATE)
 }

@@ -1,7 +1,7 @@
 //! Makes random jobs (reads and changes), random stops (each with the next opening), and random worlds (models of a
 //! whole server). The trials, which are random runs, are made of them.
 //!
-//! Used by: `trial`, `larger/watch`. A new kind of job needs its case here. Else it may change freely as long as this
+//! Used by: `run`, `tests`, `larger/tests`. A new kind of job needs its case here. Else it may change freely as long as this
 //! crate checks and its tests pass.
 ghost use Rattle.std.specs.Prelude.{◌≡◌, ◌≤◌, None, IsTrue};
 ghost use Rattle.mw_world.specs.Definition.State.{IsConfig, may_be_old};
@@ -134,58 +134,43 @@ pub fn stops(alloc: Global, dice: &mut Dice, config: &Config) -> Result<Vec<Stop
     Ok(stops)
 }
 
-/// Makes a way to stop a tenant's file, and to open it again.
+/// Makes a way to stop a tenant's file, and to open it again. A torn byte sets a commit byte, clears it, or does
+/// neither by itself. The quota is sometimes one that no tenant can have.
 fn stop(alloc: Global, dice: &mut Dice, tenant: u8, workers: u8) -> Result<Stop, AllocError>
     requires { 1 ≤ workers }
 {
     let mut torn = Vec::new(alloc);
     for _ in 0..dice.below(24) {
-        torn.push(torn_byte(dice))?;
+        torn.push(match dice.small(3) {
+            0 => 0xa5,
+            1 => 0,
+            _ => 0xff,
+        })?;
     }
-    Ok(Stop {
-        tenant,
-        interrupted: interrupted(dice, workers),
-        torn,
-        fails_at: failing(dice),
-        quota: told(dice),
-    })
-}
-
-/// Gives a quota, or none. Sometimes it is one that no tenant can have.
-fn told(dice: &mut Dice) -> Option<u8> {
-    match dice.small(12) {
+    let interrupted = if dice.once_in(3) {
+        None
+    } else {
+        Some(Interrupted {
+            worker: dice.small(workers),
+            made: dice.below(7),
+        })
+    };
+    let fails_at = if dice.once_in(4) {
+        Some(1 + dice.below(9))
+    } else {
+        None
+    };
+    let quota = match dice.small(12) {
         0..=5 => None,
         6 => Some(0),
         7 => Some(dice.small(255)),
         _ => Some(1 + dice.small(4)),
-    }
-}
-
-/// Gives a byte that sets a commit byte, one that clears it, or one that does neither by itself.
-fn torn_byte(dice: &mut Dice) -> u8 {
-    match dice.small(3) {
-        0 => 0xa5,
-        1 => 0,
-        _ => 0xff,
-    }
-}
-
-fn interrupted(dice: &mut Dice, workers: u8) -> Option<Interrupted>
-    requires { 1 ≤ workers }
-{
-    if dice.once_in(3) {
-        return None;
-    }
-    Some(Interrupted {
-        worker: dice.small(workers),
-        made: dice.below(7),
+    };
+    Ok(Stop {
+        tenant,
+        interrupted,
+        torn,
+        fails_at,
+        quota,
     })
-}
-
-fn failing(dice: &mut Dice) -> Option<u64> {
-    if dice.once_in(4) {
-        Some(1 + dice.below(9))
-    } else {
-        None
-    }
 }

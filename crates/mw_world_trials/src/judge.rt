@@ -1,73 +1,15 @@
 //! Gives a tenant's marks to a store alone (the reference model), and compares its replies and words with the
 //! world's.
 //!
-//! Used by: `trial`, `stale_helper_tests`. It may change freely as long as this crate checks and its tests pass.
+//! Used by: `run`. It may change freely as long as this crate checks and its tests pass.
 ghost use Rattle.std.specs.Prelude.{◌<◌, length};
 
-use mw_lone::{Lone, LoneFault, Mark};
+use crate::fault::Fault;
+use mw_lone::{Lone, Mark};
 use mw_simulator::World;
-use mw_words::{At, Entries, Job, Reply, Word};
+use mw_words::{At, Job, Reply, Word};
 use mw_world::Tenant;
-use std::alloc::{AllocError, Global};
-
-/// Says how a world and a store alone disagree.
-#[derive(Clone, Copy, Debug, PartialEq, Eq)]
-pub enum Disagreement {
-    /// A worker's next step was refused.
-    Stuck,
-    /// The store refuses a mark.
-    Mark,
-    /// A reply differs.
-    Reply,
-    /// More replies were handed out, or fewer.
-    Replies,
-    /// A word has another value after a start.
-    Word,
-    /// A quota differs.
-    Quota,
-    /// Quotas that don't fit were taken, or they changed something.
-    Taken,
-}
-
-/// Says why a trial failed.
-#[derive(Clone, Copy, Debug, PartialEq, Eq)]
-pub enum TrialFault {
-    /// Memory is out.
-    Memory,
-    /// The world and a store alone disagree.
-    Disagreement(Disagreement),
-}
-
-impl TrialFault {
-    /// Gives a text for what went wrong.
-    pub(crate) fn told(self) -> &'static str {
-        match self {
-            TrialFault::Memory => "memory",
-            TrialFault::Disagreement(Disagreement::Stuck) => "stuck",
-            TrialFault::Disagreement(Disagreement::Mark) => "mark",
-            TrialFault::Disagreement(Disagreement::Reply) => "reply",
-            TrialFault::Disagreement(Disagreement::Replies) => "replies",
-            TrialFault::Disagreement(Disagreement::Word) => "word",
-            TrialFault::Disagreement(Disagreement::Quota) => "quota",
-            TrialFault::Disagreement(Disagreement::Taken) => "taken",
-        }
-    }
-}
-
-impl From<AllocError> for TrialFault {
-    fn from(_: AllocError) -> TrialFault {
-        TrialFault::Memory
-    }
-}
-
-impl From<LoneFault> for TrialFault {
-    fn from(fault: LoneFault) -> TrialFault {
-        match fault {
-            LoneFault::Illegal => TrialFault::Disagreement(Disagreement::Mark),
-            LoneFault::Memory => TrialFault::Memory,
-        }
-    }
-}
+use std::alloc::Global;
 
 /// A reply that was handed out to a tenant.
 #[derive(Clone, Copy)]
@@ -89,56 +31,59 @@ struct Alone {
 }
 
 /// Gives a tenant's marks to a new store alone with its words. The store must take them, and hand out what
-/// the tenant was handed out. The last start gave the tenant this quota.
+/// the tenant was handed out. The last start gave the tenant this quota. With `has_words` the world's words must
+/// also be those of the store.
 pub(crate) fn judge(
     alloc: Global,
     world: &World,
     tenant: u8,
     quota: u8,
     handed: &[Handed],
-) -> Result<(), TrialFault>
-    requires { tenant < length world.now.config.tenants.items }
-{
-    let mut alone = Alone::new(alloc, &world.config().tenants[usize::from(tenant)])?;
-    alone.agrees(alloc, world, tenant, quota, handed)
-}
-
-/// Does the same, and checks that the world's words are those of the store.
-pub(crate) fn judge_start(
-    alloc: Global,
-    world: &World,
-    tenant: u8,
-    quota: u8,
-    handed: &[Handed],
-) -> Result<(), TrialFault>
+    has_words: bool,
+) -> Result<(), Fault>
     requires { tenant < length world.now.config.tenants.items }
 {
     let mut alone = Alone::new(alloc, &world.config().tenants[usize::from(tenant)])?;
     alone.agrees(alloc, world, tenant, quota, handed)?;
-    alone.has_words(world, tenant)
+    if has_words {
+        alone.has_words(world, tenant)
+    } else {
+        Ok(())
+    }
 }
 
 /// Checks that these replies are those that the tenant was handed out.
-fn compare(replies: &[Reply], tenant: u8, handed: &[Handed]) -> Result<(), TrialFault> {
-    let mut others = handed.iter().filter(|handed| handed.tenant == tenant);
-    for reply in replies {
-        match others.next() {
-            Some(handed) if handed.reply == *reply => {}
-            Some(_) => return Err(TrialFault::Disagreement(Disagreement::Reply)),
-            None => return Err(TrialFault::Disagreement(Disagreement::Replies)),
+fn compare(replies: &[Reply], tenant: u8, handed: &[Handed]) -> Result<(), Fault> {
+    let mut index: usize = 0;
+    for other in handed {
+        if other.tenant == tenant {
+            match replies.get(index) {
+                Some(reply) if *reply == other.reply => index = index.saturating_add(1),
+                Some(_) => return Err(Fault::Reply),
+                None => return Err(Fault::Replies),
+            }
         }
     }
-    match others.next() {
-        Some(_) => Err(TrialFault::Disagreement(Disagreement::Replies)),
-        None => Ok(()),
+    if index == replies.len() {
+        Ok(())
+    } else {
+        Err(Fault::Replies)
     }
 }
 
 impl Alone {
     /// Makes the store alone of a tenant, with the words of its first file. It begins faulted if that is an
     /// old file.
-    fn new(alloc: Global, tenant: &Tenant) -> Result<Alone, TrialFault> {
-        let words = first_words(alloc, tenant)?;
+    fn new(alloc: Global, tenant: &Tenant) -> Result<Alone, Fault> {
+        let mut words = vec![in alloc; 0; usize::from(tenant.words)]?;
+        if let Some(change) = &tenant.old {
+            for entry in change {
+                let place = usize::from(entry.addr);
+                if place < words.len() {
+                    words[place] = entry.new;
+                }
+            }
+        }
         Ok(Alone {
             lone: Lone::new(alloc, &words, tenant.quota, tenant.old.is_some())?,
             asked: 0,
@@ -155,7 +100,7 @@ impl Alone {
         tenant: u8,
         quota: u8,
         handed: &[Handed],
-    ) -> Result<(), TrialFault>
+    ) -> Result<(), Fault>
         requires { tenant < length world.now.config.tenants.items }
     {
         let replies = self.replies(alloc, world.marks(tenant)?)?;
@@ -163,39 +108,44 @@ impl Alone {
         if self.quota == quota {
             Ok(())
         } else {
-            Err(TrialFault::Disagreement(Disagreement::Quota))
+            Err(Fault::Quota)
         }
     }
 
-    /// Checks that a tenant's words in the world are those of the store.
-    fn has_words(&mut self, world: &World, tenant: u8) -> Result<(), TrialFault>
+    /// Checks that a tenant's words in the world are those of the store, as reads of them tell.
+    fn has_words(&mut self, world: &World, tenant: u8) -> Result<(), Fault>
         requires { tenant < length world.now.config.tenants.items }
     {
         let words = world.config().tenants[usize::from(tenant)].words;
         for address in 0..words {
             let word = Word::unpack(world.word(At::Data { tenant, address }));
-            if word != Some(Word::Plain(self.value(address)?)) {
-                return Err(TrialFault::Disagreement(Disagreement::Word));
+            let request = self.asked;
+            self.mark(Mark::Ask(request, Job::Get(address)))?;
+            self.mark(Mark::Look(request))?;
+            match self.mark(Mark::Reply(request))? {
+                Some(Reply::Val(value)) if word == Some(Word::Plain(value)) => {}
+                Some(Reply::Val(_)) => return Err(Fault::Word),
+                _ => return Err(Fault::Reply),
             }
         }
         Ok(())
     }
 
     /// Gives the marks to the store. Gives the replies that it hands out.
-    fn replies(&mut self, alloc: Global, marks: Vec<Mark>) -> Result<Vec<Reply>, TrialFault> {
+    fn replies(&mut self, alloc: Global, marks: Vec<Mark>) -> Result<Vec<Reply>, Fault> {
         let mut replies = Vec::new(alloc);
         for mark in marks {
             let Some(reply) = self.mark(mark)? else {
                 continue;
             };
             if replies.push(reply).is_err() {
-                return Err(TrialFault::Memory);
+                return Err(Fault::Memory);
             }
         }
         Ok(replies)
     }
 
-    fn mark(&mut self, mark: Mark) -> Result<Option<Reply>, TrialFault> {
+    fn mark(&mut self, mark: Mark) -> Result<Option<Reply>, Fault> {
         if let Mark::Ask(request, _) = &mark {
             self.asked = request.saturating_add(1);
         }
@@ -204,42 +154,4 @@ impl Alone {
         }
         Ok(self.lone.mark(mark)?)
     }
-
-    /// Gives the store's word at an address, as a read of it tells.
-    fn value(&mut self, address: u16) -> Result<u64, TrialFault> {
-        let request = self.asked;
-        self.mark(Mark::Ask(request, Job::Get(address)))?;
-        self.mark(Mark::Look(request))?;
-        match self.mark(Mark::Reply(request))? {
-            Some(Reply::Val(value)) => Ok(value),
-            _ => Err(TrialFault::Disagreement(Disagreement::Reply)),
-        }
-    }
-}
-
-/// Gives the words of a tenant's first file.
-fn first_words(alloc: Global, tenant: &Tenant) -> Result<Vec<u64>, AllocError> {
-    let mut words = zeros(alloc, tenant.words)?;
-    if let Some(change) = &tenant.old {
-        put(&mut words, change);
-    }
-    Ok(words)
-}
-
-/// Writes a change's new values into words.
-fn put(words: &mut Vec<u64>, change: &Entries) {
-    for entry in change {
-        let place = usize::from(entry.addr);
-        if place < words.len() {
-            words[place] = entry.new;
-        }
-    }
-}
-
-fn zeros(alloc: Global, words: u16) -> Result<Vec<u64>, AllocError> {
-    let mut zeros = Vec::new(alloc);
-    for _ in 0..words {
-        zeros.push(0)?;
-    }
-    Ok(zeros)
 }

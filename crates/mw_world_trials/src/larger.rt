@@ -5,9 +5,8 @@
 //! This file only lists its modules.
 
 mod clauses;
-mod past;
+pub(crate) mod past;
 mod pins;
 mod planted_faults;
-mod seen;
+pub(crate) mod seen;
 mod tests;
-mod watch;

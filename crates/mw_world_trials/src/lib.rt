@@ -14,13 +14,15 @@ mod dice;
 #[cfg(test)]
 mod example_marks_tests;
 #[cfg(test)]
+mod fault;
+#[cfg(test)]
 mod jobs;
 #[cfg(test)]
 mod judge;
 #[cfg(test)]
 mod larger;
 #[cfg(test)]
-mod same;
+mod run;
 #[cfg(test)]
 mod schedule_tests;
 #[cfg(test)]
@@ -29,5 +31,3 @@ mod shares;
 mod stale_helper_tests;
 #[cfg(test)]
 mod tests;
-#[cfg(test)]
-mod trial;

@@ -1,7 +1,6 @@
 //! Tests which texts are schedules, and what they say.
 //!
 //! Nothing else uses it: it may change with what it tests.
-use crate::same::{MEMORY, same, same_at};
 use mw_look::{Call, Kind};
 use mw_schedule::*;
 use mw_words::Job;
@@ -9,35 +8,12 @@ use mw_world::{Interrupted, Outcome, Stop, Tenant};
 use std::alloc::{AllocError, Global};
 use std::process::Abort;
 
-/// The first lines of some schedules below. The line after them is the sixth.
-const HEAD: &[u8] = b"pool 33\nworkers 2\nseq 7\ntenant t 2 1\ntenant u-1 4096 32\n";
+/// The first lines of some schedules below. The line after them is the sixth. In the texts of this page `/` ends a
+/// line.
+const HEAD: &str = "pool 33/workers 2/seq 7/tenant t 2 1/tenant u-1 4096 32/";
 
-const SIXTEEN: &[u8] =
-    b"pool 17\nworkers 1\ntenant a 1 1\ntenant b 1 1\ntenant c 1 1\ntenant d 1 1\ntenant e 1 1\ntenant f 1 1\ntenant g 1 1\ntenant h 1 1\ntenant i 1 1\ntenant j 1 1\ntenant k 1 1\ntenant l 1 1\ntenant m 1 1\ntenant n 1 1\ntenant o 1 1\ntenant p 1 1\n";
-
-/// Gives what is wrong with a text, if anything is.
-fn fault_of(alloc: Global, text: &[u8]) -> Option<ScheduleFault> {
-    read_schedule(alloc, text).err()
-}
-
-/// Gives what is wrong with a text after another one, if anything is.
-fn fault_behind(
-    alloc: Global,
-    head: &[u8],
-    text: &[u8],
-) -> Result<Option<ScheduleFault>, AllocError> {
-    let mut whole = Vec::new(alloc);
-    whole.extend_from_slice(head)?;
-    whole.extend_from_slice(text)?;
-    Ok(fault_of(alloc, &whole))
-}
-
-/// Gives what is wrong with a line after the first lines, if anything is.
-fn line_fault(alloc: Global, line: &[u8]) -> Result<Option<ScheduleFault>, AllocError> {
-    let mut whole = line.to_vec(alloc)?;
-    whole.push(b'\n')?;
-    fault_behind(alloc, HEAD, &whole)
-}
+const SIXTEEN: &str =
+    "pool 17/workers 1/tenant a 1 1/tenant b 1 1/tenant c 1 1/tenant d 1 1/tenant e 1 1/tenant f 1 1/tenant g 1 1/tenant h 1 1/tenant i 1 1/tenant j 1 1/tenant k 1 1/tenant l 1 1/tenant m 1 1/tenant n 1 1/tenant o 1 1/tenant p 1 1/";
 
 /// Lines that are right after [`HEAD`].
 const RIGHT_LINES: &str = "\
@@ -72,19 +48,6 @@ restart t=-,-,,q99999999999999999999999999
 restart t=0,99999999999999999999999999,
 restart u-1=-,-,
 restart t=-,-, u-1=1,3,ff,2";
-
-/// Each of these lines after [`HEAD`], one a line, has this fault or none.
-fn are_so<R: Abort + AllocGlobal>(rt: &R, lines: &str, fault: Option<ScheduleFault>) {
-    for line in lines.split('\n') {
-        let found = line_fault(rt.alloc(), line.as_bytes()).expect(rt, MEMORY);
-        same_at(rt, line, &found, &fault);
-    }
-}
-
-#[test]
-fn lines_that_are_right(rt: HostRuntime) {
-    are_so(&rt, RIGHT_LINES, None);
-}
 
 /// Lines that are wrong after [`HEAD`].
 const WRONG_LINES: &str = "\
@@ -178,17 +141,34 @@ workers 2
 seq 7
 tenant v 1 1";
 
-#[test]
-fn lines_that_are_wrong(rt: HostRuntime) {
-    are_so(&rt, WRONG_LINES, Some(ScheduleFault::Wrong(6)));
+/// Texts, one a line here, which come between these others.
+#[derive(Clone, Copy)]
+struct Texts {
+    head: &'static str,
+    end: &'static str,
+    /// The number of the first line that is wrong, or `None` if these are schedules.
+    wrong: Option<u64>,
+    texts: &'static str,
 }
 
-/// The number of a line, and texts of which this is the first wrong line. A text is one line here; `/` ends
-/// each of its own lines.
-const WRONG_TEXTS: [(u64, &str); 5] = [
-    (
-        1,
-        "\
+static TEXTS: [Texts; 11] = [
+    Texts {
+        head: HEAD,
+        end: "/",
+        wrong: None,
+        texts: RIGHT_LINES,
+    },
+    Texts {
+        head: HEAD,
+        end: "/",
+        wrong: Some(6),
+        texts: WRONG_LINES,
+    },
+    Texts {
+        head: "",
+        end: "",
+        wrong: Some(1),
+        texts: "\
 /
 pool 1
 
@@ -200,20 +180,24 @@ pool 1 /
 pool 1\r/
 workers 1/pool 1/
 # pool/pool 1/",
-    ),
-    (
-        2,
-        "\
+    },
+    Texts {
+        head: "",
+        end: "",
+        wrong: Some(2),
+        texts: "\
 pool 1/
 pool 1/pool 1/
 pool 1/workers 0/
 pool 1/workers 65/
 pool 1/tenant t 1 1/
 pool 1/workers 1",
-    ),
-    (
-        3,
-        "\
+    },
+    Texts {
+        head: "",
+        end: "",
+        wrong: Some(3),
+        texts: "\
 pool 1/workers 1/
 pool 1/workers 1/step 0/
 pool 1/workers 1/seq 281474976710655/tenant t 1 1/
@@ -231,10 +215,12 @@ pool 1/workers 1/tenant t 1/
 pool 1/workers 1/tenant t 1 1 t.mw/
 pool 1/workers 1/tenant t 01 1/
 pool 1/workers 1/tenant  1 1/",
-    ),
-    (
-        4,
-        "\
+    },
+    Texts {
+        head: "",
+        end: "",
+        wrong: Some(4),
+        texts: "\
 pool 1/workers 1/seq 0/
 pool 1/workers 1/seq 0/seq 0/tenant t 1 1/
 pool 1/workers 1/seq 0/end 0/
@@ -243,65 +229,81 @@ pool 2/workers 1/tenant t 1 1/tenant u 1 2/
 pool 1/workers 1/tenant t 1 1/seq 0/
 pool 1/workers 1/tenant t 1 1/step 0
 pool 1/workers 1/tenant t 1 1//",
-    ),
-    (
-        5,
-        "\
+    },
+    Texts {
+        head: "",
+        end: "",
+        wrong: Some(5),
+        texts: "\
 pool 2/workers 1/tenant t 1 1/step 0/tenant u 1 1/
 pool 1/workers 1/tenant t 1 1/step 0/step 64/step/",
-    ),
+    },
+    Texts {
+        head: "",
+        end: "/",
+        wrong: None,
+        texts: "\
+pool 1/workers 1/tenant t 1 1
+pool 256/workers 64/seq 281474976710654/tenant abcdefghijklmnop 4096 64",
+    },
+    Texts {
+        head: HEAD,
+        end: "",
+        wrong: None,
+        texts: "",
+    },
+    Texts {
+        head: SIXTEEN,
+        end: "",
+        wrong: None,
+        texts: "",
+    },
+    Texts {
+        head: SIXTEEN,
+        end: "/",
+        wrong: Some(19),
+        texts: "tenant q 1 1",
+    },
 ];
 
-/// Gives a text with a line feed for each `/`.
-fn with_line_ends(alloc: Global, text: &str) -> Result<Vec<u8>, AllocError> {
-    let mut bytes = text.as_bytes().to_vec(alloc)?;
-    for byte in bytes.iter_mut() {
-        if *byte == b'/' {
-            *byte = b'\n';
-        }
+/// Adds a text, with a line feed for each `/`.
+fn add(whole: &mut Vec<u8>, text: &str) -> Result<(), AllocError> {
+    for byte in text.as_bytes() {
+        whole.push(if *byte == b'/' { b'\n' } else { *byte })?;
     }
-    Ok(bytes)
+    Ok(())
 }
 
-/// In each of these texts the first wrong line is the one with this number.
-fn are_wrong<R: Abort + AllocGlobal>(rt: &R, number: u64, texts: &str) {
-    let wrong = Some(ScheduleFault::Wrong(number));
-    for text in texts.split('\n') {
-        let whole = with_line_ends(rt.alloc(), text).expect(rt, MEMORY);
-        same_at(rt, text, &fault_of(rt.alloc(), &whole), &wrong);
+/// Reads the schedule of a text between two others.
+fn read(alloc: Global, head: &str, text: &str, end: &str) -> Result<Schedule, ScheduleFault> {
+    let mut whole = Vec::new(alloc);
+    add(&mut whole, head)?;
+    add(&mut whole, text)?;
+    add(&mut whole, end)?;
+    read_schedule(alloc, &whole)
+}
+
+/// In each of these texts the first wrong line is the one that is told, or none is wrong.
+fn are_so<R: Abort + AllocGlobal>(rt: &R, texts: Texts) {
+    for text in texts.texts.split('\n') {
+        let found = match read(rt.alloc(), texts.head, text, texts.end) {
+            Ok(_) => None,
+            Err(ScheduleFault::Wrong(number)) => Some(number),
+            Err(ScheduleFault::Memory) => Some(0),
+        };
+        assert!(rt; found == texts.wrong, "{text}: {found:?}");
     }
 }
 
 #[test]
-fn first_lines_that_are_wrong(rt: HostRuntime) {
-    for (number, texts) in WRONG_TEXTS {
-        are_wrong(&rt, number, texts);
+fn texts_that_are_schedules(rt: HostRuntime) {
+    for texts in TEXTS {
+        are_so(&rt, texts);
     }
 }
 
-#[test]
-fn first_lines_that_are_right(rt: HostRuntime) {
-    let texts: [(&str, &[u8]); 4] = [
-        ("least", b"pool 1\nworkers 1\ntenant t 1 1\n"),
-        (
-            "most",
-            b"pool 256\nworkers 64\nseq 281474976710654\ntenant abcdefghijklmnop 4096 64\n",
-        ),
-        ("sixteen", SIXTEEN),
-        ("head", HEAD),
-    ];
-    for (name, text) in texts {
-        same_at(&rt, name, &fault_of(rt.alloc(), text), &None);
-    }
-    let more = fault_behind(rt.alloc(), SIXTEEN, b"tenant q 1 1\n").expect(&rt, MEMORY);
-    same(&rt, &more, &Some(ScheduleFault::Wrong(19)));
-}
-
-/// A name of a step, and its kind, if there is one.
-type Named = (&'static str, Option<StepKind>);
-
-/// The names of steps that change a word, and what they change.
-const CHANGES: [Named; 14] = [
+/// Names of steps that change a word, of calls on a file, of a step that changes nothing, and two names of none.
+static NAMES: [(&str, Option<StepKind>); 21] = [
     ("admit", Some(StepKind::Change(Kind::Admit))),
     ("claim", Some(StepKind::Change(Kind::Claim))),
     ("fill", Some(StepKind::Change(Kind::Fill))),
@@ -316,180 +318,100 @@ const CHANGES: [Named; 14] = [
     ("decide-no", Some(StepKind::Change(Kind::DecideNo))),
     ("release", Some(StepKind::Change(Kind::Release))),
     ("clean", Some(StepKind::Change(Kind::Clean))),
-];
-
-/// The names of calls on a file.
-const CALLS: [Named; 4] = [
     ("prepare", Some(StepKind::File(Call::Prepare))),
     ("seal", Some(StepKind::File(Call::Seal))),
     ("settle", Some(StepKind::File(Call::Settle))),
     ("cancel", Some(StepKind::File(Call::Cancel))),
-];
-
-/// The name of a step that changes nothing, and two names of none.
-const NO_CHANGES: [Named; 3] = [
     ("load", Some(StepKind::Load)),
     ("ready", None),
     ("fault", None),
 ];
 
-/// Each of these is the kind of step of its name.
-fn are_named<R: Abort>(rt: &R, names: &[Named]) {
-    for (name, kind) in names {
-        same_at(rt, name, &StepKind::named(name.as_bytes()), kind);
+#[test]
+fn names_of_steps(rt: HostRuntime) {
+    for (name, kind) in NAMES {
+        assert!(rt; StepKind::named(name.as_bytes()) == kind, "{name}");
     }
 }
 
-#[test]
-fn kinds_of_steps(rt: HostRuntime) {
-    are_named(&rt, &CHANGES);
-}
-
-#[test]
-fn kinds_of_calls(rt: HostRuntime) {
-    are_named(&rt, &CALLS);
-}
-
-#[test]
-fn kinds_that_change_nothing(rt: HostRuntime) {
-    are_named(&rt, &NO_CHANGES);
-}
-
-/// Reads the schedule of this text.
-fn schedule_of<R: Abort + AllocGlobal>(rt: &R, text: &[u8]) -> Schedule {
-    read_schedule(rt.alloc(), text).expect(rt, "a schedule")
-}
-
-fn is_tenant(tenant: &Tenant, name: &[u8], words: u16, quota: u8) -> bool {
-    tenant.name.as_slice() == name && (tenant.words, tenant.quota) == (words, quota)
-}
-
-/// Tells whether these tenants are those of [`HEAD`].
-fn are_tenants(tenants: &[Tenant]) -> bool {
-    match tenants {
-        [first, second] => is_tenant(first, b"t", 2, 1) && is_tenant(second, b"u-1", 4096, 32),
-        _ => false,
-    }
-}
-
-#[test]
-fn the_world_that_is_told(rt: HostRuntime) {
-    let config = schedule_of(&rt, HEAD).config;
-    assert!(rt; (config.pool, config.workers, config.seq) == (33, 2, 7));
-    assert!(rt; are_tenants(&config.tenants));
-}
-
-#[test]
-fn a_world_without_a_first_number(rt: HostRuntime) {
-    let plain = schedule_of(&rt, b"pool 1\nworkers 1\ntenant t 1 1\n");
-    assert!(rt; (plain.config.seq, plain.lines.len()) == (0, 0));
-}
-
-/// A command a line, from the fifth line on.
-const COMMANDS: &[u8] =
-    b"pool 2\nworkers 1\ntenant t 1 1\ntenant u 9 1\ncome 3 u GET 8\nstep 4\nfile 5 good\nfile 6 7\nbefore 8 plant\nto 9 seal\nend 10\n";
+/// A command a line, from the sixth line on, after [`HEAD`]. The second stop's quota is the greatest that a stop says,
+/// and the failure of a device call in the last line never comes.
+const COMMANDS: &str =
+    "come 3 u-1 GET 8/step 4/file 5 good/file 6 7/before 8 plant/to 9 seal/end 10/restart u-1=3,4,00a5ff,6,q2 t=-,-,,q300/file 0 99999999999999999999/";
 
 /// Tells whether a command of [`COMMANDS`] is the one in the line with this number.
 fn is_command(number: u64, command: &Command) -> bool {
     match command {
         Command::Come(worker, tenant, job) => {
-            (number, *worker, *tenant) == (5, 3, 1) && *job == Job::Get(8)
+            (number, *worker, *tenant) == (6, 3, 1) && *job == Job::Get(8)
         }
-        Command::Step(worker) => (number, *worker) == (6, 4),
-        Command::File(worker, outcome) => is_file_command(number, *worker, *outcome),
+        Command::Step(worker) => (number, *worker) == (7, 4),
+        Command::File(worker, Outcome::Good) => (number, *worker) == (8, 5),
+        Command::File(worker, Outcome::Fail(at)) => match number {
+            9 => (*worker, *at) == (6, 7),
+            _ => (number, *worker, *at) == (14, 0, u64::MAX),
+        },
         Command::Before(worker, kind) => {
-            (number, *worker) == (9, 8) && *kind == StepKind::Change(Kind::Plant)
+            (number, *worker) == (10, 8) && *kind == StepKind::Change(Kind::Plant)
         }
         Command::To(worker, kind) => {
-            (number, *worker) == (10, 9) && *kind == StepKind::File(Call::Seal)
+            (number, *worker) == (11, 9) && *kind == StepKind::File(Call::Seal)
         }
-        Command::End(worker) => (number, *worker) == (11, 10),
-        Command::Restart(_) => false,
+        Command::End(worker) => (number, *worker) == (12, 10),
+        Command::Restart(stops) => number == 13 && are_stops(stops),
     }
 }
 
-fn is_file_command(number: u64, worker: u8, outcome: Outcome) -> bool {
-    match outcome {
-        Outcome::Good => (number, worker) == (7, 5),
-        Outcome::Fail(at) => (number, worker, at) == (8, 6, 7),
-    }
+/// Tells whether these stops are those of [`COMMANDS`]: one that is cut off, with torn bytes and an opening that fails,
+/// and one that isn't.
+fn are_stops(stops: &[Stop]) -> bool {
+    let [cut, whole] = stops else {
+        return false;
+    };
+    let interrupted = Some(Interrupted { worker: 3, made: 4 });
+    let torn: &[u8] = &[0, 0xa5, 0xff];
+    (cut.tenant, cut.interrupted) == (1, interrupted)
+        && cut.torn.as_slice() == torn
+        && (cut.fails_at, cut.quota) == (Some(6), Some(2))
+        && (whole.tenant, whole.interrupted) == (0, None)
+        && whole.torn.is_empty()
+        && (whole.fails_at, whole.quota) == (None, Some(255))
+}
+
+/// Tells whether these tenants are those of [`HEAD`].
+fn are_tenants(tenants: &[Tenant]) -> bool {
+    let [first, second] = tenants else {
+        return false;
+    };
+    first.name.as_slice() == b"t".as_slice()
+        && (first.words, first.quota) == (2, 1)
+        && second.name.as_slice() == b"u-1".as_slice()
+        && (second.words, second.quota) == (4096, 32)
 }
 
 #[test]
 fn what_is_to_happen(rt: HostRuntime) {
-    let schedule = schedule_of(&rt, COMMANDS);
-    assert!(rt; schedule.lines.len() == 7);
-    let mut number: u64 = 5;
+    let schedule = read(rt.alloc(), HEAD, COMMANDS, "").expect(&rt, "a schedule");
+    let config = &schedule.config;
+    assert!(rt;
+        (config.pool, config.workers, config.seq) == (33, 2, 7),
+        "the first lines"
+    );
+    assert!(rt; are_tenants(&config.tenants), "tenants");
+    let mut number: u64 = 6;
     for line in &schedule.lines {
-        assert!(rt;
-            line.number == number && is_command(number, &line.command),
-            "line {number}"
-        );
+        let is_so = line.number == number && is_command(number, &line.command);
+        assert!(rt; is_so, "line {number}");
         number = number.saturating_add(1);
     }
-}
-
-/// Tells whether a stop is that of this tenant, cut off there, with these torn bytes, an opening that fails
-/// there, and this quota.
-fn is_stop(
-    stop: &Stop,
-    tenant: u8,
-    interrupted: Option<Interrupted>,
-    torn: &[u8],
-    start: (Option<u64>, Option<u8>),
-) -> bool {
-    let is_cut = (stop.tenant, stop.interrupted) == (tenant, interrupted);
-    is_cut && stop.torn.as_slice() == torn && (stop.fails_at, stop.quota) == start
-}
-
-/// A stop that is cut off, and one that isn't. The second one's quota is the greatest that a stop says.
-const STOPS: &[u8] =
-    b"pool 2\nworkers 1\ntenant t 1 1\ntenant u 9 1\nrestart u=3,4,00a5ff,6,q2 t=-,-,,q300\n";
-
-/// Tells whether these stops are those of [`STOPS`].
-fn are_stops(stops: &[Stop]) -> bool {
-    let interrupted = Some(Interrupted { worker: 3, made: 4 });
-    match stops {
-        [first, second] => {
-            is_stop(first, 1, interrupted, &[0, 0xa5, 0xff], (Some(6), Some(2)))
-                && is_stop(second, 0, None, &[], (None, Some(255)))
-        }
-        _ => false,
-    }
-}
-
-/// Tells whether a schedule's first line has the stops of [`STOPS`].
-fn stops_first(schedule: &Schedule) -> bool {
-    match schedule.lines.first() {
-        Some(line) => match &line.command {
-            Command::Restart(stops) => are_stops(stops),
-            _ => false,
-        },
-        None => false,
-    }
+    assert!(rt; number == 15, "how many lines");
 }
 
 #[test]
-fn how_all_stops(rt: HostRuntime) {
-    let schedule = schedule_of(&rt, STOPS);
-    assert!(rt; stops_first(&schedule));
-}
-
-/// Tells whether a schedule has one line: a call of worker 0 with a failure of a device call that never
-/// comes.
-fn fails_never(schedule: &Schedule) -> bool {
-    match schedule.lines.as_slice() {
-        [line] => match &line.command {
-            Command::File(0, outcome) => *outcome == Outcome::Fail(u64::MAX),
-            _ => false,
-        },
-        _ => false,
-    }
-}
-
-#[test]
-fn numbers_that_are_too_large(rt: HostRuntime) {
-    let text = b"pool 1\nworkers 1\ntenant t 1 1\nfile 0 99999999999999999999\n";
-    let schedule = schedule_of(&rt, text);
-    assert!(rt; fails_never(&schedule));
+fn a_world_without_a_first_number(rt: HostRuntime) {
+    let schedule = read(rt.alloc(), "", "pool 1/workers 1/tenant t 1 1/", "").expect(
+        &rt,
+        "a schedule",
+    );
+    assert!(rt; (schedule.config.seq, schedule.lines.len()) == (0, 0));
 }

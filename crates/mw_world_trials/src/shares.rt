@@ -1,6 +1,6 @@
 //! Keeps how many slots each tenant of a world may use at a time, and says which quotas a start can give.
 //!
-//! Used by: `trial`, and the larger runs. It may change freely as long as this crate checks and its tests pass.
+//! Used by: `run`, `larger`. It may change freely as long as this crate checks and its tests pass.
 
 use mw_words::{MAX_PLACES, MAX_QUOTA};
 use mw_world::{Config, Stop};
@@ -28,7 +28,8 @@ pub(crate) fn first_shares(alloc: Global, config: &Config) -> Result<Vec<Share>,
     Ok(shares)
 }
 
-/// Gives what they may use after a start, or `None` if the start can't give the quotas of its stops.
+/// Gives what they may use after a start, or `None` if the start can't give the quotas of its stops. The stops are
+/// one for each tenant, in their order.
 pub(crate) fn shares_after(
     alloc: Global,
     shares: &[Share],
@@ -37,30 +38,24 @@ pub(crate) fn shares_after(
 ) -> Result<Option<Vec<Share>>, AllocError> {
     let mut after = Vec::new(alloc);
     for (tenant, share) in shares.iter().enumerate() {
+        let told = match stops.get(tenant) {
+            Some(stop) => stop.quota,
+            None => None,
+        };
         after.push(Share {
-            quota: told(stops, tenant).unwrap_or(share.quota),
+            quota: told.unwrap_or(share.quota),
             places: share.places,
         })?;
     }
-    if can_be(&after, pool) {
+    if can_be(&after, u64::from(pool)) {
         Ok(Some(after))
     } else {
         Ok(None)
     }
 }
 
-/// Gives the quota that the stops say for a tenant.
-fn told(stops: &[Stop], tenant: usize) -> Option<u8> {
-    for stop in stops {
-        if usize::from(stop.tenant) == tenant {
-            return stop.quota;
-        }
-    }
-    None
-}
-
 /// Tells whether tenants can have these quotas, from a pool of so many slots.
-pub(crate) fn can_be(shares: &[Share], pool: u16) -> bool {
+pub(crate) fn can_be(shares: &[Share], pool: u64) -> bool {
     let mut together: u64 = 0;
     for share in shares {
         if share.quota == 0 || share.quota > MAX_QUOTA || u16::from(share.quota) > share.places {
@@ -68,7 +63,7 @@ pub(crate) fn can_be(shares: &[Share], pool: u16) -> bool {
         }
         together = together.saturating_add(u64::from(share.quota));
     }
-    together <= u64::from(pool)
+    together <= pool
 }
 
 /// Gives stops with the same quotas, and nothing else.

@@ -5,12 +5,11 @@
 ghost use Rattle.std.specs.Prelude.{◌≡◌, ◌<◌, length};
 ghost use Rattle.mw_world.specs.Definition.State.{IsConfig};
 
-use crate::judge::{Disagreement, TrialFault};
-use crate::same::same;
+use crate::fault::Fault;
 use arrayvec::ArrayVec;
 use mw_lone::Lone;
 use mw_look::{Kind, Op};
-use mw_simulator::{World, WorldFault};
+use mw_simulator::World;
 use mw_words::{Entries, Entry, Job, Name, Reply};
 use mw_world::{Config, Event, Outcome, Tenant};
 use std::alloc::Global;
@@ -18,15 +17,40 @@ use std::alloc::Global;
 /// More steps than any part of the schedule takes.
 const MOST_STEPS: u64 = 200;
 
-/// Gives what a test says of an event that was refused.
-fn trial_fault(fault: WorldFault) -> TrialFault {
-    match fault {
-        WorldFault::Memory => TrialFault::Memory,
-        WorldFault::NotEnabled | WorldFault::LastNumber => {
-            TrialFault::Disagreement(Disagreement::Stuck)
-        }
-    }
+/// An address, the value that a change expects there, and its new value.
+type Write = (u16, u64, u64);
+
+/// What a worker does next in the schedule.
+#[derive(Clone, Copy)]
+enum Move {
+    /// Begins a change of one or two words.
+    Change(Write, Option<Write>),
+    /// Begins a read of the word at this address.
+    Get(u16),
+    /// Makes steps until its next step is of this kind.
+    Before(Kind),
+    /// Makes steps until it has made one of this kind.
+    To(Kind),
+    /// Makes steps until it has its reply, and hands it out.
+    End,
 }
+
+/// The schedule: what each worker does. Worker 2 comes to its plant while worker 0 has its attempt at the same
+/// word. Worker 1 finishes worker 0's change for it, and makes one of its own.
+static SCHEDULE: [(u8, Move); 12] = [
+    (0, Move::Change((0, 0, 1), Some((1, 0, 1)))),
+    (0, Move::To(Kind::Resolve)),
+    (2, Move::Change((0, 0, 9), None)),
+    (2, Move::Before(Kind::Plant)),
+    (0, Move::Before(Kind::Resolve)),
+    (1, Move::Change((1, 1, 0), None)),
+    (1, Move::End),
+    (2, Move::To(Kind::Plant)),
+    (0, Move::End),
+    (2, Move::End),
+    (1, Move::Get(1)),
+    (1, Move::End),
+];
 
 /// Makes the configuration of one tenant of two words, with three workers and three slots.
 fn world_of_three() -> Config
@@ -49,34 +73,26 @@ fn world_of_three() -> Config
     }
 }
 
-/// Makes a change of one word.
-fn change(addr: u16, expected: u64, new: u64) -> Job {
+/// Makes a change of one or two words.
+fn change(first: Write, second: Option<Write>) -> Job {
     let mut entries = Entries::new();
+    let (addr, expected, new) = first;
     entries.push(Entry {
         addr,
         expected,
         new,
     });
+    if let Some((addr, expected, new)) = second {
+        entries.push(Entry {
+            addr,
+            expected,
+            new,
+        });
+    }
     Job::Cas(entries)
 }
 
-/// Makes a change of both words from 0 to 1.
-fn change_both() -> Job {
-    let mut entries = Entries::new();
-    entries.push(Entry {
-        addr: 0,
-        expected: 0,
-        new: 1,
-    });
-    entries.push(Entry {
-        addr: 1,
-        expected: 0,
-        new: 1,
-    });
-    Job::Cas(entries)
-}
-
-/// A world that follows a schedule, and the events so far.
+/// A world that follows the schedule, and the events so far.
 #[derive(Drop)]
 struct Plan {
     world: World,
@@ -85,21 +101,11 @@ struct Plan {
 
 impl Plan {
     /// Makes an event, given twice: once for the world and once for the list.
-    fn make(&mut self, event: Event, again: Event) -> Result<(), TrialFault> {
+    fn make(&mut self, event: Event, again: Event) -> Result<(), Fault> {
         if self.events.push(again).is_err() {
-            return Err(TrialFault::Memory);
+            return Err(Fault::Memory);
         }
-        match self.world.step(event) {
-            Ok(()) => Ok(()),
-            Err(fault) => Err(trial_fault(fault)),
-        }
-    }
-
-    fn come(&mut self, worker: u8, job: Job) -> Result<(), TrialFault> {
-        self.make(
-            Event::Come(worker, 0, job.copy()),
-            Event::Come(worker, 0, job),
-        )
+        Ok(self.world.step(event)?)
     }
 
     /// Gives a worker's next step, and none if it has its reply or no request.
@@ -116,7 +122,7 @@ impl Plan {
         Some(actor.ask())
     }
 
-    fn go_on(&mut self, worker: u8) -> Result<(), TrialFault> {
+    fn go_on(&mut self, worker: u8) -> Result<(), Fault> {
         match self.next(worker) {
             Some(Op::File { .. }) => self.make(
                 Event::File(worker, Outcome::Good),
@@ -126,71 +132,52 @@ impl Plan {
         }
     }
 
-    /// Makes a worker's steps until its next step is of this kind.
-    fn before(&mut self, worker: u8, kind: Kind) -> Result<(), TrialFault> {
+    /// Makes a worker's steps until its next step is of this kind, or with no kind until it has its reply.
+    fn until(&mut self, worker: u8, wanted: Option<Kind>) -> Result<(), Fault> {
         for _ in 0..MOST_STEPS {
-            match self.next(worker) {
-                Some(Op::Change { kind: its, .. }) if its == kind => return Ok(()),
+            match (self.next(worker), wanted) {
+                (None, None) => return Ok(()),
+                (Some(Op::Change { kind, .. }), Some(wanted)) if kind == wanted => return Ok(()),
                 _ => self.go_on(worker)?,
             }
         }
-        Err(TrialFault::Disagreement(Disagreement::Stuck))
+        Err(Fault::Stuck)
     }
 
-    /// Makes a worker's steps until it has made one of this kind.
-    fn to(&mut self, worker: u8, kind: Kind) -> Result<(), TrialFault> {
-        self.before(worker, kind)?;
-        self.go_on(worker)
-    }
-
-    /// Makes a worker's steps until it has its reply, and hands it out.
-    fn end(&mut self, worker: u8) -> Result<(), TrialFault> {
-        for _ in 0..MOST_STEPS {
-            if self.next(worker).is_none() {
+    /// Makes the events of what a worker does.
+    fn follow(&mut self, worker: u8, what: Move) -> Result<(), Fault> {
+        let job = match what {
+            Move::Change(first, second) => change(first, second),
+            Move::Get(addr) => Job::Get(addr),
+            Move::Before(kind) => return self.until(worker, Some(kind)),
+            Move::To(kind) => {
+                self.until(worker, Some(kind))?;
+                return self.go_on(worker);
+            }
+            Move::End => {
+                self.until(worker, None)?;
                 return self.make(Event::Hand(worker), Event::Hand(worker));
             }
-            self.go_on(worker)?;
-        }
-        Err(TrialFault::Disagreement(Disagreement::Stuck))
+        };
+        let again = job.copy();
+        self.make(Event::Come(worker, 0, job), Event::Come(worker, 0, again))
     }
 }
 
-/// Worker 2 comes to its plant while worker 0 has its attempt at the same word. Worker 1 finishes worker
-/// 0's change for it, and makes one of its own.
-fn late_plant(alloc: Global) -> Result<Vec<Event>, TrialFault> {
+/// Gives the events of the schedule.
+fn late_plant(alloc: Global) -> Result<Vec<Event>, Fault> {
     let mut plan = Plan {
         world: World::new(alloc, world_of_three())?,
         events: Vec::new(alloc),
     };
-    come_to_a_plant(&mut plan)?;
-    finish_for_another(&mut plan)?;
-    plant_late(&mut plan)?;
+    for (worker, what) in SCHEDULE {
+        plan.follow(worker, what)?;
+    }
     Ok(plan.events)
 }
 
-fn come_to_a_plant(plan: &mut Plan) -> Result<(), TrialFault> {
-    plan.come(0, change_both())?;
-    plan.to(0, Kind::Resolve)?;
-    plan.come(2, change(0, 0, 9))?;
-    plan.before(2, Kind::Plant)
-}
-
-fn finish_for_another(plan: &mut Plan) -> Result<(), TrialFault> {
-    plan.before(0, Kind::Resolve)?;
-    plan.come(1, change(1, 1, 0))?;
-    plan.end(1)
-}
-
-fn plant_late(plan: &mut Plan) -> Result<(), TrialFault> {
-    plan.to(2, Kind::Plant)?;
-    plan.end(0)?;
-    plan.end(2)?;
-    plan.come(1, Job::Get(1))?;
-    plan.end(1)
-}
-
 /// Gives the replies that a store alone hands out for a tenant's marks.
-fn replies_of(alloc: Global, world: &World) -> Result<Vec<Reply>, TrialFault>
+fn replies_of(alloc: Global, world: &World) -> Result<Vec<Reply>, Fault>
     requires { 0 < length world.now.config.tenants.items }
 {
     let mut lone = Lone::new(alloc, &[0, 0], 3, false)?;
@@ -198,18 +185,20 @@ fn replies_of(alloc: Global, world: &World) -> Result<Vec<Reply>, TrialFault>
     for mark in world.marks(0)? {
         if let Some(reply) = lone.mark(mark)? {
             if replies.push(reply).is_err() {
-                return Err(TrialFault::Memory);
+                return Err(Fault::Memory);
             }
         }
     }
     Ok(replies)
 }
 
-/// Runs these events. Gives how many attempts each worker has made, and what a store alone replies.
-fn left_by(alloc: Global, events: &[Event]) -> Result<([u64; 3], Vec<Reply>), TrialFault> {
+/// Runs the events of the schedule in a new world. Gives how many attempts each worker has made, and what a store
+/// alone replies.
+fn left_by_late_plant(alloc: Global) -> Result<([u64; 3], Vec<Reply>), Fault> {
+    let events = late_plant(alloc)?;
     let mut world = World::new(alloc, world_of_three())?;
-    if let Err((_, fault)) = world.run(events) {
-        return Err(trial_fault(fault));
+    if let Err((_, fault)) = world.run(&events) {
+        return Err(Fault::from(fault));
     }
     let attempts = [world.attempt(0), world.attempt(1), world.attempt(2)];
     Ok((attempts, replies_of(alloc, &world)?))
@@ -217,9 +206,15 @@ fn left_by(alloc: Global, events: &[Event]) -> Result<([u64; 3], Vec<Reply>), Tr
 
 #[test]
 fn late_finisher(rt: HostRuntime) {
-    let events = late_plant(rt.alloc()).expect(&rt, "the events can be made");
-    let (attempts, replies) = left_by(rt.alloc(), &events).expect(&rt, "they can be run");
-    same(&rt, &attempts, &[2, 1, 1]);
-    let wanted = [Reply::Yes, Reply::Yes, Reply::No(0, 1), Reply::Val(0)];
-    same(&rt, &replies.as_slice(), &wanted.as_slice());
+    match left_by_late_plant(rt.alloc()) {
+        Ok((attempts, replies)) => {
+            let wanted = [Reply::Yes, Reply::Yes, Reply::No(0, 1), Reply::Val(0)];
+            assert!(rt; attempts == [2, 1, 1], "attempts");
+            assert!(rt; replies.as_slice() == wanted.as_slice(), "replies");
+        }
+        Err(fault) => {
+            let (wrong, _) = fault.told();
+            assert!(rt; false, "late finisher: {wrong}");
+        }
+    }
 }

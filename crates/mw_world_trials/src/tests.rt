@@ -2,7 +2,11 @@
 //!
 //! Nothing else uses it: it may change with what it tests.
 
-use crate::trial::{Tally, play};
+use crate::dice::Dice;
+use crate::fault::Fault;
+use crate::jobs::small_world;
+use crate::run::{Run, Tally};
+use std::alloc::Global;
 use std::process::Abort;
 
 /// How many trials there are, and how many events each has.
@@ -15,35 +19,44 @@ const LONG_TRIALS: u64 = 200;
 
 const MANY_EVENTS: u64 = 5_000;
 
-/// Gives what happened in so many trials of so many events. All of them must succeed.
-fn play_all<R: Abort + AllocGlobal>(rt: &R, trials: u64, events: u64) -> Tally {
-    let mut sum = Tally::default();
+/// Plays so many events that this seed chooses, and compares the world with a store alone. Adds what happened
+/// to what happened in other trials.
+fn play(alloc: Global, seed: u64, events: u64, tally: Tally) -> Result<Tally, Fault> {
+    let mut dice = Dice::new(seed);
+    let mut run = Run::new(alloc, small_world(&mut dice), false)?;
+    run.tally = tally;
+    for _ in 0..events {
+        run.go_on(&mut dice)?;
+    }
+    run.judge(false)?;
+    Ok(run.tally)
+}
+
+/// Plays so many trials of so many events. All of them must succeed, and in them there must be many
+/// interruptions, failures, refusals and gifts.
+fn play_all<R: Abort + AllocGlobal>(rt: &R, trials: u64, events: u64) {
+    let mut tally = Tally::default();
     for seed in 0..trials {
-        match play(rt.alloc(), seed, events) {
-            Ok(tally) => sum.add(&tally),
+        match play(rt.alloc(), seed, events, tally) {
+            Ok(sum) => tally = sum,
             Err(fault) => {
-                let wrong = fault.told();
+                let (wrong, _) = fault.told();
                 assert!(rt; false, "seed {seed}: {wrong}");
             }
         }
     }
-    sum
-}
-
-/// In so many trials there were many interruptions, failures, refusals and gifts.
-fn has_much<R: Abort>(rt: &R, sum: &Tally, trials: u64) {
-    assert!(rt; sum.interruptions > trials / 4);
-    assert!(rt; sum.failures > trials / 8);
-    assert!(rt; sum.refusals > trials / 4);
-    assert!(rt; sum.gifts > trials / 4);
+    assert!(rt; tally.interruptions > trials / 4, "interruptions");
+    assert!(rt; tally.failures > trials / 8, "failures");
+    assert!(rt; tally.refusals > trials / 4, "refusals");
+    assert!(rt; tally.gifts > trials / 4, "gifts");
 }
 
 #[test]
 fn worlds_agree_with_stores(rt: HostRuntime) {
-    has_much(&rt, &play_all(&rt, TRIALS, EVENTS), TRIALS);
+    play_all(&rt, TRIALS, EVENTS);
 }
 
 #[test]
 fn long_runs_agree_with_stores(rt: HostRuntime) {
-    has_much(&rt, &play_all(&rt, LONG_TRIALS, MANY_EVENTS), LONG_TRIALS);
+    play_all(&rt, LONG_TRIALS, MANY_EVENTS);
 }

@@ -8,10 +8,10 @@ ghost use Rattle.std.specs.Prelude.{◌<◌, IfSome, length};
 use crate::larger::seen::{Datum, Seen};
 use arrayvec::ArrayVec;
 use mw_actor::{Actor, Point, Slot};
-use mw_look::{Call, Op};
+use mw_look::Op;
 use mw_words::{At, Entry, MAX_ENTRIES, Status, Word};
 use mw_world::Phase;
-use std::alloc::{AllocError, Global};
+use std::alloc::AllocError;
 
 /// An entry of a change, and what has become of its word.
 #[derive(Clone, Copy)]
@@ -69,15 +69,6 @@ pub(crate) enum ChangeUpdate {
 }
 
 impl Past {
-    /// Makes a past in which nothing has happened.
-    pub(crate) fn new(alloc: Global) -> Past {
-        Past {
-            changes: Vec::new(alloc),
-            contents: Vec::new(alloc),
-            is_stray: false,
-        }
-    }
-
     /// Gives a change by its slot and number.
     pub(crate) fn find(&self, slot: Slot) -> Option<&Change> {
         self.changes.get(self.index_of(slot)?)
@@ -95,14 +86,6 @@ impl Past {
         None
     }
 
-    /// Gives the status of a change. A change that never claimed its slot has that of a draft.
-    pub(crate) fn fate(&self, slot: Slot) -> Status {
-        match self.find(slot) {
-            Some(change) => change.fate,
-            None => Status::Draft,
-        }
-    }
-
     /// Gives the value of a word in the tenant's file.
     pub(crate) fn content(&self, tenant: u8, address: u16) -> Option<u64> {
         for content in &self.contents {
@@ -115,49 +98,24 @@ impl Past {
 
     /// Records what a step of this request did to a change.
     pub(crate) fn keep(&mut self, deed: ChangeUpdate, actor: &Actor) -> Result<(), AllocError> {
-        match deed {
-            ChangeUpdate::Nothing => {}
-            ChangeUpdate::Claims(slot) => self.changes.push(born(slot, actor))?,
-            ChangeUpdate::Becomes(slot, status) => self.turns_to(slot, status),
-            ChangeUpdate::Moves(slot, address, phase) => self.move_word(slot, address, phase),
-            ChangeUpdate::Leaves(slot) => self.leave(slot),
-        }
-        Ok(())
-    }
-
-    fn turns_to(&mut self, slot: Slot, status: Status) {
+        let slot = match deed {
+            ChangeUpdate::Nothing => return Ok(()),
+            ChangeUpdate::Claims(slot) => return Ok(self.changes.push(born(slot, actor))?),
+            ChangeUpdate::Becomes(slot, _)
+            | ChangeUpdate::Moves(slot, _, _)
+            | ChangeUpdate::Leaves(slot) => slot,
+        };
         let mut is_found = false;
         for change in &mut self.changes {
             if change.slot == slot {
-                change.fate = status;
-                is_found = true;
+                is_found = change.update(deed);
             }
         }
         self.is_stray = self.is_stray || !is_found;
-        if matches!(status, Status::Yes) {
+        if matches!(deed, ChangeUpdate::Becomes(_, Status::Yes)) {
             self.write(slot);
         }
-    }
-
-    fn move_word(&mut self, slot: Slot, address: u16, phase: Phase) {
-        let mut is_found = false;
-        for change in &mut self.changes {
-            if change.slot == slot {
-                is_found = change.move_word(address, phase);
-            }
-        }
-        self.is_stray = self.is_stray || !is_found;
-    }
-
-    fn leave(&mut self, slot: Slot) {
-        let mut is_found = false;
-        for change in &mut self.changes {
-            if change.slot == slot {
-                change.stays = true;
-                is_found = true;
-            }
-        }
-        self.is_stray = self.is_stray || !is_found;
+        Ok(())
     }
 
     /// Writes a sealed change's words into the file.
@@ -168,7 +126,9 @@ impl Past {
         let change = &self.changes[index];
         for content in &mut self.contents {
             if content.tenant == change.tenant {
-                change.write(content);
+                if let Some(held) = change.entry_of(content.address) {
+                    content.value = held.entry.new;
+                }
             }
         }
     }
@@ -178,22 +138,17 @@ impl Past {
         self.changes.clear();
         self.contents.clear();
         for datum in seen {
-            self.contents.push(content_of(datum))?;
+            let value = match datum.word {
+                Word::Plain(value) => value,
+                _ => 0,
+            };
+            self.contents.push(Content {
+                tenant: datum.tenant,
+                address: datum.address,
+                value,
+            })?;
         }
         Ok(())
-    }
-}
-
-/// Gives the word of a file whose word is seen so after a start.
-fn content_of(datum: &Datum) -> Content {
-    let value = match datum.word {
-        Word::Plain(value) => value,
-        _ => 0,
-    };
-    Content {
-        tenant: datum.tenant,
-        address: datum.address,
-        value,
     }
 }
 
@@ -218,8 +173,21 @@ fn born(slot: Slot, actor: &Actor) -> Change {
 }
 
 impl Change {
-    /// Sets the phase of a word. Tells whether the change has an entry of it.
-    fn move_word(&mut self, address: u16, phase: Phase) -> bool {
+    /// Does what a step did to this change. Tells whether it could: whether the change has an entry of the word
+    /// that the step moved.
+    fn update(&mut self, deed: ChangeUpdate) -> bool {
+        let (address, phase) = match deed {
+            ChangeUpdate::Moves(_, address, phase) => (address, phase),
+            ChangeUpdate::Becomes(_, status) => {
+                self.fate = status;
+                return true;
+            }
+            ChangeUpdate::Leaves(_) => {
+                self.stays = true;
+                return true;
+            }
+            ChangeUpdate::Nothing | ChangeUpdate::Claims(_) => return true,
+        };
         let mut is_found = false;
         for held in &mut self.words {
             if held.entry.addr == address {
@@ -228,20 +196,6 @@ impl Change {
             }
         }
         is_found
-    }
-
-    /// Gives a word of the tenant's file the value that this change has for it, if it has one.
-    fn write(&self, content: &mut Content) {
-        if let Some(held) = self.entry_of(content.address) {
-            content.value = held.entry.new;
-        }
-    }
-
-    /// Makes all its words written, whatever its status.
-    pub(crate) fn set_all_written(&mut self) {
-        for held in &mut self.words {
-            held.phase = Phase::Written;
-        }
     }
 
     /// Gives the change's entry of a word.
@@ -255,24 +209,19 @@ impl Change {
     }
 }
 
-/// Gives what the next step of a request does to a change, if the world is as it is seen. The step is no
-/// call on a file.
-pub(crate) fn step_update(seen: &Seen, actor: &Actor) -> ChangeUpdate {
-    match actor.ask() {
+/// Gives what the next step of a request does to a change, if the world is as it is seen. If the step is a call on
+/// a file, no device call fails.
+pub(crate) fn update_of(seen: &Seen, actor: &Actor) -> ChangeUpdate {
+    let (address, to) = match actor.ask() {
         Op::Change {
             at: At::Data { tenant, address },
             from,
             to,
             ..
-        } if seen.word(tenant, address) == Word::unpack(from) => {
-            word_deed(actor.point(), address, Word::unpack(to))
-        }
-        _ => slot_deed(seen, actor.point()),
-    }
-}
-
-fn word_deed(point: Point, address: u16, to: Option<Word>) -> ChangeUpdate {
-    match (point, to) {
+        } if seen.word(tenant, address) == Word::unpack(from) => (address, Word::unpack(to)),
+        _ => return status_update(seen, actor.tenant(), actor.point()),
+    };
+    match (actor.point(), to) {
         (Point::Resolve { task, .. }, Some(Word::Held { .. })) => {
             ChangeUpdate::Moves(task.target, address, Phase::Acquired)
         }
@@ -286,47 +235,34 @@ fn word_deed(point: Point, address: u16, to: Option<Word>) -> ChangeUpdate {
     }
 }
 
-fn slot_deed(seen: &Seen, point: Point) -> ChangeUpdate {
-    match point {
-        Point::Claim { slot, from, .. } if seen.gate(slot) == from => ChangeUpdate::Claims(Slot {
-            slot,
-            seq: from.seq,
-        }),
-        Point::DecideYes(task) if is_open(seen, task.target) => {
-            ChangeUpdate::Becomes(task.target, Status::YesDirty)
+/// Gives what the step at a point does to a change's status, or that it claims a slot for a change or gives one up.
+fn status_update(seen: &Seen, tenant: u8, point: Point) -> ChangeUpdate {
+    let change = match point {
+        Point::Claim { slot, from, .. } if seen.gate(slot) == from => {
+            let seq = from.seq;
+            return ChangeUpdate::Claims(Slot { slot, seq });
         }
-        Point::DecideNo { task, entry, value } if is_open(seen, task.target) => {
-            ChangeUpdate::Becomes(task.target, Status::No { entry, value })
-        }
-        Point::GiveUp { own, .. } => ChangeUpdate::Leaves(own),
-        _ => ChangeUpdate::Nothing,
-    }
-}
-
-fn is_open(seen: &Seen, change: Slot) -> bool {
-    matches!(seen.status(change.slot), Status::Open)
-}
-
-/// Gives what a call on a file does to a change, if no device call fails.
-pub(crate) fn call_update(seen: &Seen, actor: &Actor) -> ChangeUpdate {
-    let has_failed = seen.has_failed(actor.tenant());
-    match actor.point() {
-        Point::Prepare(own) if !has_failed => after_call(seen, own, Call::Prepare),
-        Point::Seal(task) if !has_failed => after_call(seen, task.target, Call::Seal),
-        Point::Settle(task) if !has_failed => after_call(seen, task.target, Call::Settle),
-        Point::Cancel(task) => after_call(seen, task.target, Call::Cancel),
-        _ => ChangeUpdate::Nothing,
-    }
-}
-
-fn after_call(seen: &Seen, change: Slot, call: Call) -> ChangeUpdate {
-    match (call, seen.status(change.slot)) {
-        (Call::Prepare, Status::Draft) => ChangeUpdate::Becomes(change, Status::Open),
-        (Call::Seal, Status::YesDirty) => ChangeUpdate::Becomes(change, Status::Yes),
-        (Call::Settle, Status::Yes) => ChangeUpdate::Becomes(change, Status::DoneYes),
-        (Call::Cancel, Status::No { entry, value }) => {
-            ChangeUpdate::Becomes(change, Status::DoneNo { entry, value })
-        }
-        _ => ChangeUpdate::Nothing,
-    }
+        Point::GiveUp { own, .. } => return ChangeUpdate::Leaves(own),
+        Point::Prepare(own) => own,
+        Point::DecideYes(task)
+        | Point::DecideNo { task, .. }
+        | Point::Seal(task)
+        | Point::Settle(task)
+        | Point::Cancel(task) => task.target,
+        _ => return ChangeUpdate::Nothing,
+    };
+    let is_good = match seen.doors.get(usize::from(tenant)) {
+        Some(door) => !door.fault,
+        None => true,
+    };
+    let status = match (point, seen.status(change.slot)) {
+        (Point::DecideYes(_), Status::Open) => Status::YesDirty,
+        (Point::DecideNo { entry, value, .. }, Status::Open) => Status::No { entry, value },
+        (Point::Prepare(_), Status::Draft) if is_good => Status::Open,
+        (Point::Seal(_), Status::YesDirty) if is_good => Status::Yes,
+        (Point::Settle(_), Status::Yes) if is_good => Status::DoneYes,
+        (Point::Cancel(_), Status::No { entry, value }) => Status::DoneNo { entry, value },
+        _ => return ChangeUpdate::Nothing,
+    };
+    ChangeUpdate::Becomes(change, status)
 }

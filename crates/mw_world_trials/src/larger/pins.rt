@@ -1,61 +1,47 @@
 //! Computes what a request holds at its point (program counter): its pins, and the words that it will release or
 //! clean.
 //!
-//! Used by: `larger/clauses/counts`, `larger/clauses/words`. It may change freely as long as this crate checks and
+//! Used by: `larger/clauses`. It may change freely as long as this crate checks and
 //! its tests pass.
-ghost use Rattle.std.specs.Prelude.{◌≤◌};
 
 use crate::larger::seen::{Seen, WorkerState};
 use mw_actor::{Actor, After, Point, Slot, Sweep, Task};
 use mw_look::{Look, Point as ReadPoint, Trail};
 use mw_words::MAX_ENTRIES;
 
-/// Gives how many pins of a slot a request holds.
+/// Gives how many pins of a slot a request holds. It has written its own change into a slot, or gives up with it, or
+/// works on a change.
 pub(crate) fn pins_held(slot: u8, point: &Point) -> u16 {
     match point {
-        Point::Read(look) => read_pins(slot, look),
-        Point::Unpin { slot: its, after } => of_slot(its.slot == slot) + pins_after(slot, after),
+        Point::Read(look) => u16::from(read_pin(look.point()) == Some(slot)),
+        Point::Unpin { slot: its, after } => pins_after(slot, after).saturating_add(u16::from(
+            its.slot == slot,
+        )),
         Point::FreeSlot { after, .. } | Point::LowerDoor(after) => pins_after(slot, after),
-        _ => change_pins(slot, point),
-    }
-}
-
-fn change_pins(slot: u8, point: &Point) -> u16 {
-    match own_slot(point) {
-        Some(own) => of_slot(own.slot == slot),
-        None => match task_of(point) {
+        Point::FillStatus(own)
+        | Point::FillCount(own)
+        | Point::FillAddr { own, .. }
+        | Point::FillExpected { own, .. }
+        | Point::FillNew { own, .. }
+        | Point::Prepare(own)
+        | Point::GiveUp { own, .. } => u16::from(own.slot == slot),
+        _ => match task_of(point) {
             Some(task) => task_pins(slot, &task),
             None => 0,
         },
     }
 }
 
-fn read_pins(slot: u8, look: &Look) -> u16 {
-    of_slot(read_pin(look.point()) == Some(slot))
+fn task_pins(slot: u8, task: &Task) -> u16 {
+    let own = u16::from(task.own.slot == slot);
+    let other = u16::from(task.target != task.own && task.target.slot == slot);
+    own.saturating_add(other)
 }
 
-fn of_slot(is: bool) -> u16
-    ensures { result ≤ 1 }
-{
-    if is { 1 } else { 0 }
-}
-
-fn task_pins(slot: u8, task: &Task) -> u16
-    ensures { result ≤ 2 }
-{
-    if task.target == task.own {
-        of_slot(task.own.slot == slot)
-    } else {
-        of_slot(task.own.slot == slot) + of_slot(task.target.slot == slot)
-    }
-}
-
-fn pins_after(slot: u8, after: &After) -> u16
-    ensures { result ≤ 2 }
-{
+fn pins_after(slot: u8, after: &After) -> u16 {
     match after {
         After::Work(task) => task_pins(slot, task),
-        After::GiveUp { own, .. } => of_slot(own.slot == slot),
+        After::GiveUp { own, .. } => u16::from(own.slot == slot),
         After::Reply(_) => 0,
     }
 }
@@ -66,35 +52,17 @@ fn read_pin(point: ReadPoint) -> Option<u8> {
         | ReadPoint::FindEntry { trail, .. }
         | ReadPoint::ReadExpected { trail, .. }
         | ReadPoint::ReadNew { trail, .. }
-        | ReadPoint::RecheckWord { trail, .. } => Some(slot_of(trail)),
+        | ReadPoint::RecheckWord { trail, .. } => match trail {
+            Trail::Held { slot, .. } => Some(slot),
+            Trail::Planted { row, .. } => Some(row.slot),
+        },
         ReadPoint::Unpin { slot, .. } => Some(slot),
         _ => None,
     }
 }
 
-fn slot_of(trail: Trail) -> u8 {
-    match trail {
-        Trail::Held { slot, .. } => slot,
-        Trail::Planted { row, .. } => row.slot,
-    }
-}
-
-/// Gives the slot into which a request writes its own change, or with which it gives up.
-fn own_slot(point: &Point) -> Option<Slot> {
-    match point {
-        Point::FillStatus(own)
-        | Point::FillCount(own)
-        | Point::FillAddr { own, .. }
-        | Point::FillExpected { own, .. }
-        | Point::FillNew { own, .. }
-        | Point::Prepare(own)
-        | Point::GiveUp { own, .. } => Some(*own),
-        _ => None,
-    }
-}
-
 /// Gives the changes on which a request works, if it works on one.
-pub(crate) fn task_of(point: &Point) -> Option<Task> {
+fn task_of(point: &Point) -> Option<Task> {
     match point {
         Point::ReadTargetStatus(task)
         | Point::Inspect { task, .. }
@@ -109,14 +77,8 @@ pub(crate) fn task_of(point: &Point) -> Option<Task> {
         | Point::CheckThenResolve { task, .. }
         | Point::Resolve { task, .. }
         | Point::ReadOtherGate { task, .. }
-        | Point::PinOther { task, .. } => Some(*task),
-        _ => later_task_of(point),
-    }
-}
-
-fn later_task_of(point: &Point) -> Option<Task> {
-    match point {
-        Point::ReadCount(task)
+        | Point::PinOther { task, .. }
+        | Point::ReadCount(task)
         | Point::ReadAddr { task, .. }
         | Point::ReadExpected { task, .. }
         | Point::ReadNew { task, .. }
@@ -141,15 +103,6 @@ pub(crate) fn frees(slot: u8, point: &Point) -> bool {
             _ => false,
         },
         Point::FreeSlot { slot: its, .. } => its.slot == slot,
-        _ => false,
-    }
-}
-
-/// Tells whether the door counts a slot for a request that has not taken one, or has freed it.
-pub(crate) fn waits(point: &Point) -> bool {
-    match point {
-        Point::Read(look) => matches!(look.point(), ReadPoint::LowerDoor(_)),
-        Point::ScanGate { .. } | Point::Claim { .. } | Point::LowerDoor(_) => true,
         _ => false,
     }
 }
@@ -180,7 +133,7 @@ fn comes_to(actor: &Actor, task: Task, first: u8, address: u16) -> bool {
 }
 
 /// Tells whether a request at its point will release a refused change's word.
-pub(crate) fn will_release(actor: &Actor, change: Slot, address: u16) -> bool {
+fn will_release(actor: &Actor, change: Slot, address: u16) -> bool {
     let point = actor.point();
     let Some(task) = task_of(&point) else {
         return false;
@@ -192,51 +145,37 @@ pub(crate) fn will_release(actor: &Actor, change: Slot, address: u16) -> bool {
         Some((Sweep::No, _)) => true,
         Some((Sweep::DoneNo { .. }, first)) => comes_to(actor, task, first, address),
         Some(_) => false,
-        None => is_on_the_way(&point),
+        None => !matches!(
+            point,
+            Point::Inspect { .. }
+                | Point::ReadOtherRow { .. }
+                | Point::ConfirmAttempt { .. }
+                | Point::ReadDirtyGate { .. }
+                | Point::ConfirmDirty { .. }
+                | Point::ReadOtherGate { .. }
+                | Point::PinOther { .. }
+                | Point::Seal(_)
+                | Point::Clean { .. }
+                | Point::Settle(_)
+        ),
     }
 }
 
-fn is_on_the_way(point: &Point) -> bool {
-    !matches!(
-        point,
-        Point::Inspect { .. }
-            | Point::ReadOtherRow { .. }
-            | Point::ConfirmAttempt { .. }
-            | Point::ReadDirtyGate { .. }
-            | Point::ConfirmDirty { .. }
-            | Point::ReadOtherGate { .. }
-            | Point::PinOther { .. }
-            | Point::Seal(_)
-            | Point::Clean { .. }
-            | Point::Settle(_)
-    )
-}
-
-/// Tells whether a change's own request at its point will clean a word that the change has written.
+/// Tells whether a change's own request at its point will clean a word that the change has written. In the round
+/// that cleans, it cleans the words of the entries to which it still comes.
 pub(crate) fn cleans(actor: &Actor, address: u16) -> bool {
     let point = actor.point();
-    match &point {
+    let (task, first) = match &point {
         Point::Unpin { after, .. } | Point::FreeSlot { after, .. } | Point::LowerDoor(after) => {
-            !matches!(after, After::Reply(_))
+            return !matches!(after, After::Reply(_));
         }
-        _ => match cleaning(&point) {
-            Some((task, first)) if task.target == task.own => {
-                comes_to(actor, task, first, address)
-            }
-            _ => true,
+        Point::Clean { task, entry, .. } => (*task, *entry),
+        _ => match (round(&point), task_of(&point)) {
+            (Some((Sweep::DoneYes, first)), Some(task)) => (task, first),
+            _ => return true,
         },
-    }
-}
-
-/// Gives the changes of a request in the round that cleans, and its next entry.
-fn cleaning(point: &Point) -> Option<(Task, u8)> {
-    if let Point::Clean { task, entry, .. } = point {
-        return Some((*task, *entry));
-    }
-    match round(point) {
-        Some((Sweep::DoneYes, first)) => Some((task_of(point)?, first)),
-        _ => None,
-    }
+    };
+    task.target != task.own || comes_to(actor, task, first, address)
 }
 
 /// Tells whether some request of this tenant that holds a pin of the change's slot will release the word.

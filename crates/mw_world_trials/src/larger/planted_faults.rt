@@ -5,8 +5,10 @@
 use crate::larger::clauses::Group;
 use crate::larger::seen::Seen;
 use mw_words::{Status, Word};
+use mw_world::Phase;
 
-/// Makes something wrong that this group must notice.
+/// Makes something wrong that this group must notice: for the group of releasers that no worker has a request, and for
+/// that of files that every word of a file has a value that none is given.
 pub(crate) fn spoil(seen: &mut Seen, group: Group) {
     match group {
         Group::Bits => seen.is_junk = true,
@@ -14,38 +16,27 @@ pub(crate) fn spoil(seen: &mut Seen, group: Group) {
         Group::Claims | Group::Slots | Group::Counts => spoil_slots(seen, group),
         Group::References | Group::Attempts => spoil_words(seen, group),
         Group::Words | Group::Late => spoil_changes(seen, group),
-        Group::Releaser => spoil_worker_states(seen),
-        Group::Files => spoil_contents(seen),
-        Group::Places => spoil_quotas(seen),
-        Group::Limits => spoil_places(seen),
+        Group::Releaser => {
+            for worker_state in &mut seen.worker_states {
+                worker_state.actor = None;
+            }
+        }
+        Group::Files => {
+            for content in &mut seen.past.contents {
+                content.value = 9;
+            }
+        }
+        Group::Places | Group::Limits => spoil_shares(seen, group),
     }
 }
 
-/// Makes every worker have no request.
-fn spoil_worker_states(seen: &mut Seen) {
-    for worker_state in &mut seen.worker_states {
-        worker_state.actor = None;
-    }
-}
-
-/// Makes every word of a file have a value that none is given.
-fn spoil_contents(seen: &mut Seen) {
-    for content in &mut seen.past.contents {
-        content.value = 9;
-    }
-}
-
-/// Makes every tenant's quota 0.
-fn spoil_quotas(seen: &mut Seen) {
+/// Makes every tenant's quota 0, or every file have one place fewer than its tenant's quota.
+fn spoil_shares(seen: &mut Seen, group: Group) {
     for share in &mut seen.shares {
-        share.quota = 0;
-    }
-}
-
-/// Makes every file have one place fewer than its tenant's quota.
-fn spoil_places(seen: &mut Seen) {
-    for share in &mut seen.shares {
-        share.places = u16::from(share.quota).saturating_sub(1);
+        match group {
+            Group::Places => share.quota = 0,
+            _ => share.places = u16::from(share.quota).saturating_sub(1),
+        }
     }
 }
 
@@ -79,7 +70,11 @@ fn spoil_changes(seen: &mut Seen, group: Group) {
     for change in &mut seen.past.changes {
         match group {
             Group::Late => change.fate = Status::YesDirty,
-            _ => change.set_all_written(),
+            _ => {
+                for held in &mut change.words {
+                    held.phase = Phase::Written;
+                }
+            }
         }
     }
 }

@@ -3,7 +3,7 @@
 //! Used by: `larger/clauses`, `larger/clauses/changes`, `larger/clauses/counts`, `larger/clauses/files`,
 //! `larger/clauses/references`, `larger/clauses/words`, `larger/past`, other modules. It may change freely as long
 //! as this crate checks and its tests pass.
-ghost use Rattle.std.specs.Prelude.{◌<◌, ◌≤◌};
+ghost use Rattle.std.specs.Prelude.{◌<◌, ◌≤◌, length};
 
 use crate::larger::past::Past;
 use crate::shares::{Share, first_shares};
@@ -65,7 +65,11 @@ impl Seen {
             slots: Vec::new(alloc),
             worker_states: Vec::new(alloc),
             data: Vec::new(alloc),
-            past: Past::new(alloc),
+            past: Past {
+                changes: Vec::new(alloc),
+                contents: Vec::new(alloc),
+                is_stray: false,
+            },
             is_junk: false,
         }
     }
@@ -80,60 +84,39 @@ impl Seen {
     /// Records a start, with the words that are seen and the quotas that the marks say.
     pub(crate) fn start(&mut self, world: &World) -> Result<(), AllocError> {
         for tenant in 0..MAX_TENANTS {
-            self.look_at_share(world, tenant)?;
+            if tenant < world.config().tenants.len() && tenant < self.shares.len() {
+                let told = last_quota(&world.marks(tenant as u8)?);
+                self.shares[tenant].quota = told.unwrap_or(self.shares[tenant].quota);
+            }
         }
         self.past.start(&self.data)
-    }
-
-    /// Looks at what a tenant may use, if there is one of this number.
-    fn look_at_share(&mut self, world: &World, tenant: usize) -> Result<(), AllocError> {
-        if tenant >= world.config().tenants.len() || tenant >= self.shares.len() {
-            return Ok(());
-        }
-        let told = last_quota(&world.marks(tenant as u8)?);
-        self.shares[tenant].quota = told.unwrap_or(self.shares[tenant].quota);
-        Ok(())
     }
 
     /// Looks at a world.
     pub(crate) fn look(&mut self, world: &World) -> Result<(), AllocError> {
         self.is_junk = false;
-        self.look_at_tenants(world)?;
+        self.words.clear();
+        self.doors.clear();
+        self.data.clear();
+        for tenant in 0..world.config().tenants.len() {
+            let tenant = tenant as u8;
+            match Door::unpack(world.word(At::Door(tenant))) {
+                Some(door) => self.doors.push(door)?,
+                None => self.is_junk = true,
+            }
+            self.look_at_data(world, tenant)?;
+        }
         self.look_at_slots(world)?;
         self.look_at_workers(world)
     }
 
-    fn look_at_tenants(&mut self, world: &World) -> Result<(), AllocError> {
-        self.words.clear();
-        self.doors.clear();
-        self.data.clear();
-        for number in 0..MAX_TENANTS {
-            self.look_at_tenant(world, number as u8)?;
-        }
-        Ok(())
-    }
-
-    /// Looks at a tenant, if there is one of this number.
-    fn look_at_tenant(&mut self, world: &World, tenant: u8) -> Result<(), AllocError> {
-        let Some(words) = words_of(world, tenant) else {
-            return Ok(());
-        };
+    fn look_at_data(&mut self, world: &World, tenant: u8) -> Result<(), AllocError>
+        requires { tenant < length world.now.config.tenants.items }
+    {
+        let words = world.config().tenants[usize::from(tenant)].words;
         self.words.push(words)?;
-        self.look_at_door(world, tenant)?;
-        self.look_at_data(world, tenant, words)
-    }
-
-    fn look_at_door(&mut self, world: &World, tenant: u8) -> Result<(), AllocError> {
-        match Door::unpack(bits(world, At::Door(tenant))) {
-            Some(door) => self.doors.push(door)?,
-            None => self.is_junk = true,
-        }
-        Ok(())
-    }
-
-    fn look_at_data(&mut self, world: &World, tenant: u8, words: u16) -> Result<(), AllocError> {
         for address in 0..words {
-            match Word::unpack(bits(world, At::Data { tenant, address })) {
+            match Word::unpack(world.word(At::Data { tenant, address })) {
                 Some(word) => self.data.push(Datum {
                     tenant,
                     address,
@@ -148,17 +131,17 @@ impl Seen {
     fn look_at_slots(&mut self, world: &World) -> Result<(), AllocError> {
         self.slots.clear();
         for slot in 0..MAX_POOL {
-            if slot >= world.config().pool {
+            let slot = slot as u8;
+            if u16::from(slot) >= world.config().pool {
                 return Ok(());
             }
-            let slot = slot as u8;
-            let gate = Gate::unpack(bits(world, At::Gate(slot)));
-            let status = Status::unpack(bits(world, At::Status(slot)));
+            let gate = Gate::unpack(world.word(At::Gate(slot)));
+            let status = Status::unpack(world.word(At::Status(slot)));
             match (gate, status) {
                 (Some(gate), Some(status)) => self.slots.push(Written {
                     gate,
                     status,
-                    count: bits(world, At::Count(slot)),
+                    count: world.word(At::Count(slot)),
                     entries: entries(world, slot),
                 })?,
                 _ => self.is_junk = true,
@@ -173,8 +156,15 @@ impl Seen {
             if worker >= world.config().workers {
                 return Ok(());
             }
-            match worker_state_of(world, worker) {
-                Some(worker_state) => self.worker_states.push(worker_state)?,
+            match Row::unpack(world.word(At::Row(worker))) {
+                Some(row) => self.worker_states.push(WorkerState {
+                    actor: match world.actor(worker) {
+                        Some(actor) => Some(actor.copy()),
+                        None => None,
+                    },
+                    attempt: world.attempt(worker),
+                    row,
+                })?,
                 None => self.is_junk = true,
             }
         }
@@ -201,25 +191,6 @@ impl Seen {
         }
     }
 
-    /// Tells whether a tenant's door says that its file has failed.
-    pub(crate) fn has_failed(&self, tenant: u8) -> bool {
-        match self.doors.get(usize::from(tenant)) {
-            Some(door) => door.fault,
-            None => false,
-        }
-    }
-
-    /// Copies a worker's request.
-    pub(crate) fn actor(&self, worker: u8) -> Option<Actor> {
-        let worker_state = self.worker_states.get(usize::from(worker))?;
-        copied(worker_state.actor.as_ref())
-    }
-
-    /// Gives the row of a worker.
-    pub(crate) fn row(&self, worker: u8) -> Option<Row> {
-        Some(self.worker_states.get(usize::from(worker))?.row)
-    }
-
     /// Gives a word of a tenant.
     pub(crate) fn word(&self, tenant: u8, address: u16) -> Option<Word> {
         for datum in &self.data {
@@ -235,32 +206,11 @@ impl Seen {
         let gate = self.gate(change.slot);
         gate.taken && gate.pins >= 1 && gate.seq == change.seq
     }
-}
 
-fn copied(actor: Option<&Actor>) -> Option<Actor> {
-    match actor {
-        Some(actor) => Some(actor.copy()),
-        None => None,
-    }
-}
-
-/// Gives what is seen of a worker, and nothing if its row has bits that no row has.
-fn worker_state_of(world: &World, worker: u8) -> Option<WorkerState>
-    requires { worker < world.now.config.workers }
-{
-    let row = Row::unpack(bits(world, At::Row(worker)))?;
-    Some(WorkerState {
-        actor: copied(world.actor(worker)),
-        attempt: world.attempt(worker),
-        row,
-    })
-}
-
-/// Gives how many words a tenant has.
-fn words_of(world: &World, tenant: u8) -> Option<u16> {
-    match world.config().tenants.get(usize::from(tenant)) {
-        Some(its) => Some(its.words),
-        None => None,
+    /// Tells whether the slot is taken for this change.
+    pub(crate) fn is_taken(&self, change: Slot) -> bool {
+        let gate = self.gate(change.slot);
+        gate.taken && gate.seq == change.seq
     }
 }
 
@@ -273,32 +223,6 @@ fn last_quota(marks: &[Mark]) -> Option<u8> {
         }
     }
     last
-}
-
-/// Gives the bits of a shared word, and zeros if the world doesn't have it.
-fn bits(world: &World, at: At) -> u64 {
-    match at {
-        At::Door(tenant) if usize::from(tenant) < world.config().tenants.len() => {
-            world.word(At::Door(tenant))
-        }
-        At::Row(worker) if worker < world.config().workers => world.word(At::Row(worker)),
-        At::Gate(slot) if u16::from(slot) < world.config().pool => world.word(At::Gate(slot)),
-        At::Status(slot) if u16::from(slot) < world.config().pool => world.word(At::Status(slot)),
-        At::Count(slot) if u16::from(slot) < world.config().pool => world.word(At::Count(slot)),
-        At::Data { tenant, address } => data_bits(world, tenant, address),
-        _ => 0,
-    }
-}
-
-fn data_bits(world: &World, tenant: u8, address: u16) -> u64 {
-    let tenants = &world.config().tenants;
-    if usize::from(tenant) >= tenants.len() {
-        return 0;
-    }
-    if address >= tenants[usize::from(tenant)].words {
-        return 0;
-    }
-    world.word(At::Data { tenant, address })
 }
 
 /// Gives the entries in a slot.

@@ -11,12 +11,14 @@
 //! The words of a file are those with which the tenant started and what was sealed since.
 
 use crate::dice::Dice;
+use crate::fault::Fault;
+use crate::jobs::large_world;
 use crate::larger::clauses::{GROUPS, Group, broken, holds};
 use crate::larger::past::Change;
 use crate::larger::planted_faults::spoil;
-use crate::larger::seen::{Datum, Seen};
-use crate::larger::watch::{RunFault, Watch};
-use mw_words::{Door, Status, Word};
+use crate::larger::seen::Seen;
+use crate::run::Run;
+use mw_words::{Status, Word};
 use mw_world::Phase;
 use std::alloc::Global;
 
@@ -36,14 +38,9 @@ struct Tally {
 }
 
 impl Tally {
+    /// Counts what is seen after an event.
     fn count(&mut self, seen: &Seen) {
-        self.count_words(&seen.data);
-        self.count_changes(&seen.past.changes);
-        self.count_doors(&seen.doors);
-    }
-
-    fn count_words(&mut self, data: &[Datum]) {
-        for datum in data {
+        for datum in &seen.data {
             match datum.word {
                 Word::Plain(_) => {}
                 Word::Planted { .. } => self.planted = self.planted.saturating_add(1),
@@ -51,18 +48,12 @@ impl Tally {
                 Word::Dirty { .. } => self.written = self.written.saturating_add(1),
             }
         }
-    }
-
-    fn count_changes(&mut self, changes: &[Change]) {
-        for change in changes {
+        for change in &seen.past.changes {
             if matches!(change.fate, Status::DoneNo { .. }) {
                 self.refused = self.refused.saturating_add(1);
             }
         }
-    }
-
-    fn count_doors(&mut self, doors: &[Door]) {
-        for door in doors {
+        for door in &seen.doors {
             if door.fault {
                 self.failed = self.failed.saturating_add(1);
             }
@@ -71,20 +62,20 @@ impl Tally {
 }
 
 /// Plays a run that this seed chooses. After each event it checks all that must hold.
-fn play(alloc: Global, seed: u64, tally: &mut Tally) -> Result<(), RunFault> {
+fn play(alloc: Global, seed: u64, tally: &mut Tally) -> Result<(), Fault> {
     let mut dice = Dice::new(seed);
-    let mut watch = Watch::new(alloc, &mut dice)?;
-    run(&mut watch, &mut dice, tally)
+    let mut run = Run::new(alloc, large_world(&mut dice), true)?;
+    check(alloc, &mut run, &mut dice, tally)
 }
 
-fn run(watch: &mut Watch, dice: &mut Dice, tally: &mut Tally) -> Result<(), RunFault> {
-    watch.begin()?;
+fn check(alloc: Global, run: &mut Run, dice: &mut Dice, tally: &mut Tally) -> Result<(), Fault> {
+    run.seen.begin(alloc, &run.world)?;
     for event in 0..EVENTS {
-        watch.go_on(dice)?;
-        if let Some(group) = broken(&watch.seen) {
-            return Err(RunFault::Broken(group, event));
+        run.go_on(dice)?;
+        if let Some(group) = broken(&run.seen) {
+            return Err(Fault::Broken(group, event));
         }
-        tally.count(&watch.seen);
+        tally.count(&run.seen);
     }
     Ok(())
 }
@@ -125,40 +116,31 @@ fn has_opened(seen: &Seen) -> bool {
 }
 
 /// Makes events until a change has just opened.
-fn open(watch: &mut Watch, dice: &mut Dice) -> Result<(), RunFault> {
-    watch.begin()?;
+fn open(alloc: Global, run: &mut Run, dice: &mut Dice) -> Result<(), Fault> {
+    run.seen.begin(alloc, &run.world)?;
     for _ in 0..EVENTS {
-        if has_opened(&watch.seen) {
+        if has_opened(&run.seen) {
             return Ok(());
         }
-        watch.go_on(dice)?;
+        run.go_on(dice)?;
     }
-    Err(RunFault::Stuck)
+    Err(Fault::Stuck)
 }
 
-/// Tells whether a group holds until something is made wrong.
-fn is_noticed(seen: &mut Seen, group: Group) -> bool {
-    let held = holds(seen, group);
-    spoil(seen, group);
-    held && !holds(seen, group)
-}
-
-/// Does the same in a run in which a change has just opened.
-fn is_noticed_in_a_run(alloc: Global, group: Group) -> Result<bool, RunFault> {
+/// Tells whether a group holds until something is made wrong, in a run in which a change has just opened.
+fn is_noticed(alloc: Global, group: Group) -> Result<bool, Fault> {
     let mut dice = Dice::new(1);
-    let mut watch = Watch::new(alloc, &mut dice)?;
-    notice(&mut watch, &mut dice, group)
-}
-
-fn notice(watch: &mut Watch, dice: &mut Dice, group: Group) -> Result<bool, RunFault> {
-    open(watch, dice)?;
-    Ok(is_noticed(&mut watch.seen, group))
+    let mut run = Run::new(alloc, large_world(&mut dice), true)?;
+    open(alloc, &mut run, &mut dice)?;
+    let held = holds(&run.seen, group);
+    spoil(&mut run.seen, group);
+    Ok(held && !holds(&run.seen, group))
 }
 
 #[test]
 fn what_is_wrong_is_noticed(rt: HostRuntime) {
-    for group in GROUPS {
-        let is_noticed = matches!(is_noticed_in_a_run(rt.alloc(), group), Ok(true));
-        assert!(rt; is_noticed, "{}", group.name());
+    for (group, name) in GROUPS {
+        let is_noticed = matches!(is_noticed(rt.alloc(), group), Ok(true));
+        assert!(rt; is_noticed, "{name}");
     }
 }

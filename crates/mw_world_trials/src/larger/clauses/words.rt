@@ -1,212 +1,165 @@
-//! Checks what must hold at every moment of a change's words, and that no stale helper can harm them.
+//! Checks what must hold of each word of a tenant at every moment.
 //!
-//! `clauses.rt` calls it for its groups Words, Late and Releaser. Nothing is proved of these checks. They may change
-//! freely if they stay true of every run, and still refuse the planted faults of their groups (`planted_faults.rt`).
+//! `clauses.rt` says what each group is, and what may change here.
 
-use super::references::change_of;
+use crate::larger::clauses::Group;
+use crate::larger::clauses::workers::standing;
 use crate::larger::past::{Change, Held};
 use crate::larger::pins::{cleans, is_releaser, owner_of};
 use crate::larger::seen::{Datum, Seen, WorkerState};
-use mw_actor::{Point, Slot};
+use mw_actor::Slot;
 use mw_words::{Status, Word};
 use mw_world::Phase;
 
-/// Each word of a change is as the change's status allows. A word that the change holds or has written
-/// names the change.
-pub(super) fn words(seen: &Seen) -> bool {
-    for change in &seen.past.changes {
-        if !are_allowed(seen, change) {
-            return false;
-        }
-    }
-    true
-}
-
-fn are_allowed(seen: &Seen, change: &Change) -> bool {
-    for held in &change.words {
-        if !may_be(change.fate, held.phase) || !is_named(seen, change, held) {
-            return false;
-        }
-    }
-    true
-}
-
-fn may_be(fate: Status, phase: Phase) -> bool {
-    match (fate, phase) {
-        (Status::Draft | Status::Open, Phase::Fresh) => true,
-        (Status::Open | Status::YesDirty | Status::Yes, Phase::Acquired) => true,
-        (Status::Yes | Status::DoneYes, Phase::Written) => true,
-        (Status::DoneYes, Phase::Released) => true,
-        (Status::No { .. } | Status::DoneNo { .. }, phase) => !matches!(phase, Phase::Written),
-        _ => false,
-    }
-}
-
-fn is_named(seen: &Seen, change: &Change, held: &Held) -> bool {
-    let word = seen.word(change.tenant, held.entry.addr);
-    let Slot { slot, seq } = change.slot;
-    match held.phase {
-        Phase::Acquired => word == Some(Word::Held { slot, seq }),
-        Phase::Written => word
-            == Some(Word::Dirty {
-                slot,
-                value: held.entry.new,
-            }),
-        Phase::Fresh | Phase::Released => true,
-    }
-}
-
-/// Each word of a change that was decided to be made was held once. If a helper may still hold a word for a
-/// change, and finds the attempt there, then the word was never held for the change, the change is not
-/// made, and the row names that change.
-pub(super) fn late(seen: &Seen) -> bool {
-    were_held(seen) && do_no_harm(seen)
-}
-
-fn were_held(seen: &Seen) -> bool {
-    for change in &seen.past.changes {
-        if is_made(change.fate) && has_fresh(change) {
-            return false;
-        }
-    }
-    true
-}
-
-fn do_no_harm(seen: &Seen) -> bool {
-    for worker_state in &seen.worker_states {
-        if !does_no_harm(seen, worker_state) {
-            return false;
-        }
-    }
-    true
-}
-
-fn is_made(fate: Status) -> bool {
-    matches!(fate, Status::YesDirty | Status::Yes | Status::DoneYes)
-}
-
-/// Tells whether some word was never held for a change.
-fn has_fresh(change: &Change) -> bool {
-    for held in &change.words {
-        if matches!(held.phase, Phase::Fresh) {
-            return true;
-        }
-    }
-    false
-}
-
-fn does_no_harm(seen: &Seen, worker_state: &WorkerState) -> bool {
-    let Some(actor) = &worker_state.actor else {
-        return true;
-    };
-    match actor.point() {
-        Point::Resolve {
-            task,
-            entry,
-            attempt,
-            was_open: true,
-        } => is_permitted(
-            seen,
-            Datum {
-                tenant: actor.tenant(),
-                address: actor.entry(task, entry).addr,
-                word: Word::Planted {
-                    worker: attempt.worker,
-                    attempt: attempt.number,
-                },
-            },
-            task.target,
-        ),
-        _ => true,
-    }
-}
-
-/// Tells whether the same holds for this attempt, whose number was given out, and this change.
-fn is_permitted(seen: &Seen, attempt: Datum, target: Slot) -> bool {
-    let Word::Planted {
-        worker,
-        attempt: number,
-    } = attempt.word
-    else {
-        return false;
-    };
-    let Some(worker_state) = seen.worker_states.get(usize::from(worker)) else {
-        return false;
-    };
-    let Some((change, held)) = change_of(seen, &attempt, target) else {
-        return false;
-    };
-    if seen.word(attempt.tenant, attempt.address) != Some(attempt.word) {
-        return number < worker_state.attempt;
-    }
-    let is_named = (worker_state.row.slot, worker_state.row.seq) == (target.slot, target.seq);
-    is_named && matches!(held.phase, Phase::Fresh) && !is_made(change.fate)
-}
-
-/// A word that is held for a refused change will be released. The owner of a change that is neither refused
-/// nor done is there, or has left its pin. For a word that a change has written, the worker that cleans it
-/// is there, or has left its pin.
-pub(super) fn have_releasers(seen: &Seen) -> bool {
-    are_let_go(seen) && have_owners(seen)
-}
-
-fn are_let_go(seen: &Seen) -> bool {
+/// Tells whether a group holds of all words.
+pub(super) fn words_hold(seen: &Seen, group: Group) -> bool {
     for datum in &seen.data {
-        if !is_let_go(seen, datum) {
+        let holds = match group {
+            Group::References => is_reference(seen, datum),
+            Group::Attempts => {
+                !matches!(datum.word, Word::Planted { .. }) || times(seen, datum.word) == 1
+            }
+            Group::Releaser => is_let_go(seen, datum),
+            _ => {
+                let value = value_of(seen, datum);
+                value.is_some() && value == seen.past.content(datum.tenant, datum.address)
+            }
+        };
+        if !holds {
             return false;
         }
     }
     true
 }
 
-fn have_owners(seen: &Seen) -> bool {
-    for change in &seen.past.changes {
-        if !has_owner(seen, change) {
-            return false;
+fn is_reference(seen: &Seen, datum: &Datum) -> bool {
+    match datum.word {
+        Word::Plain(_) => true,
+        Word::Held { slot, seq } => {
+            let slot = Slot { slot, seq };
+            match change_of(seen, datum, slot) {
+                Some((change, held)) => {
+                    seen.is_pinned(slot)
+                        && matches!(held.phase, Phase::Acquired)
+                        && change.fate != Status::DoneYes
+                }
+                None => false,
+            }
+        }
+        Word::Dirty { slot, value } => {
+            let seq = seen.gate(slot).seq;
+            let slot = Slot { slot, seq };
+            match change_of(seen, datum, slot) {
+                Some((change, held)) => {
+                    seen.is_pinned(slot)
+                        && matches!(held.phase, Phase::Written)
+                        && matches!(change.fate, Status::Yes | Status::DoneYes)
+                        && held.entry.new == value
+                }
+                None => false,
+            }
+        }
+        Word::Planted { worker, attempt } => match seen.worker_states.get(usize::from(worker)) {
+            Some(worker_state) => is_planted(seen, datum, worker_state, attempt),
+            None => false,
+        },
+    }
+}
+
+/// Gives a change of this word that is no draft, with its entry of the word.
+pub(super) fn change_of<'a>(
+    seen: &'a Seen,
+    datum: &Datum,
+    slot: Slot,
+) -> Option<(&'a Change, Held)> {
+    let change = seen.past.find(slot)?;
+    if change.fate == Status::Draft || change.tenant != datum.tenant {
+        return None;
+    }
+    match change.entry_of(datum.address) {
+        Some(held) => Some((change, held)),
+        None => None,
+    }
+}
+
+/// Tells whether the row of an attempt's worker names the word's entry of a change, and the attempt is that for
+/// which the worker may have it there.
+fn is_planted(seen: &Seen, datum: &Datum, worker_state: &WorkerState, attempt: u64) -> bool {
+    let slot = Slot {
+        slot: worker_state.row.slot,
+        seq: worker_state.row.seq,
+    };
+    let Some((change, held)) = change_of(seen, datum, slot) else {
+        return false;
+    };
+    let named = match change.words.get(usize::from(worker_state.row.entry)) {
+        Some(named) => named.entry.addr == held.entry.addr,
+        None => false,
+    };
+    named
+        && seen.is_pinned(slot)
+        && attempt < worker_state.attempt
+        && standing(worker_state) == Some((datum.tenant, datum.address, attempt))
+}
+
+/// Gives in how many places this word is.
+fn times(seen: &Seen, word: Word) -> u64 {
+    let mut times: u64 = 0;
+    for datum in &seen.data {
+        if datum.word == word {
+            times = times.saturating_add(1);
         }
     }
-    true
+    times
 }
 
 fn is_let_go(seen: &Seen, datum: &Datum) -> bool {
-    match datum.word {
-        Word::Held { slot, seq } => {
-            let change = Slot { slot, seq };
-            match seen.past.fate(change) {
-                Status::No { .. } | Status::DoneNo { .. } => {
-                    is_releaser(seen, datum.tenant, change, datum.address)
-                }
-                _ => true,
-            }
-        }
+    let slot = match datum.word {
+        Word::Held { slot, seq } => Slot { slot, seq },
         Word::Dirty { slot, .. } => {
             let seq = seen.gate(slot).seq;
-            is_cleaned(seen, Slot { slot, seq }, datum.address)
+            Slot { slot, seq }
         }
-        _ => true,
+        Word::Plain(_) | Word::Planted { .. } => return true,
+    };
+    let is_dirty = matches!(datum.word, Word::Dirty { .. });
+    let Some(change) = seen.past.find(slot) else {
+        return !is_dirty;
+    };
+    if is_dirty {
+        return change.stays
+            || match owner_of(seen, change.owner, slot.slot) {
+                Some(actor) => cleans(actor, datum.address),
+                None => false,
+            };
+    }
+    !matches!(change.fate, Status::No { .. } | Status::DoneNo { .. })
+        || is_releaser(seen, datum.tenant, slot, datum.address)
+}
+
+/// Gives the value that a word represents.
+fn value_of(seen: &Seen, datum: &Datum) -> Option<u64> {
+    match datum.word {
+        Word::Plain(value) | Word::Dirty { value, .. } => Some(value),
+        Word::Planted { worker, .. } => {
+            let row = seen.worker_states.get(usize::from(worker))?.row;
+            let written = seen.slots.get(usize::from(row.slot))?;
+            Some(written.entries.get(usize::from(row.entry))?.expected)
+        }
+        Word::Held { slot, .. } => held_value(seen, slot, datum.address),
     }
 }
 
-fn is_cleaned(seen: &Seen, slot: Slot, address: u16) -> bool {
-    let Some(change) = seen.past.find(slot) else {
-        return false;
-    };
-    change.stays
-        || match owner_of(seen, change.owner, slot.slot) {
-            Some(actor) => cleans(actor, address),
-            None => false,
+fn held_value(seen: &Seen, slot: u8, address: u16) -> Option<u64> {
+    let written = seen.slots.get(usize::from(slot))?;
+    for entry in &written.entries {
+        if entry.addr == address {
+            return Some(if written.status == Status::Yes {
+                entry.new
+            } else {
+                entry.expected
+            });
         }
-}
-
-fn has_owner(seen: &Seen, change: &Change) -> bool {
-    let gate = seen.gate(change.slot.slot);
-    let is_now = gate.taken && gate.seq == change.slot.seq;
-    let is_undone = matches!(
-        change.fate,
-        Status::Draft | Status::Open | Status::YesDirty | Status::Yes
-    );
-    !is_now
-        || !is_undone
-        || change.stays
-        || owner_of(seen, change.owner, change.slot.slot).is_some()
+    }
+    None
 }
