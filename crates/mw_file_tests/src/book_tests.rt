@@ -1,36 +1,102 @@
 //! Tests the book of a tenant's file, few places of which are used, on a device that fails.
 //!
 //! Nothing else uses it: it may change with what it tests.
-use crate::file_tests::{MEMORY, change, disk_with, new_bytes};
-use crate::same::same;
+use crate::calls::change;
+use crate::files::{disk_with, new_bytes, opened};
+use crate::same::{MEMORY, same};
 use mw_book::{Book, Filed, Waiting};
 use mw_disk::MemDisk;
-use mw_file::TenantFile;
 use mw_look::Call;
 use mw_words::is_change;
-use std::alloc::Global;
 use std::process::Abort;
 
-/// Makes a disk with a new file of two words and three places, whose call of this number fails. The first
-/// seven calls are those of its opening.
-fn failing_disk<R: Abort + AllocGlobal>(rt: &R, number: u64) -> MemDisk {
-    let mut disk = disk_with(rt, &new_bytes(rt, 2, 3));
-    disk.fail_next(number).expect(rt, MEMORY);
-    disk
+/// Prepares in a new file of two words and six places, a call of whose device fails.
+#[derive(Clone, Copy)]
+struct Row {
+    name: &'static str,
+    /// The number of the device call that fails. The first seven calls are those of the opening.
+    fails: u64,
+    /// How many places are used.
+    places: u16,
+    /// Slots whose changes of word 1 wait during the first prepare, and the value that each gives the word.
+    waiting: &'static [(u8, u64)],
+    /// Slots that prepare the change of word 1 to 5, and how each of these prepares ends, `None` if no place is free.
+    prepares: &'static [(u8, Option<Filed>)],
 }
 
-/// Makes the book of the file on a disk, with so many places used. Gives None if the file doesn't open.
-fn book_on(alloc: Global, disk: MemDisk, places: u16) -> Option<Book<MemDisk>> {
-    match TenantFile::open(alloc, disk) {
-        Ok(opened) => {
-            let (file, _) = opened;
-            if file.places() >= places {
-                Some(Book::new(file, places))
-            } else {
-                None
-            }
-        }
-        Err(_) => None,
+const MADE: Option<Filed> = Some(Filed::Made);
+
+const BROKEN: Option<Filed> = Some(Filed::Broken);
+
+const UNTOUCHED: Option<Filed> = Some(Filed::Untouched);
+
+const ROWS: [Row; 6] = [
+    Row {
+        name: "the place is used up",
+        fails: 14,
+        places: 1,
+        waiting: &[],
+        prepares: &[(3, MADE), (3, None)],
+    },
+    Row {
+        name: "the device fails",
+        fails: 9,
+        places: 1,
+        waiting: &[],
+        prepares: &[(3, BROKEN), (3, UNTOUCHED)],
+    },
+    Row {
+        name: "a change that waited is prepared by no device call of its own",
+        fails: 11,
+        places: 3,
+        waiting: &[(4, 5)],
+        prepares: &[(3, MADE), (4, MADE), (5, BROKEN)],
+    },
+    Row {
+        name: "another change than the one that waited has device calls",
+        fails: 11,
+        places: 3,
+        waiting: &[(4, 6)],
+        prepares: &[(3, MADE), (4, BROKEN), (5, UNTOUCHED)],
+    },
+    Row {
+        name: "a record moves if its place is needed and another is free",
+        fails: 14,
+        places: 4,
+        waiting: &[(4, 5), (5, 5)],
+        prepares: &[(3, MADE), (4, MADE), (6, MADE), (5, MADE)],
+    },
+    Row {
+        name: "the device fails when its place is needed",
+        fails: 13,
+        places: 4,
+        waiting: &[(4, 5), (5, 5)],
+        prepares: &[(3, MADE), (4, MADE), (6, BROKEN), (5, UNTOUCHED)],
+    },
+];
+
+/// Makes the changes that wait.
+fn waiting_of<R: Abort + AllocGlobal>(rt: &R, row: Row) -> Vec<Waiting> {
+    let mut waiting = Vec::new(rt.alloc());
+    for (slot, value) in row.waiting {
+        let one = Waiting {
+            slot: *slot,
+            entries: change(&[(1, *value)]),
+        };
+        waiting.push(one).expect(rt, MEMORY);
+    }
+    waiting
+}
+
+/// Makes the book of a row's file. Gives `None` if the file has fewer places than are used.
+fn book_of<R: Abort + AllocGlobal>(rt: &R, row: Row) -> Option<Book<MemDisk>> {
+    let mut disk = disk_with(rt, &new_bytes(rt, 2, 3));
+    disk.fail_next(row.fails).expect(rt, MEMORY);
+    let file = opened(rt, disk);
+    if file.places() >= row.places {
+        Some(Book::new(file, row.places))
+    } else {
+        None
     }
 }
 
@@ -43,79 +109,20 @@ fn prepare(book: &mut Book<MemDisk>, slot: u8, waiting: &[Waiting]) -> Option<Fi
     Some(book.call(Call::Prepare, slot, &entries, waiting))
 }
 
-/// Tells how two prepares end. Gives None if the file doesn't open.
-fn two_prepares(alloc: Global, disk: MemDisk) -> Option<[Option<Filed>; 2]> {
-    let mut book = book_on(alloc, disk, 1)?;
-    let first = prepare(&mut book, 3, &[]);
-    Some([first, prepare(&mut book, 3, &[])])
-}
-
-/// Tells how the prepares of slots 3, 4 and 5 end, if a change of slot 4 of word 1 waits during the first. The change
-/// gives the word this value. Gives None if the file doesn't open.
-fn prepares_beside(alloc: Global, disk: MemDisk, value: u64) -> Option<[Option<Filed>; 3]> {
-    let mut book = book_on(alloc, disk, 3)?;
-    let waiting = [Waiting {
-        slot: 4,
-        entries: change(&[(1, value)]),
-    }];
-    let first = prepare(&mut book, 3, &waiting);
-    let second = prepare(&mut book, 4, &[]);
-    Some([first, second, prepare(&mut book, 5, &[])])
-}
-
-/// Makes the change of word 1 of a slot that waits.
-fn waiting_change(slot: u8) -> Waiting {
-    Waiting {
-        slot,
-        entries: change(&[(1, 5)]),
+/// A row's prepares end as it says.
+fn end_so<R: Abort + AllocGlobal>(rt: &R, row: Row) {
+    let mut book = book_of(rt, row).expect(rt, row.name);
+    let mut waiting = waiting_of(rt, row);
+    for (slot, wanted) in row.prepares {
+        let found = prepare(&mut book, *slot, &waiting);
+        same(rt, row.name, u64::from(*slot), &found, wanted);
+        waiting.clear();
     }
 }
 
-/// Tells how the prepares of slots 3, 4, 6 and 5 end, if changes of slots 4 and 5 wait during the first. The change of
-/// slot 5 is prepared ahead in the place that slot 6 gets, and one more place is free. Gives None if the file doesn't
-/// open.
-fn prepares_in_its_place(alloc: Global, disk: MemDisk) -> Option<[Option<Filed>; 4]> {
-    let mut book = book_on(alloc, disk, 4)?;
-    let waiting = [waiting_change(4), waiting_change(5)];
-    let first = prepare(&mut book, 3, &waiting);
-    let second = prepare(&mut book, 4, &[]);
-    let third = prepare(&mut book, 6, &[]);
-    Some([first, second, third, prepare(&mut book, 5, &[])])
-}
-
 #[test]
-fn a_place_is_used_up_and_a_device_fails(rt: HostRuntime) {
-    let used_up = two_prepares(rt.alloc(), failing_disk(&rt, 14));
-    same(&rt, &used_up, &Some([Some(Filed::Made), None]));
-    let failed = two_prepares(rt.alloc(), failing_disk(&rt, 9));
-    let wanted = [Some(Filed::Broken), Some(Filed::Untouched)];
-    same(&rt, &failed, &Some(wanted));
-}
-
-#[test]
-fn a_change_that_waited_is_prepared_by_no_device_call_of_its_own(rt: HostRuntime) {
-    let ahead = prepares_beside(rt.alloc(), failing_disk(&rt, 11), 5);
-    let last_fails = [Some(Filed::Made), Some(Filed::Made), Some(Filed::Broken)];
-    same(&rt, &ahead, &Some(last_fails));
-    let another = prepares_beside(rt.alloc(), failing_disk(&rt, 11), 6);
-    let second_fails = [
-        Some(Filed::Made),
-        Some(Filed::Broken),
-        Some(Filed::Untouched),
-    ];
-    same(&rt, &another, &Some(second_fails));
-}
-
-#[test]
-fn a_record_moves_if_its_place_is_needed_and_another_is_free(rt: HostRuntime) {
-    let stays = prepares_in_its_place(rt.alloc(), failing_disk(&rt, 14));
-    same(&rt, &stays, &Some([Some(Filed::Made); 4]));
-    let third_fails = prepares_in_its_place(rt.alloc(), failing_disk(&rt, 13));
-    let wanted = [
-        Some(Filed::Made),
-        Some(Filed::Made),
-        Some(Filed::Broken),
-        Some(Filed::Untouched),
-    ];
-    same(&rt, &third_fails, &Some(wanted));
+fn prepares_of_a_book(rt: HostRuntime) {
+    for row in ROWS {
+        end_so(&rt, row);
+    }
 }

@@ -15,12 +15,10 @@
 //! | 5528 | bytes that nobody looks at, up to 5568 |
 //!
 //! Nothing else uses it: it may change with what it tests.
-use crate::calls::{cancel, prepare, prepare_all, seal, seal_with, settle, settle_all};
-use crate::file_tests::{MEMORY, change, disk_with, opened, opening};
-use crate::same::{same, same_at};
+use crate::calls::{Ahead, Step, Writes, tell};
+use crate::files::{disk_with, opened, opening};
+use crate::same::{MEMORY, same};
 use mw_disk::{Disk, MemDisk};
-use mw_file::{NewChange, Place, TenantFile};
-use mw_words::Entries;
 use std::process::Abort;
 
 /// Bytes of a file, with the offset at which they begin.
@@ -71,22 +69,6 @@ fn fill<R: Abort + AllocGlobal>(rt: &R, bytes: &mut Vec<u8>, at: usize, count: u
     }
 }
 
-/// Makes a file of so many bytes: these parts, junk in these ranges, and zeros elsewhere.
-fn laid<R: Abort + AllocGlobal>(
-    rt: &R,
-    count: usize,
-    junk: &[(usize, usize)],
-    parts: &[Part],
-) -> Vec<u8> {
-    let mut bytes = Vec::new(rt.alloc());
-    fill(rt, &mut bytes, 0, count, 0);
-    for range in junk {
-        fill(rt, &mut bytes, range.0, range.1, JUNK);
-    }
-    put_all(&mut bytes, parts);
-    bytes
-}
-
 /// The bytes that a file must have.
 #[derive(Drop)]
 struct Bytes {
@@ -120,26 +102,82 @@ fn difference(found: &[u8], wanted: &[u8]) -> Option<(usize, Option<u8>, Option<
     None
 }
 
-/// What is done with a file.
+/// A file, what is done with it, and the calls that this makes on the device.
 #[derive(Clone, Copy)]
-enum Play {
-    /// It is opened.
-    Open,
-    /// A change is prepared, sealed and settled in place 0 of the opened file.
-    Change,
-    /// Two changes are prepared in the opened file. The first is canceled, and another is prepared.
-    Cancel,
-    /// Two changes are prepared, sealed one after the other, and settled together.
-    Share,
-    /// A change is prepared. Its seal prepares another one, and the settle of that one a third.
-    Ahead,
+struct Row {
+    name: &'static str,
+    start: Start,
+    /// The calls on the opened file. If there are none, the device calls are those of its opening.
+    steps: &'static [Step],
+    calls: &'static [Called],
 }
 
-/// Prepares, seals and settles the change of words 0 and 258.
-fn make_change(file: &mut TenantFile<MemDisk>) {
-    let _ = prepare(file, &two_words());
-    let _ = seal(file, Place(0));
-    let _ = settle(file, Place(0));
+/// A file of so many bytes.
+#[derive(Clone, Copy)]
+struct Start {
+    count: usize,
+    /// Ranges of junk: offsets and lengths.
+    junk: &'static [(usize, usize)],
+    /// What it has elsewhere. What neither is has zeros.
+    parts: &'static [Part],
+    /// More parts, put over the others.
+    over: &'static [Part],
+}
+
+/// Makes a file's bytes.
+fn laid<R: Abort + AllocGlobal>(rt: &R, start: Start) -> Vec<u8> {
+    let mut bytes = Vec::new(rt.alloc());
+    fill(rt, &mut bytes, 0, start.count, 0);
+    for range in start.junk {
+        fill(rt, &mut bytes, range.0, range.1, JUNK);
+    }
+    put_all(&mut bytes, start.parts);
+    put_all(&mut bytes, start.over);
+    bytes
+}
+
+/// Gives the disk with the file of these bytes with which a row's calls are made, if it stops after so many device
+/// calls.
+fn played<R: Abort + AllocGlobal>(rt: &R, start: &[u8], steps: &[Step], calls: u64) -> MemDisk {
+    let mut disk = disk_with(rt, start);
+    if steps.is_empty() {
+        disk.stop_next(calls);
+        return opening(rt.alloc(), disk).1;
+    }
+    let mut file = opened(rt, disk);
+    file.stop_next(calls);
+    for step in steps {
+        let _ = tell(rt, &mut file, *step);
+    }
+    file.into_disk()
+}
+
+/// A disk has these bytes after so many calls.
+fn has_bytes<R: Abort + AllocGlobal>(rt: &R, row: &str, calls: u64, disk: &MemDisk, bytes: &Bytes) {
+    let read = disk.crash(&[]).expect(rt, MEMORY);
+    same(rt, row, calls, &difference(&read, &bytes.read), &None);
+    let torn = disk.crash(&[TORN; 6000]).expect(rt, MEMORY);
+    same(rt, row, calls, &difference(&torn, &bytes.torn), &None);
+}
+
+/// What is done with a row's file makes the row's calls on the device and no others.
+fn makes_calls<R: Abort + AllocGlobal>(rt: &R, row: Row) {
+    let start = laid(rt, row.start);
+    let mut wanted = Bytes {
+        read: start.to_vec(rt.alloc()).expect(rt, MEMORY),
+        torn: start.to_vec(rt.alloc()).expect(rt, MEMORY),
+    };
+    let mut made: u64 = 0;
+    for call in row.calls {
+        let disk = played(rt, &start, row.steps, made);
+        same(rt, row.name, made, &disk.faults(), &1);
+        make(rt, &mut wanted, *call);
+        made = made.saturating_add(1);
+        let disk = played(rt, &start, row.steps, made);
+        has_bytes(rt, row.name, made, &disk, &wanted);
+    }
+    let disk = played(rt, &start, row.steps, made);
+    same(rt, row.name, made, &disk.faults(), &0);
 }
 
 /// Sixteen writes: the value 65 to address 1, and so on up to the value 80 to address 16.
@@ -162,100 +200,19 @@ const SIXTEEN: [(u16, u64); 16] = [
     (16, 80),
 ];
 
-/// Prepares the change of words 0 and 258, and one of sixteen words. Cancels the first, and prepares the
-/// change of word 299.
-fn cancel_one(file: &mut TenantFile<MemDisk>) {
-    let _ = prepare(file, &two_words());
-    let _ = prepare(file, &change(&SIXTEEN));
-    let _ = cancel(file, Place(0));
-    let _ = prepare(file, &change(&[(299, 7)]));
-}
+/// The change of words 0 and 258, that of words 1 and 299, and two of word 299.
+const TWO_WORDS: Writes = &[(0, 0x0605_0403_0201), (258, 0x1615_1413_1211)];
 
-/// Makes the change of words 0 and 258.
-fn two_words() -> Entries {
-    change(&[(0, 0x0605_0403_0201), (258, 0x1615_1413_1211)])
-}
+const OTHER_WORDS: Writes = &[(1, 65), (299, 9)];
 
-/// Prepares the change of words 0 and 258 and that of words 1 and 299. Seals the second, then the first, and settles
-/// both.
-fn share_syncs(file: &mut TenantFile<MemDisk>) {
-    let changes = [
-        NewChange {
-            place: Place(0),
-            entries: two_words(),
-        },
-        NewChange {
-            place: Place(1),
-            entries: change(&[(1, 65), (299, 9)]),
-        },
-    ];
-    let _ = prepare_all(file, &changes);
-    let _ = seal(file, Place(1));
-    let _ = seal(file, Place(0));
-    let _ = settle_all(file, &[]);
-}
+const LAST_WORD: Writes = &[(299, 9)];
 
-/// Makes the change of word 299, to be prepared in this place.
-fn new_in(place: u16) -> [NewChange; 1] {
-    [NewChange {
-        place: Place(place),
-        entries: change(&[(299, 9)]),
-    }]
-}
+const LAST_WORD_IS_7: Writes = &[(299, 7)];
 
-/// Prepares the change of words 0 and 258. Its seal prepares that of word 299, and after its settle that one is
-/// sealed, and settled with the same change prepared once more.
-fn prepare_ahead(file: &mut TenantFile<MemDisk>) {
-    let _ = prepare(file, &two_words());
-    let _ = seal_with(file, Place(0), &new_in(1));
-    let _ = settle_all(file, &[]);
-    let _ = seal(file, Place(1));
-    let _ = settle_all(file, &new_in(0));
-}
+/// The change of word 299, to be prepared in place 0 or 1.
+const LAST_IN_0: Ahead = &[(0, LAST_WORD)];
 
-/// Gives the disk with the file of these bytes with which this is done, if it stops after so many calls.
-fn played<R: Abort + AllocGlobal>(rt: &R, start: &[u8], play: Play, calls: u64) -> MemDisk {
-    let mut disk = disk_with(rt, start);
-    if let Play::Open = play {
-        disk.stop_next(calls);
-        return opening(rt.alloc(), disk).1;
-    }
-    let mut file = opened(rt.alloc(), disk).expect(rt, "the file opens");
-    file.stop_next(calls);
-    match play {
-        Play::Open => {}
-        Play::Change => make_change(&mut file),
-        Play::Cancel => cancel_one(&mut file),
-        Play::Share => share_syncs(&mut file),
-        Play::Ahead => prepare_ahead(&mut file),
-    }
-    file.into_disk()
-}
-
-/// A disk has these bytes after so many calls.
-fn has_bytes<R: Abort + AllocGlobal>(rt: &R, disk: &MemDisk, calls: u64, bytes: &Bytes) {
-    let read = disk.crash(&[]).expect(rt, MEMORY);
-    same_at(rt, calls, &difference(&read, &bytes.read), &None);
-    let torn = disk.crash(&[TORN; 6000]).expect(rt, MEMORY);
-    same_at(rt, calls, &difference(&torn, &bytes.torn), &None);
-}
-
-/// What is done with the file of these bytes makes these calls on the device and no others.
-fn makes_calls<R: Abort + AllocGlobal>(rt: &R, start: &[u8], play: Play, calls: &[Called]) {
-    let mut wanted = Bytes {
-        read: start.to_vec(rt.alloc()).expect(rt, MEMORY),
-        torn: start.to_vec(rt.alloc()).expect(rt, MEMORY),
-    };
-    let mut made: u64 = 0;
-    for call in calls {
-        let disk = played(rt, start, play, made);
-        same_at(rt, made, &disk.faults(), &1);
-        make(rt, &mut wanted, *call);
-        made = made.saturating_add(1);
-        has_bytes(rt, &played(rt, start, play, made), made, &wanted);
-    }
-    same(rt, &played(rt, start, play, made).faults(), &0);
-}
+const LAST_IN_1: Ahead = &[(1, LAST_WORD)];
 
 /// Where a file with its second layout has junk: in the rest of the first layout, in the rest of the second
 /// head, in both places, and behind them.
@@ -299,12 +256,6 @@ const CHANGE: [Called; 9] = [
     Called::Synced,
 ];
 
-#[test]
-fn bytes_of_a_change(rt: HostRuntime) {
-    let start = laid(&rt, 5568, &SECOND_JUNK, &SECOND);
-    makes_calls(&rt, &start, Play::Change, &CHANGE);
-}
-
 /// The record of a change of sixteen words, without its commit byte. It leaves no byte of its place over.
 const FULL: &[u8] = b"\x10\0\0\0\0\0\0\
 \x01\0\0\0\0\0\0\0\x41\0\0\0\0\0\0\0\
@@ -340,12 +291,6 @@ const CANCEL: [Called; 6] = [
     ),
     Called::Synced,
 ];
-
-#[test]
-fn bytes_of_a_cancel(rt: HostRuntime) {
-    let start = laid(&rt, 5568, &SECOND_JUNK, &SECOND);
-    makes_calls(&rt, &start, Play::Cancel, &CANCEL);
-}
 
 /// The home words of the change of words 1 and 299.
 const HOME_1: Called = Called::Wrote(2608, 8, &[(2608, b"\x41\0\0\0\0\0\0\0")]);
@@ -389,12 +334,6 @@ const SHARE: [Called; 15] = [
     Called::Synced,
 ];
 
-#[test]
-fn bytes_of_changes_that_share_syncs(rt: HostRuntime) {
-    let start = laid(&rt, 5568, &SECOND_JUNK, &SECOND);
-    makes_calls(&rt, &start, Play::Share, &SHARE);
-}
-
 /// The record of word 299 is written before the commit byte of the seal that prepares it, and before the home word of
 /// the settle that prepares it.
 const AHEAD: [Called; 17] = [
@@ -431,12 +370,6 @@ const AHEAD: [Called; 17] = [
     Called::Synced,
 ];
 
-#[test]
-fn bytes_of_changes_that_are_prepared_ahead(rt: HostRuntime) {
-    let start = laid(&rt, 5568, &SECOND_JUNK, &SECOND);
-    makes_calls(&rt, &start, Play::Ahead, &AHEAD);
-}
-
 /// Two open records, with junk where a reader doesn't look, and a home word that a crash left half written.
 const OPEN_RECORDS: [Part; 6] = [
     (2600, b"\xff\xff\xff\xff\xff\xff\xff\xff"),
@@ -460,16 +393,12 @@ const OPENING: [Called; 9] = [
     Called::Synced,
 ];
 
-#[test]
-fn bytes_of_an_opening(rt: HostRuntime) {
-    let mut start = laid(&rt, 5568, &SECOND_JUNK, &SECOND);
-    put_all(&mut start, &OPEN_RECORDS);
-    makes_calls(&rt, &start, Play::Open, &OPENING);
-}
-
 /// Where a file in its first layout has junk: in the rest of its head, its switch byte among it, in its
 /// place, and behind it.
 const FIRST_JUNK: [(usize, usize); 3] = [(14, 18), (2432, 136), (2568, 3000)];
+
+/// The same in a file that ends there.
+const SHORT_JUNK: [(usize, usize); 2] = [(14, 18), (2432, 136)];
 
 /// What it has elsewhere: an open record of word 258, whose home word is half written.
 const FIRST: [Part; 6] = [
@@ -501,10 +430,109 @@ const MIGRATION: [Called; 7] = [
     Called::Synced,
 ];
 
+/// A file in its second layout, and the same with open records.
+const SECOND_START: Start = Start {
+    count: 5568,
+    junk: &SECOND_JUNK,
+    parts: &SECOND,
+    over: &[],
+};
+
+const OPEN_START: Start = Start {
+    over: &OPEN_RECORDS,
+    ..SECOND_START
+};
+
+/// A file in its first layout, with bytes after it and without.
+const FIRST_START: Start = Start {
+    count: 5568,
+    junk: &FIRST_JUNK,
+    parts: &FIRST,
+    over: &[],
+};
+
+const SHORT_START: Start = Start {
+    count: 2568,
+    junk: &SHORT_JUNK,
+    parts: &FIRST,
+    over: &[],
+};
+
+/// Changes in the opened file.
+const CHANGES: [Row; 4] = [
+    Row {
+        name: "a change",
+        start: SECOND_START,
+        steps: &[Step::Prepare(TWO_WORDS), Step::Seal(0), Step::Settle(0)],
+        calls: &CHANGE,
+    },
+    Row {
+        name: "a cancel",
+        start: SECOND_START,
+        steps: &[
+            Step::Prepare(TWO_WORDS),
+            Step::Prepare(&SIXTEEN),
+            Step::Cancel(0),
+            Step::Prepare(LAST_WORD_IS_7),
+        ],
+        calls: &CANCEL,
+    },
+    Row {
+        name: "changes that share syncs",
+        start: SECOND_START,
+        steps: &[
+            Step::PrepareAll(&[(0, TWO_WORDS), (1, OTHER_WORDS)]),
+            Step::Seal(1),
+            Step::Seal(0),
+            Step::SettleAll(&[]),
+        ],
+        calls: &SHARE,
+    },
+    Row {
+        name: "changes that are prepared ahead",
+        start: SECOND_START,
+        steps: &[
+            Step::Prepare(TWO_WORDS),
+            Step::SealWith(0, LAST_IN_1),
+            Step::SettleAll(&[]),
+            Step::Seal(1),
+            Step::SettleAll(LAST_IN_0),
+        ],
+        calls: &AHEAD,
+    },
+];
+
 #[test]
-fn bytes_of_a_migration(rt: HostRuntime) {
-    let mut start = laid(&rt, 5568, &FIRST_JUNK, &FIRST);
-    makes_calls(&rt, &start, Play::Open, &MIGRATION);
-    start.truncate(2568);
-    makes_calls(&rt, &start, Play::Open, &MIGRATION);
+fn bytes_of_changes(rt: HostRuntime) {
+    for row in CHANGES {
+        makes_calls(&rt, row);
+    }
+}
+
+const OPENINGS: [Row; 3] = [
+    Row {
+        name: "an opening that finishes open records",
+        start: OPEN_START,
+        steps: &[],
+        calls: &OPENING,
+    },
+    Row {
+        name: "a migration over other bytes",
+        start: FIRST_START,
+        steps: &[],
+        calls: &MIGRATION,
+    },
+    Row {
+        name: "a migration at the file's end",
+        start: SHORT_START,
+        steps: &[],
+        calls: &MIGRATION,
+    },
+];
+
+#[test]
+fn bytes_of_openings(rt: HostRuntime) {
+    for row in OPENINGS {
+        makes_calls(&rt, row);
+    }
 }

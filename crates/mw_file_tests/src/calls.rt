@@ -8,9 +8,11 @@ ghost use Rattle.mw_file.specs.NewChanges.{MayPrepare};
 ghost use Rattle.mw_file.specs.PlaceStates.{MaySeal, stage_of, writes_of_place};
 ghost use Rattle.mw_file_tests.specs.Permitted as spec;
 
+use crate::same::MEMORY;
 use mw_disk::MemDisk;
 use mw_file::{FileFault, NewChange, Place, PlaceState, Stage, TenantFile};
-use mw_words::{Entries, is_change};
+use mw_words::{Entries, Entry, is_change};
+use std::process::Abort;
 
 /// Tells whether a place is at this stage.
 fn is_at(states: &[PlaceState], place: Place, stage: Stage) -> bool
@@ -119,38 +121,41 @@ fn may_prepare(words: u16, states: &[PlaceState], changes: &[NewChange]) -> bool
     has_room_for(words, states, changes) && places_rise(changes)
 }
 
+/// What a call is answered, if it may be made. A prepare that chooses its place tells which one it is.
+pub(crate) type Told = Option<Result<Option<Place>, FileFault>>;
+
+/// Gives the answer of a call that tells no place.
+fn done(answer: Result<(), FileFault>) -> Told {
+    match answer {
+        Ok(()) => Some(Ok(None)),
+        Err(fault) => Some(Err(fault)),
+    }
+}
+
 /// Prepares a change, if there is a place and the file has its words.
-pub(crate) fn prepare(
-    file: &mut TenantFile<MemDisk>,
-    entries: &Entries,
-) -> Option<Result<Place, FileFault>> {
-    if file.has_place() && is_change(entries, usize::from(file.words())) {
-        Some(file.prepare(entries))
-    } else {
-        None
+fn prepare(file: &mut TenantFile<MemDisk>, entries: &Entries) -> Told {
+    if !(file.has_place() && is_change(entries, usize::from(file.words()))) {
+        return None;
+    }
+    match file.prepare(entries) {
+        Ok(place) => Some(Ok(Some(place))),
+        Err(fault) => Some(Err(fault)),
     }
 }
 
 /// Prepares a change in this place, if it is free and the file has the change's words.
-pub(crate) fn prepare_at(
-    file: &mut TenantFile<MemDisk>,
-    place: Place,
-    entries: &Entries,
-) -> Option<Result<(), FileFault>> {
+pub(crate) fn prepare_at(file: &mut TenantFile<MemDisk>, place: Place, entries: &Entries) -> Told {
     if is_at(file.states(), place, Stage::Free) && is_change(entries, usize::from(file.words())) {
-        Some(file.prepare_at(place, entries))
+        done(file.prepare_at(place, entries))
     } else {
         None
     }
 }
 
 /// Prepares these changes, if that may be done.
-pub(crate) fn prepare_all(
-    file: &mut TenantFile<MemDisk>,
-    changes: &[NewChange],
-) -> Option<Result<(), FileFault>> {
+pub(crate) fn prepare_all(file: &mut TenantFile<MemDisk>, changes: &[NewChange]) -> Told {
     if may_prepare(file.words(), file.states(), changes) {
-        Some(file.prepare_all(changes))
+        done(file.prepare_all(changes))
     } else {
         None
     }
@@ -161,52 +166,108 @@ pub(crate) fn seal_with(
     file: &mut TenantFile<MemDisk>,
     place: Place,
     changes: &[NewChange],
-) -> Option<Result<(), FileFault>> {
+) -> Told {
     if may_seal(file.states(), place) && may_prepare(file.words(), file.states(), changes) {
-        Some(file.seal_with(place, changes))
+        done(file.seal_with(place, changes))
     } else {
         None
     }
 }
 
 /// Settles all sealed changes and prepares these changes, if they may be prepared.
-pub(crate) fn settle_all(
-    file: &mut TenantFile<MemDisk>,
-    changes: &[NewChange],
-) -> Option<Result<(), FileFault>> {
+pub(crate) fn settle_all(file: &mut TenantFile<MemDisk>, changes: &[NewChange]) -> Told {
     if may_prepare(file.words(), file.states(), changes) {
-        Some(file.settle_all(changes))
+        done(file.settle_all(changes))
     } else {
         None
     }
 }
 
 /// Seals a change, if it is prepared and shares no address with a sealed one.
-pub(crate) fn seal(file: &mut TenantFile<MemDisk>, place: Place) -> Option<Result<(), FileFault>> {
+pub(crate) fn seal(file: &mut TenantFile<MemDisk>, place: Place) -> Told {
     if may_seal(file.states(), place) {
-        Some(file.seal(place))
+        done(file.seal(place))
     } else {
         None
     }
 }
 
 /// Settles a change, if it is sealed.
-pub(crate) fn settle(
-    file: &mut TenantFile<MemDisk>,
-    place: Place,
-) -> Option<Result<(), FileFault>> {
+fn settle(file: &mut TenantFile<MemDisk>, place: Place) -> Told {
     if is_at(file.states(), place, Stage::Sealed) {
-        Some(file.settle(place))
+        done(file.settle(place))
     } else {
         None
     }
 }
 
 /// Cancels a change, if it is prepared.
-pub(crate) fn cancel(file: &mut TenantFile<MemDisk>, place: Place) -> Option<()> {
+fn cancel(file: &mut TenantFile<MemDisk>, place: Place) -> Told {
     if is_at(file.states(), place, Stage::Prepared) {
-        Some(file.cancel(place))
+        file.cancel(place);
+        Some(Ok(None))
     } else {
         None
+    }
+}
+
+/// The addresses and new values of a change, whose words have the value 0.
+pub(crate) type Writes = &'static [(u16, u64)];
+
+/// Changes that a call prepares, each with its place.
+pub(crate) type Ahead = &'static [(u16, Writes)];
+
+/// A call on a file. A number is that of the call's place.
+#[derive(Clone, Copy)]
+pub(crate) enum Step {
+    Prepare(Writes),
+    PrepareAll(Ahead),
+    Seal(u16),
+    SealWith(u16, Ahead),
+    Settle(u16),
+    SettleAll(Ahead),
+    Cancel(u16),
+}
+
+/// Makes the change that expects 0 and writes these values.
+pub(crate) fn change(writes: &[(u16, u64)]) -> Entries {
+    let mut entries = Entries::new();
+    for write in writes {
+        let _ = entries.try_push(Entry {
+            addr: write.0,
+            expected: 0,
+            new: write.1,
+        });
+    }
+    entries
+}
+
+/// Makes the changes that a call prepares.
+fn changes_of<R: Abort + AllocGlobal>(rt: &R, ahead: Ahead) -> Vec<NewChange> {
+    let mut changes = Vec::new(rt.alloc());
+    for (place, writes) in ahead {
+        let new = NewChange {
+            place: Place(*place),
+            entries: change(writes),
+        };
+        changes.push(new).expect(rt, MEMORY);
+    }
+    changes
+}
+
+/// Makes a call, if it may be made.
+pub(crate) fn tell<R: Abort + AllocGlobal>(
+    rt: &R,
+    file: &mut TenantFile<MemDisk>,
+    step: Step,
+) -> Told {
+    match step {
+        Step::Prepare(writes) => prepare(file, &change(writes)),
+        Step::PrepareAll(ahead) => prepare_all(file, &changes_of(rt, ahead)),
+        Step::Seal(place) => seal(file, Place(place)),
+        Step::SealWith(place, ahead) => seal_with(file, Place(place), &changes_of(rt, ahead)),
+        Step::Settle(place) => settle(file, Place(place)),
+        Step::SettleAll(ahead) => settle_all(file, &changes_of(rt, ahead)),
+        Step::Cancel(place) => cancel(file, Place(place)),
     }
 }

@@ -1,8 +1,8 @@
 //! Tests disks in memory, and disks over files.
 //!
 //! Nothing else uses it: it may change with what it tests.
-use crate::file_tests::{MEMORY, disk_with};
-use crate::same::same;
+use crate::files::disk_with;
+use crate::same::{MEMORY, holds, same};
 use mw_disk::*;
 use std::cell::Cell;
 use std::fs::{File, Metadata, OpenFile, OpenOptions};
@@ -13,25 +13,96 @@ use std::process::Abort;
 use std::test::Fail;
 use std::{env, fs, io, process};
 
-// Writes these bytes, and reads them again.
-fn write_and_read<D: Disk>(disk: &mut D, at: u64, bytes: &[u8; 4]) -> Result<[u8; 4], DiskFault> {
-    disk.write_at(at, bytes)?;
-    disk.sync()?;
-    let mut out = [0; 4];
-    disk.read_at(at, &mut out)?;
-    Ok(out)
+/// A call on a disk, and what it must answer.
+#[derive(Clone, Copy)]
+enum Turn {
+    Len(Result<u64, DiskFault>),
+    Sync(Result<(), DiskFault>),
+    /// A write of these bytes at an offset.
+    Write(u64, &'static [u8], Result<(), DiskFault>),
+    /// A read of four bytes at an offset.
+    Read(u64, [u8; 4]),
+    /// A read of so many bytes at an offset, four at most, which fails.
+    NoRead(u64, usize),
+    /// How many calls have failed.
+    Faults(u64),
 }
 
-fn four_bytes(disk: &mut MemDisk) -> Result<[u8; 4], DiskFault> {
-    let mut out = [0; 4];
-    disk.read_at(0, &mut out)?;
-    Ok(out)
+/// What is done with a disk in memory, and what is found.
+#[derive(Clone, Copy)]
+enum MemoryTurn {
+    Call(Turn),
+    /// The call of this number from now on fails.
+    Fail(u64),
+    /// Every call after so many fails.
+    Stop(u64),
+    /// A crash with these torn bytes leaves just these.
+    Crash(&'static [u8], &'static [u8]),
+    /// How many calls were refused memory.
+    Refused(u64),
 }
 
-/// A crash of this disk with these torn bytes leaves just this.
-fn leaves<R: Abort + AllocGlobal>(rt: &R, disk: &MemDisk, torn: &[u8], left: &[u8]) {
-    let found = disk.crash(torn).expect(rt, MEMORY);
-    same(rt, &found.as_slice(), &left);
+const FAULT: Result<(), DiskFault> = Err(DiskFault);
+
+/// Makes a call on a disk, which answers as it must.
+fn take<R: Abort, D: Disk>(rt: &R, row: &str, at: u64, disk: &mut D, turn: Turn) {
+    match turn {
+        Turn::Len(wanted) => same(rt, row, at, &disk.len(), &wanted),
+        Turn::Sync(wanted) => same(rt, row, at, &disk.sync(), &wanted),
+        Turn::Write(offset, bytes, wanted) => {
+            same(rt, row, at, &disk.write_at(offset, bytes), &wanted);
+        }
+        Turn::Read(offset, wanted) => {
+            let mut out = [0; 4];
+            same(rt, row, at, &disk.read_at(offset, &mut out), &Ok(()));
+            same(rt, row, at, &out, &wanted);
+        }
+        Turn::NoRead(offset, count) => {
+            let mut out = [0; 4];
+            let read = disk.read_at(offset, &mut out[..count.min(4)]);
+            same(rt, row, at, &read, &FAULT);
+        }
+        Turn::Faults(wanted) => same(rt, row, at, &disk.faults(), &wanted),
+    }
+}
+
+/// Makes these calls on a disk.
+fn play<R: Abort, D: Disk>(rt: &R, row: &str, disk: &mut D, turns: &[Turn]) {
+    for (at, turn) in turns.iter().enumerate() {
+        take(rt, row, at as u64, disk, *turn);
+    }
+}
+
+/// Does this with a disk in memory, and finds what is wanted.
+fn take_in_memory<R: Abort + AllocGlobal>(
+    rt: &R,
+    row: &str,
+    at: u64,
+    disk: &mut MemDisk,
+    turn: MemoryTurn,
+) {
+    match turn {
+        MemoryTurn::Call(turn) => take(rt, row, at, disk, turn),
+        MemoryTurn::Fail(number) => disk.fail_next(number).expect(rt, MEMORY),
+        MemoryTurn::Stop(calls) => disk.stop_next(calls),
+        MemoryTurn::Crash(torn, wanted) => {
+            let left = disk.crash(torn).expect(rt, MEMORY);
+            holds(rt, row, at, left.as_slice() == wanted);
+        }
+        MemoryTurn::Refused(wanted) => same(rt, row, at, &disk.refused(), &wanted),
+    }
+}
+
+/// Does these things with a disk in memory.
+fn play_in_memory<R: Abort + AllocGlobal>(
+    rt: &R,
+    row: &str,
+    disk: &mut MemDisk,
+    turns: &[MemoryTurn],
+) {
+    for (at, turn) in turns.iter().enumerate() {
+        take_in_memory(rt, row, at as u64, disk, *turn);
+    }
 }
 
 /// Makes a disk of the bytes 1 to 4, whose calls of these numbers fail.
@@ -41,93 +112,59 @@ fn disk_of_four<R: Abort + AllocGlobal>(rt: &R, script: &[u64]) -> MemDisk {
     MemDisk::new(rt.alloc(), bytes, script).expect(rt, MEMORY)
 }
 
-/// What a disk of four bytes answers to its length, to a sync, to writes at 1, after its end and at 4, and
-/// to a read between them.
-type Answers = (
-    Result<u64, DiskFault>,
-    [Result<(), DiskFault>; 4],
-    Result<[u8; 4], DiskFault>,
-);
-
-fn call_by_script(disk: &mut MemDisk) -> Answers {
-    let len = disk.len();
-    let synced = disk.sync();
-    let written = disk.write_at(1, &[9, 9]);
-    let bytes = four_bytes(disk);
-    // The gap has zeros.
-    let behind = disk.write_at(6, &[7]);
-    let failed = disk.write_at(4, &[8, 8]);
-    (len, [synced, written, behind, failed], bytes)
-}
+/// The second and the sixth call fail. The third write leaves a gap, which has zeros.
+const SCRIPT: [MemoryTurn; 11] = [
+    MemoryTurn::Call(Turn::Len(Ok(4))),
+    MemoryTurn::Call(Turn::Sync(FAULT)),
+    MemoryTurn::Call(Turn::Write(1, &[9, 9], Ok(()))),
+    MemoryTurn::Call(Turn::Read(0, [1, 9, 9, 4])),
+    MemoryTurn::Call(Turn::Write(6, &[7], Ok(()))),
+    MemoryTurn::Call(Turn::Write(4, &[8, 8], FAULT)),
+    MemoryTurn::Call(Turn::Faults(2)),
+    MemoryTurn::Refused(0),
+    MemoryTurn::Crash(&[], &[1, 9, 9, 4, 0, 0, 7]),
+    MemoryTurn::Crash(&[10, 11, 12], &[1, 10, 11, 4, 12, 0, 7]),
+    MemoryTurn::Crash(&[10, 11, 12, 13, 14, 15], &[1, 10, 11, 4, 12, 13, 14]),
+];
 
 #[test]
 fn a_disk_in_memory_fails_where_its_script_says(rt: HostRuntime) {
     let mut disk = disk_of_four(&rt, &[2, 6]);
-    let wanted = (
-        Ok(4),
-        [Err(DiskFault), Ok(()), Ok(()), Err(DiskFault)],
-        Ok([1, 9, 9, 4]),
-    );
-    same(&rt, &call_by_script(&mut disk), &wanted);
-    same(&rt, &(disk.faults(), disk.refused()), &(2, 0));
-    crashes_by_script(&rt, &disk);
+    play_in_memory(&rt, "a script", &mut disk, &SCRIPT);
 }
 
-/// Crashes of the disk that followed its script leave its writes, and what was torn of them.
-fn crashes_by_script<R: Abort + AllocGlobal>(rt: &R, disk: &MemDisk) {
-    leaves(rt, disk, &[], &[1, 9, 9, 4, 0, 0, 7]);
-    leaves(rt, disk, &[10, 11, 12], &[1, 10, 11, 4, 12, 0, 7]);
-    let torn = [10, 11, 12, 13, 14, 15];
-    leaves(rt, disk, &torn, &[1, 10, 11, 4, 12, 13, 14]);
-}
-
-/// Makes two writes, of which the second must fail.
-fn write_twice(disk: &mut MemDisk) -> [Result<(), DiskFault>; 2] {
-    let first = disk.write_at(0, &[5]);
-    [first, disk.write_at(5, &[6])]
-}
-
-/// Makes a sync, a read of more bytes than there are, and a write for which there is not enough memory.
-fn ask_too_much(disk: &mut MemDisk) -> [Result<(), DiskFault>; 3] {
-    let synced = disk.sync();
-    let read = disk.read_at(3, &mut [0; 2]);
-    [synced, read, disk.write_at(1 << 63, &[1])]
-}
-
-/// The second call from now on fails, and no other one.
-fn fails_when_told<R: Abort + AllocGlobal>(rt: &R, disk: &mut MemDisk) {
-    disk.fail_next(2).expect(rt, MEMORY);
-    same(rt, &write_twice(disk), &[Ok(()), Err(DiskFault)]);
-    leaves(rt, disk, &[7, 8], &[7, 2, 3, 4, 0, 8]);
-    let wanted = [Ok(()), Err(DiskFault), Err(DiskFault)];
-    same(rt, &ask_too_much(disk), &wanted);
-    leaves(rt, disk, &[7, 8], &[5, 2, 3, 4]);
-}
-
-/// Makes two writes, of which the second comes after the disk has stopped.
-fn write_past_the_stop(disk: &mut MemDisk) -> [Result<(), DiskFault>; 2] {
-    disk.stop_next(1);
-    let first = disk.write_at(1, &[9]);
-    [first, disk.write_at(2, &[9])]
-}
+/// The second call fails, and no other one of the next ones, but for a read of more bytes than there are, and a write
+/// for which there is not enough memory. Then the disk stops after one call.
+const FAIL_AND_STOP: [MemoryTurn; 13] = [
+    MemoryTurn::Fail(2),
+    MemoryTurn::Call(Turn::Write(0, &[5], Ok(()))),
+    MemoryTurn::Call(Turn::Write(5, &[6], FAULT)),
+    MemoryTurn::Crash(&[7, 8], &[7, 2, 3, 4, 0, 8]),
+    MemoryTurn::Call(Turn::Sync(Ok(()))),
+    MemoryTurn::Call(Turn::NoRead(3, 2)),
+    MemoryTurn::Call(Turn::Write(1 << 63, &[1], FAULT)),
+    MemoryTurn::Crash(&[7, 8], &[5, 2, 3, 4]),
+    MemoryTurn::Call(Turn::Faults(3)),
+    MemoryTurn::Refused(1),
+    MemoryTurn::Stop(1),
+    MemoryTurn::Call(Turn::Write(1, &[9], Ok(()))),
+    MemoryTurn::Call(Turn::Write(2, &[9], FAULT)),
+];
 
 /// A copy of a disk that has stopped has stopped too.
-fn copy_has_stopped<R: Abort + AllocGlobal>(rt: &R, disk: &MemDisk) {
-    let mut copy = disk.copy().expect(rt, MEMORY);
-    leaves(rt, &copy, &[6, 6], &[5, 6, 3, 4]);
-    let len = copy.len();
-    same(rt, &(len, copy.faults()), &(Err(DiskFault), 5));
-}
+const STOPPED: [MemoryTurn; 3] = [
+    MemoryTurn::Crash(&[6, 6], &[5, 6, 3, 4]),
+    MemoryTurn::Call(Turn::Len(Err(DiskFault))),
+    MemoryTurn::Call(Turn::Faults(5)),
+];
 
 #[test]
 fn a_disk_in_memory_fails_and_stops_when_told(rt: HostRuntime) {
     let mut disk = disk_of_four(&rt, &[]);
-    fails_when_told(&rt, &mut disk);
-    same(&rt, &(disk.faults(), disk.refused()), &(3, 1));
-    let written = write_past_the_stop(&mut disk);
-    same(&rt, &written, &[Ok(()), Err(DiskFault)]);
-    copy_has_stopped(&rt, &disk);
-    same(&rt, &disk.faults(), &4);
+    play_in_memory(&rt, "a disk that is told", &mut disk, &FAIL_AND_STOP);
+    let mut copy = disk.copy().expect(&rt, MEMORY);
+    play_in_memory(&rt, "its copy", &mut copy, &STOPPED);
+    same(&rt, "a disk that has stopped", 0, &disk.faults(), &4);
 }
 
 /// Gives the path of a file that only this process uses.
@@ -146,31 +183,29 @@ fn nameless_file(rt: &HostRuntime) -> Result<File, Fail> {
     Ok(file)
 }
 
-/// Gives what a disk of seven bytes answers to a read past them, and to writes past every file's end.
-fn go_too_far<D: Disk>(disk: &mut D) -> [Result<(), DiskFault>; 3] {
-    let read = disk.read_at(4, &mut [0; 4]);
-    let last = disk.write_at(u64::MAX, b"a");
-    [read, last, disk.write_at((1 << 63) - 1, b"a")]
-}
-
-/// A disk of no bytes gives what is written to it, and refuses what goes too far.
-fn is_used<R: Abort, D: Disk>(rt: &R, disk: &mut D) {
-    let read = write_and_read(disk, 3, b"abcd");
-    same(rt, &(read, disk.len()), &(Ok(*b"abcd"), Ok(7)));
-    same(rt, &go_too_far(disk), &[Err(DiskFault); 3]);
-    same(rt, &disk.faults(), &3);
-}
+/// A disk of no bytes gives what is written to it. It refuses reads past it, and writes past every file's end.
+const USE: [Turn; 8] = [
+    Turn::Write(3, b"abcd", Ok(())),
+    Turn::Sync(Ok(())),
+    Turn::Read(3, *b"abcd"),
+    Turn::Len(Ok(7)),
+    Turn::NoRead(4, 4),
+    Turn::Write(u64::MAX, b"a", FAULT),
+    Turn::Write((1 << 63) - 1, b"a", FAULT),
+    Turn::Faults(3),
+];
 
 #[test]
 fn a_disk_in_memory_and_one_over_a_file_are_used_alike(rt: HostRuntime) -> Result<(), Fail> {
-    is_used(&rt, &mut disk_with(&rt, &[]));
+    play(&rt, "a disk in memory", &mut disk_with(&rt, &[]), &USE);
     let mut disk = FileDisk::new(nameless_file(&rt)?);
-    is_used(&rt, &mut disk);
-    assert!(rt; disk.into_file().metadata()?.len() == 7);
+    play(&rt, "a disk over a file", &mut disk, &USE);
+    let len = disk.into_file().metadata()?.len();
+    same(&rt, "the file's length", 0, &len, &7);
     Ok(())
 }
 
-// A file of 8 bytes. Each call takes one byte, and every third call is interrupted.
+/// A file of 8 bytes. Each call takes one byte, and every third call is interrupted.
 #[derive(Drop)]
 struct SlowFile {
     bytes: Cell<[u8; 8]>,
@@ -242,29 +277,29 @@ fn slow_file() -> SlowFile {
     }
 }
 
-/// Writes at 0, 3 and 4, and reads each again.
-fn write_and_read_thrice<D: Disk>(disk: &mut D) -> [Result<[u8; 4], DiskFault>; 3] {
-    let first = write_and_read(disk, 0, b"abcd");
-    let second = write_and_read(disk, 3, b"abcd");
-    [first, second, write_and_read(disk, 4, b"abcd")]
-}
-
-/// Makes a write and a read that end after the last of eight bytes. A write takes none there, and a read
-/// gives none.
-fn reach_behind<D: Disk>(disk: &mut D) -> [Result<(), DiskFault>; 2] {
-    let written = disk.write_at(6, b"abc");
-    [written, disk.read_at(6, &mut [0; 3])]
-}
+/// Writes at 0, 3 and 4, each of which is read again. Then a write and a read that end after the last of eight
+/// bytes: a write takes none there, and a read gives none.
+const SHORT_CALLS: [Turn; 13] = [
+    Turn::Write(0, b"abcd", Ok(())),
+    Turn::Sync(Ok(())),
+    Turn::Read(0, *b"abcd"),
+    Turn::Write(3, b"abcd", Ok(())),
+    Turn::Sync(Ok(())),
+    Turn::Read(3, *b"abcd"),
+    Turn::Write(4, b"abcd", Ok(())),
+    Turn::Sync(Ok(())),
+    Turn::Read(4, *b"abcd"),
+    Turn::Write(6, b"abc", FAULT),
+    Turn::NoRead(6, 3),
+    Turn::Len(Err(DiskFault)),
+    Turn::Faults(3),
+];
 
 #[test]
 fn short_and_interrupted_calls_go_on(rt: HostRuntime) {
     let mut disk = FileDisk::new(slow_file());
-    let read = write_and_read_thrice(&mut disk);
-    same(&rt, &read, &[Ok(*b"abcd"); 3]);
-    let refused = reach_behind(&mut disk);
-    same(&rt, &refused, &[Err(DiskFault); 2]);
-    same(&rt, &(disk.len(), disk.faults()), &(Err(DiskFault), 3));
+    play(&rt, "a slow file", &mut disk, &SHORT_CALLS);
     let file = disk.into_file();
     let left = (file.syncs.get(), file.bytes.get());
-    same(&rt, &left, &(3, *b"abcaabab"));
+    same(&rt, "what is left", 0, &left, &(3, *b"abcaabab"));
 }

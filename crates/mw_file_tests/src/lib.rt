@@ -5,30 +5,26 @@
 #![tactic(auto)]
 
 #[cfg(test)]
-mod ahead_tests;
-#[cfg(test)]
 mod book_tests;
 #[cfg(test)]
 mod byte_tests;
 #[cfg(test)]
 mod calls;
 #[cfg(test)]
-mod copy_tests;
+mod damage_tests;
 #[cfg(test)]
 mod disk_tests;
 #[cfg(test)]
 mod file_tests;
 #[cfg(test)]
-mod memory_tests;
+mod files;
 #[cfg(test)]
 mod opening_tests;
 #[cfg(test)]
 mod power_tests;
 #[cfg(test)]
-mod record_tests;
-#[cfg(test)]
 mod same;
 #[cfg(test)]
 mod shared_tests;
 #[cfg(test)]
-mod torn;
+mod turn_tests;

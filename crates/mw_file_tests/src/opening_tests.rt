@@ -1,177 +1,134 @@
-//! Tests the opening of a file: what it finds, what is damaged, and what crashes of it leave. It gives a
-//! file in its first layout the second one.
+//! Tests the opening of a file: what it finds, and what crashes of it leave. It gives a file in its first layout
+//! the second one.
 //!
-//! Used by: `power_tests`. It may change freely as long as this crate checks and its tests pass.
-ghost use Rattle.std.specs.Prelude.{◌≤◌};
-ghost use Rattle.mw_record.specs.declared.layout.TheConstants.{FIRST_PLACES};
-
-use crate::file_tests::{
-    MEMORY, TORN, Trouble, Words, answers, answers_to, disk_with, left, new_bytes, opened, opening,
-    over_and_over, troubled, troubled_file, two_of, with_two_records, words_of,
+//! Used by: `power_tests` and `damage_tests`. It may change freely as long as this crate checks and its tests pass.
+use crate::file_tests::{answers, answers_to, troubled_file};
+use crate::files::{
+    SET_FIRST, TORN, Trouble, WRITTEN, disk_with, left, left_on, new_bytes, opened, opening,
+    opens_with, set_bytes, troubled,
 };
-use crate::same::{same, same_at};
+use crate::same::{MEMORY, holds, same};
+use crate::turn_tests::with_two_records;
 use mw_disk::{Disk, MemDisk};
 use mw_file::OpenFault;
-use std::alloc::Global;
 use std::process::Abort;
 
-/// Makes a new file of two words and two places, whose first word is 5.
-fn bytes_with_a_word<R: Abort + AllocGlobal>(rt: &R) -> Vec<u8> {
-    let mut bytes = new_bytes(rt, 2, 2);
-    set_bytes(&mut bytes, &[(32, 5)]);
-    bytes
-}
-
-/// Changes some of these bytes.
-fn set_bytes(bytes: &mut Vec<u8>, changes: &[(usize, u8)]) {
-    for change in changes {
-        if let Some(byte) = bytes.get_mut(change.0) {
-            *byte = change.1;
-        }
-    }
-}
-
-/// Gives the number of places of the file on this disk, and whether one of them is free, if the file opens.
-fn places_on(alloc: Global, disk: MemDisk) -> Option<(u16, bool)> {
-    let file = opened(alloc, disk)?;
-    Some((file.places(), file.has_place()))
-}
-
-#[test]
-fn a_new_file_opens_with_all_places_free(rt: HostRuntime) {
-    let bytes = bytes_with_a_word(&rt);
-    same(&rt, &words_of(&rt, &bytes), &Some([5, 0]));
-    let places = places_on(rt.alloc(), disk_with(&rt, &bytes));
-    same(&rt, &places, &Some((4, true)));
-}
-
-/// Gives the fault of an opening whose device has trouble after so many calls, if it has one, and how many
-/// calls have then failed.
-fn fault_of<R: Abort + AllocGlobal>(
-    rt: &R,
-    bytes: &[u8],
+/// A file that is opened.
+#[derive(Clone, Copy)]
+struct File {
+    name: &'static str,
+    bytes: Bytes,
+    /// How many device calls the opening makes.
     calls: u8,
-    trouble: Trouble,
-) -> (Option<OpenFault>, u64) {
-    let (ended, disk) = opening(rt.alloc(), troubled(rt, bytes, calls, trouble));
-    (ended.err(), disk.faults())
-}
-
-#[test]
-fn each_device_call_of_an_opening_fails(rt: HostRuntime) {
-    let bytes = bytes_with_a_word(&rt);
-    for calls in 0..=7 {
-        let wanted = if calls < 7 {
-            (Some(OpenFault::Disk), 1)
-        } else {
-            (None, 0)
-        };
-        for trouble in [Trouble::Once, Trouble::Stop] {
-            let found = fault_of(&rt, &bytes, calls, trouble);
-            same_at(&rt, u64::from(calls), &found, &wanted);
-        }
-    }
-}
-
-/// Makes the file of two words and so many places, with these bytes changed and so many bytes kept.
-fn damaged_bytes<R: Abort + AllocGlobal>(
-    rt: &R,
+    words: &'static [u64],
+    /// How many places the opened file has.
     places: u16,
-    changes: &[(usize, u8)],
-    kept: usize,
-) -> Vec<u8>
-    requires some_place { 1 ≤ places }
-    requires places_fit { places ≤ FIRST_PLACES }
-{
-    let mut bytes = new_bytes(rt, 2, places);
-    set_bytes(&mut bytes, changes);
-    bytes.truncate(kept);
+    /// Whether a crash during the opening of what a crash in a first opening left is looked at too.
+    crashes_twice: bool,
+}
+
+/// The bytes of a file.
+#[derive(Clone, Copy)]
+enum Bytes {
+    /// A new file of two words and two places, whose first word is 5.
+    New,
+    /// A file whose change of both words is sealed.
+    Sealed,
+    /// A file in its first layout, whose record is open.
+    Old,
+    /// A file whose first record is prepared, and whose second one is sealed.
+    TwoRecords,
+    /// A file of three words with two open records, in its first layout and in its second one.
+    First,
+    Second,
+}
+
+const FILES: [File; 6] = [
+    File {
+        name: "a new file",
+        bytes: Bytes::New,
+        calls: 7,
+        words: &[5, 0],
+        places: 4,
+        crashes_twice: false,
+    },
+    File {
+        name: "a sealed file",
+        bytes: Bytes::Sealed,
+        calls: 7,
+        words: &[1, 2],
+        places: 2,
+        crashes_twice: true,
+    },
+    File {
+        name: "an old file",
+        bytes: Bytes::Old,
+        calls: 7,
+        words: &[5, 0],
+        places: 2,
+        crashes_twice: true,
+    },
+    File {
+        name: "two records",
+        bytes: Bytes::TwoRecords,
+        calls: 7,
+        words: &[0, 2, 3],
+        places: 4,
+        crashes_twice: false,
+    },
+    File {
+        name: "two open records of the first layout",
+        bytes: Bytes::First,
+        calls: 7,
+        words: &[1, 2, 3],
+        places: 4,
+        crashes_twice: false,
+    },
+    File {
+        name: "two open records of the second layout",
+        bytes: Bytes::Second,
+        calls: 9,
+        words: &[1, 2, 3],
+        places: 4,
+        crashes_twice: false,
+    },
+];
+
+/// Gives what a crash leaves of a file whose change is sealed: the device stops before settle's first call.
+fn sealed_bytes<R: Abort + AllocGlobal>(rt: &R) -> Vec<u8> {
+    let mut file = troubled_file(rt, 4, Trouble::Stop);
+    let told = answers(rt, &mut file);
+    same(rt, "a sealed file", 4, &told, &answers_to(4).0);
+    left(rt, &file, WRITTEN)
+}
+
+/// Makes a file in its first layout, of two words and one place. Its record is open and sets word 0 to 5.
+pub(crate) fn old_bytes<R: Abort + AllocGlobal>(rt: &R) -> Vec<u8> {
+    let mut bytes = new_bytes(rt, 2, 1);
+    set_bytes(&mut bytes, &[(48, 0xa5), (49, 1), (64, 5)]);
     bytes
-}
-
-/// Two open records, each of address 0 and value 1.
-const OVERLAP: [(usize, u8); 6] = [
-    (48, 0xa5),
-    (49, 1),
-    (64, 1),
-    (184, 0xa5),
-    (185, 1),
-    (200, 1),
-];
-
-/// Damaged files: the number of places, the changed bytes, how many bytes are kept, and the number of the
-/// damage.
-const DAMAGED: [(u16, &[(usize, u8)], usize, u8); 11] = [
-    (1, &[(0, 0x58)], 184, 1),
-    (1, &[(0, 0)], 184, 1),
-    (1, &[(12, 0)], 184, 2),
-    (1, &[(15, 0xa5)], 184, 7),
-    (1, &[(38, 1)], 184, 3),
-    (1, &[(39, 1)], 184, 3),
-    (1, &[(48, 0xa5)], 184, 4),
-    (1, &[(48, 0xa5), (49, 9)], 184, 4),
-    (2, &OVERLAP, 320, 5),
-    (1, &[], 183, 6),
-    (1, &[], 31, 6),
-];
-
-/// Gives the number of the damage with which an opening of these bytes ends, 0 if it ends otherwise; how
-/// many calls failed; and what a crash then leaves.
-fn damage_of<R: Abort + AllocGlobal>(rt: &R, bytes: &[u8]) -> (u8, u64, Vec<u8>) {
-    let (ended, disk) = opening(rt.alloc(), disk_with(rt, bytes));
-    let found = match ended {
-        Err(OpenFault::Damage(damage)) => damage.number(),
-        _ => 0,
-    };
-    (found, disk.faults(), disk.crash(&[]).expect(rt, MEMORY))
-}
-
-#[test]
-fn damaged_files(rt: HostRuntime) {
-    for case in DAMAGED {
-        let (places, changes, kept, number) = case;
-        let bytes = damaged_bytes(&rt, places, changes, kept);
-        same(&rt, &bytes.len(), &kept);
-        same(&rt, &damage_of(&rt, &bytes), &(number, 0, bytes));
-    }
-}
-
-/// Tells how an opening of these bytes ends if its device stops after so many calls: with these words or
-/// not, or with a fault.
-fn ended_after<R: Abort + AllocGlobal>(
-    rt: &R,
-    bytes: &[u8],
-    calls: u8,
-    words: &[u64],
-) -> Result<bool, OpenFault> {
-    let (ended, _) = opening(rt.alloc(), troubled(rt, bytes, calls, Trouble::Stop));
-    match ended {
-        Ok(found) => Ok(found.as_slice() == words),
-        Err(fault) => Err(fault),
-    }
 }
 
 /// The commit bytes and counts of a file's two records: the first prepared, the second sealed. The second
 /// layout begins at 328, its places at 384 and 648.
 const TWO_RECORDS: [(usize, u8); 4] = [(384, 0), (385, 1), (648, 0xa5), (649, 2)];
 
-/// A file has these bytes among others.
-fn has_bytes<R: Abort>(rt: &R, bytes: &[u8], wanted: &[(usize, u8)]) {
-    for (at, byte) in wanted {
-        same_at(rt, *at as u64, &bytes.get(*at).copied(), &Some(*byte));
+/// Makes a file of three words whose first record is prepared, and whose second one is sealed.
+fn two_records<R: Abort + AllocGlobal>(rt: &R) -> Vec<u8> {
+    let left = left(rt, &with_two_records(rt), WRITTEN);
+    same(rt, "the length", 0, &left.len(), &1440);
+    for (at, byte) in TWO_RECORDS {
+        let is_right = left.get(at) == Some(&byte);
+        holds(rt, "two records", at as u64, is_right);
     }
+    left
 }
 
-#[test]
-fn two_records(rt: HostRuntime) {
-    same(&rt, &new_bytes(&rt, 3, 2).len(), &328);
-    let left = left(&rt, &with_two_records(&rt, 2), &[]);
-    same(&rt, &left.len(), &1440);
-    has_bytes(&rt, &left, &TWO_RECORDS);
-    for (calls, wanted) in [(7, Ok(true)), (6, Err(OpenFault::Disk))] {
-        let ended = ended_after(&rt, &left, calls, &[0, 2, 3]);
-        same_at(&rt, u64::from(calls), &ended, &wanted);
-    }
+/// Makes a new file of three words and two places, without its second layout.
+fn first_of_three<R: Abort + AllocGlobal>(rt: &R) -> Vec<u8> {
+    let bytes = new_bytes(rt, 3, 2);
+    same(rt, "a new file's length", 0, &bytes.len(), &328);
+    bytes
 }
 
 /// Two open records of a file of three words and two places in its first layout, in its places at 56 and
@@ -205,168 +162,139 @@ const SECOND_RECORDS: [(usize, u8); 12] = [
     (680, 3),
 ];
 
-/// Makes a file of three words in its second layout, which has four places. Its words are 0.
-fn second_of_three<R: Abort + AllocGlobal>(rt: &R) -> Vec<u8> {
-    let mut bytes = new_bytes(rt, 3, 2);
-    let head = b"MWCASF2\n\x03\0\0\0\x04\0";
+/// Adds a second layout with this head to a file, which then has so many bytes, and changes some of them.
+fn add_second<R: Abort + AllocGlobal>(
+    rt: &R,
+    bytes: &mut Vec<u8>,
+    head: &[u8],
+    len: usize,
+    changes: &[(usize, u8)],
+) {
     bytes.extend_from_slice(head).expect(rt, MEMORY);
-    bytes.resize(1440, 0).expect(rt, MEMORY);
+    bytes.resize(len, 0).expect(rt, MEMORY);
+    set_bytes(bytes, changes);
+}
+
+/// What [`old_bytes`] gets with its second layout: words 5 and 0, and two places, both closed.
+const MIGRATED: [(usize, u8); 3] = [(15, 0xa5), (16, 0xb8), (216, 5)];
+
+/// Makes the old file with its second layout after the first.
+pub(crate) fn migrated<R: Abort + AllocGlobal>(rt: &R) -> Vec<u8> {
+    let mut bytes = old_bytes(rt);
+    add_second(rt, &mut bytes, b"MWCASF2\n\x02\0\0\0\x02\0", 760, &MIGRATED);
     bytes
 }
 
-#[test]
-fn two_open_records(rt: HostRuntime) {
-    let mut first = new_bytes(&rt, 3, 2);
-    set_bytes(&mut first, &FIRST_RECORDS);
-    let mut second = second_of_three(&rt);
-    set_bytes(&mut second, &SECOND_RECORDS);
-    for (bytes, calls) in [(first, 7), (second, 9)] {
-        for (calls, wanted) in [(calls, Ok(true)), (calls - 1, Err(OpenFault::Disk))] {
-            let ended = ended_after(&rt, &bytes, calls, &[1, 2, 3]);
-            same_at(&rt, u64::from(calls), &ended, &wanted);
+/// Makes the bytes of a file.
+fn bytes_of<R: Abort + AllocGlobal>(rt: &R, bytes: Bytes) -> Vec<u8> {
+    match bytes {
+        Bytes::New => {
+            let mut bytes = new_bytes(rt, 2, 2);
+            set_bytes(&mut bytes, &[(32, 5)]);
+            bytes
+        }
+        Bytes::Sealed => sealed_bytes(rt),
+        Bytes::Old => old_bytes(rt),
+        Bytes::TwoRecords => two_records(rt),
+        Bytes::First => {
+            let mut bytes = first_of_three(rt);
+            set_bytes(&mut bytes, &FIRST_RECORDS);
+            bytes
+        }
+        Bytes::Second => {
+            let mut bytes = first_of_three(rt);
+            let head = b"MWCASF2\n\x03\0\0\0\x04\0";
+            add_second(rt, &mut bytes, head, 1440, &SECOND_RECORDS);
+            bytes
         }
     }
 }
 
-/// Adds what crashes of this disk leave with these torn bytes.
-fn add_crashes<R: Abort + AllocGlobal>(
-    rt: &R,
-    disk: &MemDisk,
-    torn: &[&[u8]],
-    images: &mut Vec<Vec<u8>>,
-) {
-    for torn in torn {
-        let image = disk.crash(&over_and_over(rt, torn)).expect(rt, MEMORY);
-        images.push(image).expect(rt, MEMORY);
+/// Crashes of a disk leave a file that opens with these words, whatever is torn.
+fn keeps_words<R: Abort + AllocGlobal>(rt: &R, file: &File, calls: u8, disk: &MemDisk) {
+    for torn in TORN {
+        let is_right = opens_with(rt, &left_on(rt, disk, torn), &[file.words]);
+        holds(rt, file.name, u64::from(calls), is_right);
     }
 }
 
-/// Gives what crashes with these torn bytes leave after openings of a file, each with one of these troubles
-/// at another call.
-fn left_by_openings<R: Abort + AllocGlobal>(
-    rt: &R,
-    bytes: &[u8],
-    troubles: &[Trouble],
-    torn: &[&[u8]],
-) -> Vec<Vec<u8>> {
-    let mut images = Vec::new(rt.alloc());
-    for calls in 0..=7 {
-        for trouble in troubles {
-            let (_, disk) = opening(rt.alloc(), troubled(rt, bytes, calls, *trouble));
-            add_crashes(rt, &disk, torn, &mut images);
-        }
+/// Tells how an opening ends that makes so many calls at most: with the file's words or not, or with a fault. Tells
+/// how many calls fail, too.
+fn wanted(file: &File, calls: u8) -> (Result<bool, OpenFault>, u64) {
+    if calls < file.calls {
+        (Err(OpenFault::Disk), 1)
+    } else {
+        (Ok(true), 0)
     }
-    images
 }
 
-/// Gives what a crash leaves of a file whose change is sealed: the device stops before settle's first call.
-fn sealed_image<R: Abort + AllocGlobal>(rt: &R) -> Vec<u8> {
-    let mut file = troubled_file(rt, 4, Trouble::Stop);
-    same(rt, &answers(&mut file), &answers_to(4).0);
-    left(rt, &file, &[])
-}
-
-/// Tells how an opening of these bytes ends if its device has trouble after so many calls, and how many
-/// calls have then failed.
-fn opening_with_trouble<R: Abort + AllocGlobal>(
+/// Opens a file with trouble after so many calls. It ends as it must, and crashes leave the file's words. Gives
+/// the disk then.
+fn open_with_trouble<R: Abort + AllocGlobal>(
     rt: &R,
+    file: &File,
     image: &[u8],
     calls: u8,
     trouble: Trouble,
-) -> (Result<Option<Words>, OpenFault>, u64) {
+) -> MemDisk {
     let (ended, disk) = opening(rt.alloc(), troubled(rt, image, calls, trouble));
-    let words = match ended {
-        Ok(words) => Ok(two_of(&words)),
+    let ended = match ended {
+        Ok(words) => Ok(words.as_slice() == file.words),
         Err(fault) => Err(fault),
     };
-    (words, disk.faults())
+    let found = (ended, disk.faults());
+    same(
+        rt,
+        file.name,
+        u64::from(calls),
+        &found,
+        &wanted(file, calls),
+    );
+    keeps_words(rt, file, calls, &disk);
+    disk
 }
 
-/// Opens a sealed file's bytes, each time with trouble at another call, and checks how that ends.
-fn open_with_trouble<R: Abort + AllocGlobal>(rt: &R, image: &[u8]) {
+/// What any crash during an opening of what a crash left of a file leaves, opens and has the file's words.
+fn keeps_words_again<R: Abort + AllocGlobal>(rt: &R, file: &File, image: &[u8]) {
     for calls in 0..=7 {
-        let wanted = if calls < 7 {
-            (Err(OpenFault::Disk), 1)
-        } else {
-            (Ok(Some([1, 2])), 0)
-        };
         for trouble in [Trouble::Once, Trouble::Stop] {
-            let found = opening_with_trouble(rt, image, calls, trouble);
-            same_at(rt, u64::from(calls), &found, &wanted);
+            let (_, disk) = opening(rt.alloc(), troubled(rt, image, calls, trouble));
+            keeps_words(rt, file, calls, &disk);
         }
     }
 }
 
-/// Files with these bytes open, and have these words.
-fn have_words<R: Abort + AllocGlobal>(rt: &R, images: &[Vec<u8>], words: Words) {
-    for image in images {
-        same(rt, &words_of(rt, image), &Some(words));
+/// A file is opened with trouble after each device call in turn, and crashes leave its words.
+fn keeps_words_in_each<R: Abort + AllocGlobal>(rt: &R, file: &File, image: &[u8]) {
+    for calls in 0..=file.calls {
+        open_with_trouble(rt, file, image, calls, Trouble::Once);
+        let disk = open_with_trouble(rt, file, image, calls, Trouble::Stop);
+        if file.crashes_twice {
+            keeps_words_again(rt, file, &left_on(rt, &disk, SET_FIRST));
+        }
     }
 }
 
-/// What any crash during an opening of a file with these bytes leaves, opens and has these words.
-fn keeps_words<R: Abort + AllocGlobal>(rt: &R, image: &[u8], words: Words) {
-    let images = left_by_openings(rt, image, &[Trouble::Once, Trouble::Stop], &TORN);
-    have_words(rt, &images, words);
-}
-
-/// The same holds of a crash during an opening of what a stop left in a first opening.
-fn keeps_words_twice<R: Abort + AllocGlobal>(rt: &R, image: &[u8], words: Words) {
-    keeps_words(rt, image, words);
-    for once in &left_by_openings(rt, image, &[Trouble::Stop], &[&[0xa5, 0xff, 0x5a, 0x00]]) {
-        keeps_words(rt, once, words);
-    }
+/// An opened file has so many places, and one of them is free.
+fn has_places<R: Abort + AllocGlobal>(rt: &R, file: &File, image: &[u8]) {
+    let opened = opened(rt, disk_with(rt, image));
+    same(rt, file.name, 0, &opened.places(), &file.places);
+    holds(rt, file.name, 0, opened.has_place());
 }
 
 #[test]
-fn opening_sweep(rt: HostRuntime) {
-    let image = sealed_image(&rt);
-    open_with_trouble(&rt, &image);
-    keeps_words_twice(&rt, &image, [1, 2]);
-}
-
-/// Makes a file in its first layout, of two words and one place. Its record is open and sets word 0 to 5.
-pub(crate) fn old_file<R: Abort + AllocGlobal>(rt: &R) -> Vec<u8> {
-    let mut bytes = new_bytes(rt, 2, 1);
-    set_bytes(&mut bytes, &[(48, 0xa5), (49, 1), (64, 5)]);
-    bytes
-}
-
-/// Makes the same file with its second layout after the first: words 5 and 0, two places, both closed.
-fn migrated<R: Abort + AllocGlobal>(rt: &R) -> Vec<u8> {
-    let mut bytes = old_file(rt);
-    set_bytes(&mut bytes, &[(15, 0xa5), (16, 0xb8)]);
-    let head = b"MWCASF2\n\x02\0\0\0\x02\0";
-    bytes.extend_from_slice(head).expect(rt, MEMORY);
-    bytes.resize(760, 0).expect(rt, MEMORY);
-    set_bytes(&mut bytes, &[(216, 5)]);
-    bytes
+fn openings_keep_the_words(rt: HostRuntime) {
+    for file in &FILES {
+        let image = bytes_of(&rt, file.bytes);
+        has_places(&rt, file, &image);
+        keeps_words_in_each(&rt, file, &image);
+    }
 }
 
 #[test]
 fn migration(rt: HostRuntime) {
-    let old = old_file(&rt);
-    let (ended, disk) = opening(rt.alloc(), disk_with(&rt, &old));
-    let words = two_of(&ended.expect(&rt, "the file opens"));
-    let bytes = disk.crash(&[]).expect(&rt, MEMORY);
-    same(&rt, &(words, bytes), &(Some([5, 0]), migrated(&rt)));
-    keeps_words_twice(&rt, &old, [5, 0]);
-}
-
-/// Damages of a second layout: the changed bytes, how many bytes are kept, and the number of the damage.
-const DAMAGED_SECOND: [(&[(usize, u8)], usize, u8); 3] = [
-    (&[(184, 0)], 760, 7),
-    (&[], 759, 6),
-    (&[(232, 0xa5), (233, 17)], 760, 4),
-];
-
-#[test]
-fn damaged_second_layout(rt: HostRuntime) {
-    for case in DAMAGED_SECOND {
-        let (changes, kept, number) = case;
-        let mut bytes = migrated(&rt);
-        set_bytes(&mut bytes, changes);
-        bytes.truncate(kept);
-        same(&rt, &damage_of(&rt, &bytes), &(number, 0, bytes));
-    }
+    let (ended, disk) = opening(rt.alloc(), disk_with(&rt, &old_bytes(&rt)));
+    holds(&rt, "the file opens", 0, ended.is_ok());
+    let is_right = left_on(&rt, &disk, WRITTEN) == migrated(&rt);
+    holds(&rt, "the bytes", 0, is_right);
 }

@@ -1,91 +1,194 @@
 //! Tests power failures: a file keeps any part of a write that wasn't synced, torn at any byte.
 //!
-//! Nothing else uses it: it may change with what it tests.
-
-use crate::file_tests::{
-    MEMORY, ONES, Trouble, WRITTEN, ZEROS, answers, left, opening, over_and_over, troubled,
-    troubled_file, words_of,
-};
-use crate::opening_tests::old_file;
-use crate::same::{same, same_at};
-use crate::torn::torn_anywhere;
-use mw_disk::Disk;
+//! Used by: `shared_tests`. It may change freely as long as this crate checks and its tests pass.
+use crate::file_tests::{answers, troubled_file};
+use crate::files::{ONES, Trouble, WRITTEN, ZEROS, left, left_on, opening, opens_with, troubled};
+use crate::opening_tests::old_bytes;
+use crate::same::{MEMORY, holds, same};
 use std::process::Abort;
 
-/// Gives what a crash with these torn bytes leaves of a file whose device stopped after so many calls of a
-/// change.
-fn left_of_change<R: Abort + AllocGlobal>(rt: &R, calls: u8, torn: &[u8]) -> Vec<u8> {
-    let mut file = troubled_file(rt, calls, Trouble::Stop);
-    let _ = answers(&mut file);
-    left(rt, &file, &over_and_over(rt, torn))
+/// Puts a byte at an offset.
+fn put(bytes: &mut Vec<u8>, at: usize, byte: u8) {
+    if let Some(old) = bytes.get_mut(at) {
+        *old = byte;
+    }
 }
 
-/// The calls of a change after which something is not synced: how many were made, after how many of them
-/// all was synced, and what words there may be then. The nine calls are the record and a sync, the commit
-/// byte and a sync, two words and a sync, the commit byte and a sync.
-const UNSYNCED: [(u8, u8, &[&[u64]]); 5] = [
-    (1, 0, &[&[0, 0]]),
-    (3, 2, &[&[0, 0], &[1, 2]]),
-    (5, 4, &[&[1, 2]]),
-    (6, 4, &[&[1, 2]]),
-    (8, 7, &[&[1, 2]]),
+/// Files with these bytes open with one of these lists of words.
+fn open_with<R: Abort + AllocGlobal>(
+    rt: &R,
+    row: &str,
+    cut: usize,
+    images: [&[u8]; 3],
+    may: &[&[u64]],
+) {
+    for image in images {
+        holds(rt, row, cut as u64, opens_with(rt, image, may));
+    }
+}
+
+/// Files torn at each byte that differs open with one of these lists of words. Of the bytes taken, one has
+/// those before the cut, one has those from there on, and one has only that byte. Gives how many files these
+/// were.
+pub(crate) fn torn_anywhere<R: Abort + AllocGlobal>(
+    rt: &R,
+    row: &str,
+    kept: &[u8],
+    taken: &[u8],
+    may: &[&[u64]],
+) -> u64 {
+    let mut first = kept.to_vec(rt.alloc()).expect(rt, MEMORY);
+    let mut last = taken.to_vec(rt.alloc()).expect(rt, MEMORY);
+    let mut one = kept.to_vec(rt.alloc()).expect(rt, MEMORY);
+    let mut images: u64 = 0;
+    for (cut, (before, after)) in kept.iter().zip(taken).enumerate() {
+        if before != after {
+            put(&mut one, cut, *after);
+            open_with(rt, row, cut, [&first, &last, &one], may);
+            put(&mut one, cut, *before);
+            put(&mut first, cut, *after);
+            put(&mut last, cut, *before);
+            images = images.saturating_add(3);
+        }
+    }
+    images
+}
+
+/// What is done with a file when the power fails.
+#[derive(Clone, Copy)]
+enum Play {
+    /// A change is made. Its nine calls are the record and a sync, the commit byte and a sync, two words and a sync,
+    /// the commit byte and a sync.
+    Change,
+    /// An old file is opened. Its seven calls are two that read, the second layout, its offset and a sync, the
+    /// switch byte and a sync.
+    Migration,
+}
+
+/// Gives what a crash with these torn bytes leaves of a file whose device stopped after so many calls.
+fn left_of<R: Abort + AllocGlobal>(rt: &R, play: Play, calls: u8, torn: &[u8]) -> Vec<u8> {
+    match play {
+        Play::Change => {
+            let mut file = troubled_file(rt, calls, Trouble::Stop);
+            let _ = answers(rt, &mut file);
+            left(rt, &file, torn)
+        }
+        Play::Migration => {
+            let disk = troubled(rt, &old_bytes(rt), calls, Trouble::Stop);
+            let (_, disk) = opening(rt.alloc(), disk);
+            left_on(rt, &disk, torn)
+        }
+    }
+}
+
+/// The calls after which something is not synced: in what they are made, how many were made, what there may be in
+/// place of what they wrote (after how many calls, and with which torn bytes), and what words there may be then.
+type Row = (
+    &'static str,
+    Play,
+    u8,
+    &'static [(u8, &'static [u8])],
+    &'static [&'static [u64]],
+);
+
+const CHANGE: [Row; 5] = [
+    (
+        "the record",
+        Play::Change,
+        1,
+        &[(0, WRITTEN), (1, ZEROS), (1, ONES)],
+        &[&[0, 0]],
+    ),
+    (
+        "the commit byte is set",
+        Play::Change,
+        3,
+        &[(2, WRITTEN), (3, ZEROS), (3, ONES)],
+        &[&[0, 0], &[1, 2]],
+    ),
+    (
+        "the first word",
+        Play::Change,
+        5,
+        &[(4, WRITTEN), (5, ZEROS), (5, ONES)],
+        &[&[1, 2]],
+    ),
+    (
+        "the second word",
+        Play::Change,
+        6,
+        &[(4, WRITTEN), (6, ZEROS), (6, ONES)],
+        &[&[1, 2]],
+    ),
+    (
+        "the commit byte is cleared",
+        Play::Change,
+        8,
+        &[(7, WRITTEN), (8, ZEROS), (8, ONES)],
+        &[&[1, 2]],
+    ),
 ];
 
-/// If the power fails after so many calls of a change, with so many synced, the file keeps any part of the
-/// bytes since, and has one of these lists of words. Gives how many files were tried.
-fn torn_change<R: Abort + AllocGlobal>(rt: &R, calls: u8, synced: u8, may: &[&[u64]]) -> u64 {
-    let written = left_of_change(rt, calls, WRITTEN);
-    let before = left_of_change(rt, synced, WRITTEN);
-    let zeros = left_of_change(rt, calls, ZEROS);
-    let ones = left_of_change(rt, calls, ONES);
+const MIGRATION: [Row; 3] = [
+    (
+        "the second layout",
+        Play::Migration,
+        3,
+        &[(3, ZEROS), (3, ONES)],
+        &[&[5, 0]],
+    ),
+    (
+        "its offset",
+        Play::Migration,
+        4,
+        &[(4, ZEROS), (4, ONES)],
+        &[&[5, 0]],
+    ),
+    (
+        "the switch byte",
+        Play::Migration,
+        6,
+        &[(6, ZEROS), (6, ONES)],
+        &[&[5, 0]],
+    ),
+];
+
+/// If the power fails after these calls, the file keeps any part of the bytes since the last sync, and has one of
+/// these lists of words. Gives how many files were tried.
+fn torn_in<R: Abort + AllocGlobal>(rt: &R, row: Row) -> u64 {
+    let (name, play, calls, others, may) = row;
+    let written = left_of(rt, play, calls, WRITTEN);
     let mut images: u64 = 0;
-    for other in [&before, &zeros, &ones] {
-        images = images.saturating_add(torn_anywhere(rt, other, &written, may));
+    for (other, torn) in others {
+        let kept = left_of(rt, play, *other, torn);
+        images = images.saturating_add(torn_anywhere(rt, name, &kept, &written, may));
+    }
+    images
+}
+
+/// The same for each of these rows.
+fn torn_in_each<R: Abort + AllocGlobal>(rt: &R, rows: &[Row]) -> u64 {
+    let mut images: u64 = 0;
+    for row in rows {
+        images = images.saturating_add(torn_in(rt, *row));
     }
     images
 }
 
 #[test]
 fn the_power_goes_in_a_change(rt: HostRuntime) {
-    let mut images: u64 = 0;
-    for (calls, synced, may) in UNSYNCED {
-        images = images.saturating_add(torn_change(&rt, calls, synced, may));
-    }
-    same(&rt, &images, &918);
-}
-
-/// Gives what a crash with these torn bytes leaves of an old file whose opening was stopped after so many
-/// calls.
-fn left_of_opening<R: Abort + AllocGlobal>(rt: &R, calls: u8, torn: &[u8]) -> Vec<u8> {
-    let (_, disk) = opening(
-        rt.alloc(),
-        troubled(rt, &old_file(rt), calls, Trouble::Stop),
-    );
-    disk.crash(&over_and_over(rt, torn)).expect(rt, MEMORY)
-}
-
-/// If the power fails after so many calls of the opening of an old file, the file keeps any part of the
-/// bytes since the last sync, and has the words that it had. Gives how many files were tried.
-fn torn_opening<R: Abort + AllocGlobal>(rt: &R, calls: u8) -> u64 {
-    let written = left_of_opening(rt, calls, WRITTEN);
-    let zeros = left_of_opening(rt, calls, ZEROS);
-    let ones = left_of_opening(rt, calls, ONES);
-    let mut images: u64 = 0;
-    for other in [&zeros, &ones] {
-        images = images.saturating_add(torn_anywhere(rt, other, &written, &[&[5, 0]]));
-    }
-    images
+    same(&rt, "files", 0, &torn_in_each(&rt, &CHANGE), &918);
 }
 
 /// If the power fails before the second layout is synced, the old file has any length from its own one on.
 /// Gives how many files were tried.
 fn cut_short<R: Abort + AllocGlobal>(rt: &R) -> u64 {
-    let written = left_of_opening(rt, 3, WRITTEN);
+    let written = left_of(rt, Play::Migration, 3, WRITTEN);
     let mut images: u64 = 0;
-    for end in old_file(rt).len()..written.len() {
-        let mut image = written.to_vec(rt.alloc()).expect(rt, MEMORY);
-        image.truncate(end);
-        same_at(rt, end as u64, &words_of(rt, &image), &Some([5, 0]));
+    for end in old_bytes(rt).len()..written.len() {
+        let image = written.get(..end).unwrap_or(&[]);
+        let is_right = opens_with(rt, image, &[&[5, 0]]);
+        holds(rt, "cut short", end as u64, is_right);
         images = images.saturating_add(1);
     }
     images
@@ -93,9 +196,6 @@ fn cut_short<R: Abort + AllocGlobal>(rt: &R) -> u64 {
 
 #[test]
 fn the_power_goes_in_a_migration(rt: HostRuntime) {
-    let mut images: u64 = 0;
-    for calls in [3, 4, 6] {
-        images = images.saturating_add(torn_opening(&rt, calls));
-    }
-    same(&rt, &(images, cut_short(&rt)), &(3_555, 576));
+    same(&rt, "files", 0, &torn_in_each(&rt, &MIGRATION), &3_555);
+    same(&rt, "short files", 0, &cut_short(&rt), &576);
 }

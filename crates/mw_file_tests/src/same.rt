@@ -4,13 +4,22 @@
 use std::fmt::Debug;
 use std::process::Abort;
 
-/// Checks that what was found is what was wanted, and tells both values if they differ. Tests share this
-/// comparison, because a test takes longer to prove with each comparison of its own.
-pub(crate) fn same<R: Abort, T: Debug + PartialEq>(rt: &R, found: &T, wanted: &T) {
-    assert_eq!(rt; found, wanted);
+/// What a test says if memory is refused.
+pub(crate) const MEMORY: &str = "memory";
+
+/// Checks that what was found is what was wanted, in this row of a test, and at this number in it. Tests share
+/// this comparison, because a test takes longer to prove with each comparison of its own.
+pub(crate) fn same<R: Abort, T: Debug + PartialEq>(
+    rt: &R,
+    row: &str,
+    at: u64,
+    found: &T,
+    wanted: &T,
+) {
+    assert_eq!(rt; found, wanted, "{row}, at {at}");
 }
 
-/// The same for one case of many, which has this number.
-pub(crate) fn same_at<R: Abort, T: Debug + PartialEq>(rt: &R, case: u64, found: &T, wanted: &T) {
-    assert_eq!(rt; found, wanted, "at {case}");
+/// Checks that something is so, in this row of a test, and at this number in it.
+pub(crate) fn holds<R: Abort>(rt: &R, row: &str, at: u64, is_so: bool) {
+    assert!(rt; is_so, "{row}, at {at}");
 }

@@ -4,14 +4,14 @@
 //! All files here have eight words and four places. The change in place p writes the words 2p and 2p + 1.
 //!
 //! Nothing else uses it: it may change with what it tests.
-use crate::calls::{prepare_all, prepare_at, seal, seal_with, settle_all};
-use crate::file_tests::{
-    MEMORY, ONES, TORN, Trouble, WRITTEN, change, disk_with, left, new_bytes, opened, opening,
-    over_and_over, troubled,
+use crate::calls::{Told, change, prepare_all, prepare_at, seal, seal_with, settle_all};
+use crate::files::{
+    ONES, SET_FIRST, TORN, Trouble, WRITTEN, bring_trouble, faults, left, left_on, new_file,
+    opening, opens_with, troubled,
 };
-use crate::same::{same, same_at};
-use crate::torn::{opens_with, torn_anywhere};
-use mw_disk::{Disk, MemDisk};
+use crate::power_tests::torn_anywhere;
+use crate::same::{MEMORY, holds, same};
+use mw_disk::MemDisk;
 use mw_file::{FileFault, NewChange, Place, TenantFile};
 use std::process::Abort;
 
@@ -19,6 +19,8 @@ use std::process::Abort;
 /// sealed one, `c` a prepared change that the call seals, and `a` nothing, but the call prepares a change there.
 #[derive(Clone, Copy)]
 struct Case {
+    /// What tells the case apart in a message: the call and the letters.
+    name: &'static str,
     call: Shared,
     places: [u8; 4],
 }
@@ -99,6 +101,9 @@ impl Case {
     }
 }
 
+/// A call that is done.
+const DONE: Told = Some(Ok(None));
+
 /// Puts into a place what it has before a call.
 fn lay<R: Abort>(rt: &R, file: &mut TenantFile<MemDisk>, place: u16, letter: u8) {
     let Some(writes) = CHANGES.get(usize::from(place)) else {
@@ -106,17 +111,23 @@ fn lay<R: Abort>(rt: &R, file: &mut TenantFile<MemDisk>, place: u16, letter: u8)
     };
     if b"psc".contains(&letter) {
         let prepared = prepare_at(file, Place(place), &change(writes));
-        same(rt, &prepared, &Some(Ok(())));
+        same(
+            rt,
+            "prepared before a call",
+            u64::from(place),
+            &prepared,
+            &DONE,
+        );
     }
     if letter == b's' {
-        same(rt, &seal(file, Place(place)), &Some(Ok(())));
+        let sealed = seal(file, Place(place));
+        same(rt, "sealed before a call", u64::from(place), &sealed, &DONE);
     }
 }
 
 /// Makes the file before the call.
 fn file_before<R: Abort + AllocGlobal>(rt: &R, case: Case) -> TenantFile<MemDisk> {
-    let disk = disk_with(rt, &new_bytes(rt, 8, 2));
-    let mut file = opened(rt.alloc(), disk).expect(rt, "the file opens");
+    let mut file = new_file(rt, 8, 2);
     for (place, letter) in case.places.iter().enumerate() {
         lay(rt, &mut file, place as u16, *letter);
     }
@@ -139,11 +150,7 @@ fn changes_with<R: Abort + AllocGlobal>(rt: &R, case: Case, wanted: u8) -> Vec<N
 }
 
 /// Makes the call.
-fn make_call<R: Abort + AllocGlobal>(
-    rt: &R,
-    file: &mut TenantFile<MemDisk>,
-    case: Case,
-) -> Option<Result<(), FileFault>> {
+fn make_call<R: Abort + AllocGlobal>(rt: &R, file: &mut TenantFile<MemDisk>, case: Case) -> Told {
     let ahead = changes_with(rt, case, b'a');
     match case.call {
         Shared::Prepare => prepare_all(file, &ahead),
@@ -158,12 +165,9 @@ fn file_after<R: Abort + AllocGlobal>(
     case: Case,
     calls: u8,
     trouble: Trouble,
-) -> (TenantFile<MemDisk>, Option<Result<(), FileFault>>) {
+) -> (TenantFile<MemDisk>, Told) {
     let mut file = file_before(rt, case);
-    match trouble {
-        Trouble::Once => file.fail_next(u64::from(calls) + 1).expect(rt, MEMORY),
-        Trouble::Stop => file.stop_next(u64::from(calls)),
-    }
+    bring_trouble(rt, &mut file, calls, trouble);
     let answer = make_call(rt, &mut file, case);
     (file, answer)
 }
@@ -171,7 +175,7 @@ fn file_after<R: Abort + AllocGlobal>(
 /// Gives what a crash leaves with these torn bytes if the device stopped after so many device calls.
 fn left_after<R: Abort + AllocGlobal>(rt: &R, case: Case, calls: u8, torn: &[u8]) -> Vec<u8> {
     let (file, _) = file_after(rt, case, calls, Trouble::Stop);
-    left(rt, &file, &over_and_over(rt, torn))
+    left(rt, &file, torn)
 }
 
 /// What a crash leaves after some device calls: with all that was written, and with ones in what was not synced.
@@ -201,10 +205,10 @@ fn torn_after<R: Abort + AllocGlobal>(
 ) -> u64 {
     if new.written == new.ones {
         let [least, most] = case.may(calls.saturating_sub(1), calls.saturating_sub(1));
-        torn_anywhere(rt, &old.ones, &old.written, &[&least, &most])
+        torn_anywhere(rt, case.name, &old.ones, &old.written, &[&least, &most])
     } else {
         let [least, most] = case.may(calls, calls);
-        torn_anywhere(rt, &old.written, &new.written, &[&least, &most])
+        torn_anywhere(rt, case.name, &old.written, &new.written, &[&least, &most])
     }
 }
 
@@ -220,153 +224,56 @@ fn torn_in<R: Abort + AllocGlobal>(rt: &R, case: Case) -> u64 {
     images
 }
 
-/// The same if the call is made on each of these files.
-fn torn_in_each<R: Abort + AllocGlobal>(rt: &R, call: Shared, files: &[&[u8; 4]]) -> u64 {
-    let mut images: u64 = 0;
-    for places in files {
-        let places = **places;
-        images = images.saturating_add(torn_in(rt, Case { call, places }));
-    }
-    images
-}
-
-/// Files in which changes are prepared together.
-const PREPARES: [&[u8; 4]; 3] = [b"aa..", b"s.pa", b"sapp"];
-
-/// Files of which one change is sealed.
-const SEALS: [&[u8; 4]; 6] = [b"c...", b"cs..", b"pc.s", b"sscs", b"pcps", b"spsc"];
-
-/// The same with changes that the call prepares.
-const SEALS_AHEAD: [&[u8; 4]; 3] = [b"ca..", b"asca", b"cpsa"];
-
-/// Files of which all sealed changes are settled.
-const SETTLES: [&[u8; 4]; 7] = [
-    b"ss..", b"sss.", b"ssss", b"sp.s", b"psps", b".spp", b"pp..",
-];
-
-/// The same with changes that the call prepares.
-const SETTLES_AHEAD: [&[u8; 4]; 3] = [b"sa..", b"sasa", b"apsp"];
-
-#[test]
-fn the_power_goes_in_a_prepare_of_several_changes(rt: HostRuntime) {
-    let images = torn_in_each(&rt, Shared::Prepare, &PREPARES);
-    same(&rt, &images, &3_333);
-}
-
-#[test]
-fn the_power_goes_in_a_seal_beside_other_changes(rt: HostRuntime) {
-    let images = torn_in_each(&rt, Shared::Seal, &SEALS);
-    same(&rt, &images, &36);
-}
-
-#[test]
-fn the_power_goes_in_a_seal_that_prepares_others(rt: HostRuntime) {
-    let images = torn_in_each(&rt, Shared::Seal, &SEALS_AHEAD);
-    same(&rt, &images, &3_351);
-}
-
-#[test]
-fn the_power_goes_in_a_settle_of_several_changes(rt: HostRuntime) {
-    let images = torn_in_each(&rt, Shared::Settle, &SETTLES);
-    same(&rt, &images, &1_260);
-}
-
-#[test]
-fn the_power_goes_in_a_settle_that_prepares_others(rt: HostRuntime) {
-    let images = torn_in_each(&rt, Shared::Settle, &SETTLES_AHEAD);
-    same(&rt, &images, &3_693);
-}
-
-/// Gives what a file answers to the call and to two more calls, and how many of its device calls have then failed.
-fn answers<R: Abort + AllocGlobal>(
-    rt: &R,
-    case: Case,
-    calls: u8,
-) -> ([Option<Result<(), FileFault>>; 3], u64, TenantFile<MemDisk>) {
+/// If this device call of a call fails, the file has failed: it refuses the same call and a settle. Crashes leave the
+/// words before the call or after it, whatever is torn.
+fn fails_at<R: Abort + AllocGlobal>(rt: &R, case: Case, calls: u8) {
     let (mut file, first) = file_after(rt, case, calls, Trouble::Once);
     let second = make_call(rt, &mut file, case);
-    let third = settle_all(&mut file, &[]);
-    let faults = file
-        .copy(rt.alloc())
-        .expect(rt, MEMORY)
-        .into_disk()
-        .faults();
-    ([first, second, third], faults, file)
-}
-
-/// Tells whether a crash with these torn bytes leaves one of two lists of words.
-fn crash_leaves<R: Abort + AllocGlobal>(
-    rt: &R,
-    file: &TenantFile<MemDisk>,
-    torn: &[u8],
-    may: &[Words; 2],
-) -> bool {
-    let [least, most] = may;
-    let image = left(rt, file, &over_and_over(rt, torn));
-    opens_with(rt, &image, &[least, most])
-}
-
-/// Crashes leave one of two lists of words, whatever is torn.
-fn crashes_leave<R: Abort + AllocGlobal>(rt: &R, file: &TenantFile<MemDisk>, may: [Words; 2]) {
+    let answers = [first, second, settle_all(&mut file, &[])];
+    let (disk, failed) = (Some(Err(FileFault::Disk)), Some(Err(FileFault::Failed)));
+    let at = u64::from(calls);
+    same(rt, case.name, at, &answers, &[disk, failed, failed]);
+    same(rt, case.name, at, &faults(rt, &file), &1);
+    let [least, most] = case.may(calls.saturating_add(1), calls);
     for torn in TORN {
-        same(rt, &crash_leaves(rt, file, torn, &may), &true);
+        let is_right = opens_with(rt, &left(rt, &file, torn), &[&least, &most]);
+        holds(rt, case.name, at, is_right);
     }
 }
 
-/// If this device call of a call fails, the file has failed, and crashes leave the words before the call or after it.
-fn fails_at<R: Abort + AllocGlobal>(rt: &R, case: Case, calls: u8) {
-    let (answers, faults, file) = answers(rt, case, calls);
-    let (disk, failed) = (Some(Err(FileFault::Disk)), Some(Err(FileFault::Failed)));
-    let wanted = ([disk, failed, failed], 1);
-    same_at(rt, u64::from(calls), &(answers, faults), &wanted);
-    crashes_leave(rt, &file, case.may(calls.saturating_add(1), calls));
-}
-
-/// Each device call of a call fails in turn.
+/// The call goes well, and each of its device calls fails in turn.
 fn fails_in<R: Abort + AllocGlobal>(rt: &R, case: Case) {
     let (_, well) = file_after(rt, case, case.calls(), Trouble::Stop);
-    same(rt, &well, &Some(Ok(())));
+    same(rt, case.name, u64::from(case.calls()), &well, &DONE);
     for calls in 0..case.calls() {
         fails_at(rt, case, calls);
     }
 }
 
-/// The same if the call is made on each of these files.
-fn fails_in_each<R: Abort + AllocGlobal>(rt: &R, call: Shared, files: &[&[u8; 4]]) {
-    for places in files {
-        let places = **places;
-        fails_in(rt, Case { call, places });
-    }
-}
-
-#[test]
-fn each_device_call_of_a_shared_call_fails(rt: HostRuntime) {
-    fails_in_each(&rt, Shared::Prepare, &PREPARES);
-    fails_in_each(&rt, Shared::Seal, &SEALS);
-    fails_in_each(&rt, Shared::Seal, &SEALS_AHEAD);
-    fails_in_each(&rt, Shared::Settle, &SETTLES);
-    fails_in_each(&rt, Shared::Settle, &SETTLES_AHEAD);
-}
-
 /// Bytes that a crash leaves in what was not synced.
-const MIXED: [&[u8]; 2] = [&[0x00, 0xa5, 0xff, 0x5a], &[0xa5, 0xff, 0x5a, 0x00]];
+const MIXED: [&[u8]; 2] = [&[0x00, 0xa5, 0xff, 0x5a], SET_FIRST];
 
 /// If a crash cuts off the opening of a file after so many device calls, the file opens with these words. Gives
 /// whether the opening went well.
-fn cut_off<R: Abort + AllocGlobal>(rt: &R, image: &[u8], calls: u8, words: &[u64]) -> bool {
+fn cut_off<R: Abort + AllocGlobal>(
+    rt: &R,
+    name: &str,
+    image: &[u8],
+    calls: u8,
+    words: &[u64],
+) -> bool {
     let (ended, disk) = opening(rt.alloc(), troubled(rt, image, calls, Trouble::Stop));
     for torn in MIXED {
-        let image = disk.crash(&over_and_over(rt, torn)).expect(rt, MEMORY);
-        let is_right = opens_with(rt, &image, &[words]);
-        same_at(rt, u64::from(calls), &is_right, &true);
+        let is_right = opens_with(rt, &left_on(rt, &disk, torn), &[words]);
+        holds(rt, name, u64::from(calls), is_right);
     }
     ended.is_ok()
 }
 
 /// The same after each device call of the opening. Gives after how many the opening went well.
-fn cut_off_in_each<R: Abort + AllocGlobal>(rt: &R, image: &[u8], words: &[u64]) -> u8 {
+fn cut_off_in_each<R: Abort + AllocGlobal>(rt: &R, name: &str, image: &[u8], words: &[u64]) -> u8 {
     for calls in 0..40 {
-        if cut_off(rt, image, calls, words) {
+        if cut_off(rt, name, image, calls, words) {
             return calls;
         }
     }
@@ -376,14 +283,14 @@ fn cut_off_in_each<R: Abort + AllocGlobal>(rt: &R, image: &[u8], words: &[u64]) 
 /// If a crash cuts off the call after so many device calls, and another one cuts off the opening after it, the file
 /// opens with the words that the first crash left. Gives after how many device calls the opening went well.
 fn cut_off_twice<R: Abort + AllocGlobal>(rt: &R, case: Case, calls: u8) -> u8 {
-    let image = left_after(rt, case, calls, &[0xa5, 0xff, 0x5a, 0x00]);
+    let image = left_after(rt, case, calls, SET_FIRST);
     let [least, most] = case.may(calls, calls);
     let words = if opens_with(rt, &image, &[&least]) {
         least
     } else {
         most
     };
-    cut_off_in_each(rt, &image, &words)
+    cut_off_in_each(rt, case.name, &image, &words)
 }
 
 /// The same after each of the call's device calls. Gives how many device calls the openings made.
@@ -395,27 +302,129 @@ fn cut_off_twice_in<R: Abort + AllocGlobal>(rt: &R, case: Case) -> u64 {
     made
 }
 
-/// The same if the call is made on each of these files.
-fn cut_off_twice_in_each<R: Abort + AllocGlobal>(rt: &R, call: Shared, files: &[&[u8; 4]]) -> u64 {
-    let mut made: u64 = 0;
-    for places in files {
-        let places = **places;
-        made = made.saturating_add(cut_off_twice_in(rt, Case { call, places }));
+/// Calls of one kind on several files: how many files there are if the power fails in them, torn at each byte, and how
+/// many device calls are made by openings that a crash cuts off, after a crash in the call.
+#[derive(Clone, Copy)]
+struct Calls {
+    call: Shared,
+    cases: &'static [(&'static str, &'static [u8; 4])],
+    files: u64,
+    openings: u64,
+}
+
+/// In each of these calls the power fails at each byte, each device call fails, and a crash is followed by another
+/// one in the opening. The files that are tried, and the device calls of openings, are so many.
+fn keep_words<R: Abort + AllocGlobal>(rt: &R, calls: Calls) {
+    let mut files: u64 = 0;
+    let mut openings: u64 = 0;
+    for (name, places) in calls.cases {
+        let case = Case {
+            name: *name,
+            call: calls.call,
+            places: **places,
+        };
+        files = files.saturating_add(torn_in(rt, case));
+        fails_in(rt, case);
+        openings = openings.saturating_add(cut_off_twice_in(rt, case));
     }
-    made
+    same(rt, "files that are torn", 0, &files, &calls.files);
+    same(
+        rt,
+        "device calls of openings",
+        0,
+        &openings,
+        &calls.openings,
+    );
 }
 
-#[test]
-fn a_crash_in_a_settle_and_one_in_the_opening(rt: HostRuntime) {
-    let alone = cut_off_twice_in_each(&rt, Shared::Settle, &SETTLES);
-    let ahead = cut_off_twice_in_each(&rt, Shared::Settle, &SETTLES_AHEAD);
-    same(&rt, &(alone, ahead), &(624, 187));
-}
+/// Changes are prepared together.
+const PREPARES: Calls = Calls {
+    call: Shared::Prepare,
+    cases: &[
+        ("prepare aa..", b"aa.."),
+        ("prepare s.pa", b"s.pa"),
+        ("prepare sapp", b"sapp"),
+    ],
+    files: 3_333,
+    openings: 50,
+};
 
 #[test]
-fn a_crash_in_a_prepare_or_a_seal_and_one_in_the_opening(rt: HostRuntime) {
-    let prepares = cut_off_twice_in_each(&rt, Shared::Prepare, &PREPARES);
-    let alone = cut_off_twice_in_each(&rt, Shared::Seal, &SEALS);
-    let ahead = cut_off_twice_in_each(&rt, Shared::Seal, &SEALS_AHEAD);
-    same(&rt, &(prepares, alone, ahead), &(50, 178, 90));
+fn a_prepare_of_several_changes(rt: HostRuntime) {
+    keep_words(&rt, PREPARES);
+}
+
+/// One change is sealed.
+const SEALS: Calls = Calls {
+    call: Shared::Seal,
+    cases: &[
+        ("seal c...", b"c..."),
+        ("seal cs..", b"cs.."),
+        ("seal pc.s", b"pc.s"),
+        ("seal sscs", b"sscs"),
+        ("seal pcps", b"pcps"),
+        ("seal spsc", b"spsc"),
+    ],
+    files: 36,
+    openings: 178,
+};
+
+#[test]
+fn a_seal_beside_other_changes(rt: HostRuntime) {
+    keep_words(&rt, SEALS);
+}
+
+/// One change is sealed, and the call prepares others.
+const SEALS_AHEAD: Calls = Calls {
+    call: Shared::Seal,
+    cases: &[
+        ("seal ca..", b"ca.."),
+        ("seal asca", b"asca"),
+        ("seal cpsa", b"cpsa"),
+    ],
+    files: 3_351,
+    openings: 90,
+};
+
+#[test]
+fn a_seal_that_prepares_others(rt: HostRuntime) {
+    keep_words(&rt, SEALS_AHEAD);
+}
+
+/// All sealed changes are settled.
+const SETTLES: Calls = Calls {
+    call: Shared::Settle,
+    cases: &[
+        ("settle ss..", b"ss.."),
+        ("settle sss.", b"sss."),
+        ("settle ssss", b"ssss"),
+        ("settle sp.s", b"sp.s"),
+        ("settle psps", b"psps"),
+        ("settle .spp", b".spp"),
+        ("settle pp..", b"pp.."),
+    ],
+    files: 1_260,
+    openings: 624,
+};
+
+#[test]
+fn a_settle_of_several_changes(rt: HostRuntime) {
+    keep_words(&rt, SETTLES);
+}
+
+/// All sealed changes are settled, and the call prepares others.
+const SETTLES_AHEAD: Calls = Calls {
+    call: Shared::Settle,
+    cases: &[
+        ("settle sa..", b"sa.."),
+        ("settle sasa", b"sasa"),
+        ("settle apsp", b"apsp"),
+    ],
+    files: 3_693,
+    openings: 187,
+};
+
+#[test]
+fn a_settle_that_prepares_others(rt: HostRuntime) {
+    keep_words(&rt, SETTLES_AHEAD);
 }

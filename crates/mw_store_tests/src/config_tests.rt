@@ -6,9 +6,6 @@ use mw_config::*;
 use std::alloc::{AllocError, Global};
 use std::process::Abort;
 
-const SIXTEEN: &[u8] =
-    b"a 1 1 a\nb 1 1 b\nc 1 1 c\nd 1 1 d\ne 1 1 e\nf 1 1 f\ng 1 1 g\nh 1 1 h\ni 1 1 i\nj 1 1 j\nk 1 1 k\nl 1 1 l\nm 1 1 m\nn 1 1 n\no 1 1 o\np 1 1 p\n";
-
 /// Gives how many tenants a text has.
 fn count(text: &[u8], pool: u16) -> Result<usize, Refusal> {
     match read_tenants(text, pool) {
@@ -40,93 +37,75 @@ fn lines_are_told(rt: HostRuntime) {
     assert!(rt; matches!(&lines, Ok(lines) if are_two_lines(lines.as_slice())));
 }
 
-#[test]
-fn files_that_are_accepted(rt: HostRuntime) {
-    let counts = [count(SIXTEEN, 16), count(b"abcdefghijklmnop 1 1 a\n", 1)];
-    same(&rt, &counts, &[Ok(16), Ok(1)]);
-}
+/// The lines of sixteen tenants.
+const SIXTEEN: &str =
+    "a 1 1 a\nb 1 1 b\nc 1 1 c\nd 1 1 d\ne 1 1 e\nf 1 1 f\ng 1 1 g\nh 1 1 h\ni 1 1 i\nj 1 1 j\nk 1 1 k\nl 1 1 l\nm 1 1 m\nn 1 1 n\no 1 1 o\np 1 1 p\n";
 
-/// Refusals, and texts that are refused so, one a line. `/` is for a line's end.
-const REFUSED_TEXTS: [(Refusal, &str); 4] = [
-    (Refusal::None, ""),
+/// Texts of tenants files, the pool that they share, and how many tenants they have or how they are refused. If a text
+/// has several faults, the first refusal is the answer.
+const TEXTS: [(&str, u16, Result<usize, Refusal>); 37] = [
+    (SIXTEEN, 16, Ok(16)),
+    ("abcdefghijklmnop 1 1 a\n", 1, Ok(1)),
+    ("", 256, Err(Refusal::None)),
+    ("\n", 256, Err(Refusal::Form(1))),
+    ("t\n", 256, Err(Refusal::Form(1))),
+    ("t 1 1 a", 256, Err(Refusal::Form(1))),
+    ("t 1 1 a\r\n", 256, Err(Refusal::Form(1))),
+    ("t 1 1 a b\n", 256, Err(Refusal::Form(1))),
+    ("t 1 1 \n", 256, Err(Refusal::Form(1))),
+    ("t 1 1\n", 256, Err(Refusal::Form(1))),
+    ("t  1 1 a\n", 256, Err(Refusal::Form(1))),
+    (" t 1 1 a\n", 256, Err(Refusal::Form(1))),
+    ("T 1 1 a\n", 256, Err(Refusal::Form(1))),
+    ("abcdefghijklmnopq 1 1 a\n", 256, Err(Refusal::Form(1))),
+    ("t 01 1 a\n", 256, Err(Refusal::Form(1))),
+    ("t 1 00 a\n", 256, Err(Refusal::Form(1))),
+    ("t -1 1 a\n", 256, Err(Refusal::Form(1))),
+    ("t 1 1 é\n", 256, Err(Refusal::Form(1))),
+    ("t 0 1 a\n", 256, Err(Refusal::Words(1))),
+    ("t 4097 1 a\n", 256, Err(Refusal::Words(1))),
+    ("t 65537 1 a\n", 256, Err(Refusal::Words(1))),
+    ("t 1 0 a\n", 256, Err(Refusal::Quota(1))),
+    ("t 1 65 a\n", 256, Err(Refusal::Quota(1))),
+    ("t 2 65 t.mw\n", 256, Err(Refusal::Quota(1))),
+    ("t 1 257 a\n", 256, Err(Refusal::Quota(1))),
+    ("t 0 0 a", 256, Err(Refusal::Form(1))),
+    ("t 0 65 a\n", 256, Err(Refusal::Words(1))),
     (
-        Refusal::Form(1),
-        "\
-/
-t/
-t 1 1 a
-t 1 1 a\r/
-t 1 1 a b/
-t 1 1 /
-t 1 1/
-t  1 1 a/
- t 1 1 a/
-T 1 1 a/
-abcdefghijklmnopq 1 1 a/
-t 01 1 a/
-t 1 00 a/
-t -1 1 a/
-t 1 1 é/",
+        "t 99999999999999999999999999 0 a\n",
+        256,
+        Err(Refusal::Words(1)),
     ),
-    (Refusal::Words(1), "t 0 1 a/\nt 4097 1 a/\nt 65537 1 a/"),
     (
-        Refusal::Quota(1),
-        "t 1 0 a/\nt 1 65 a/\nt 2 65 t.mw/\nt 1 257 a/",
+        "t 1 18446744073709551617 a\nt\n",
+        256,
+        Err(Refusal::Quota(1)),
     ),
+    ("t 1 1 a\nt 1 0 a\n", 256, Err(Refusal::Quota(2))),
+    ("t 1 1 a\nt 0 1 a\n", 256, Err(Refusal::Words(2))),
+    ("t 2 1 a.mw\nt 2 1 b.mw\n", 256, Err(Refusal::Twice(2))),
+    ("t 2 1 a.mw\nu 2 1 a.mw\nv\n", 256, Err(Refusal::Twice(2))),
+    ("t 1 1 a\n\n", 0, Err(Refusal::Form(2))),
+    ("t 1 1 a\nu 1 64 b\n", 64, Err(Refusal::Pool)),
+    ("t 1 1 a\n", 0, Err(Refusal::Pool)),
+    ("t 1 1 a\nu 1 64 b\n", 65, Ok(2)),
 ];
 
-/// Gives a text with a line feed for each `/`.
-fn with_line_ends<R: Abort + AllocGlobal>(rt: &R, text: &str) -> String {
-    text.replace(rt.alloc(), "/", "\n").expect(rt, MEMORY)
-}
-
-/// Each of these texts, one a line, is refused so.
-fn are_refused<R: Abort + AllocGlobal>(rt: &R, refusal: Refusal, texts: &str) {
-    for text in texts.split('\n') {
-        let text = with_line_ends(rt, text);
-        same(rt, &count(text.as_str().as_bytes(), 256), &Err(refusal));
-    }
-}
-
 #[test]
-fn one_line_that_is_refused(rt: HostRuntime) {
-    for (refusal, texts) in REFUSED_TEXTS {
-        are_refused(&rt, refusal, texts);
+fn tenants_files(rt: HostRuntime) {
+    for (text, pool, wanted) in TEXTS {
+        same(
+            &rt,
+            text,
+            u64::from(pool),
+            &count(text.as_bytes(), pool),
+            &wanted,
+        );
     }
 }
 
-#[test]
-fn the_first_refusal_is_the_answer(rt: HostRuntime) {
-    let cases: [(&[u8], u16, Refusal); 11] = [
-        (b"t 0 0 a", 256, Refusal::Form(1)),
-        (b"t 0 65 a\n", 256, Refusal::Words(1)),
-        (
-            b"t 99999999999999999999999999 0 a\n",
-            256,
-            Refusal::Words(1),
-        ),
-        (b"t 1 18446744073709551617 a\nt\n", 256, Refusal::Quota(1)),
-        (b"t 1 1 a\nt 1 0 a\n", 256, Refusal::Quota(2)),
-        (b"t 1 1 a\nt 0 1 a\n", 256, Refusal::Words(2)),
-        (b"t 2 1 a.mw\nt 2 1 b.mw\n", 256, Refusal::Twice(2)),
-        (b"t 2 1 a.mw\nu 2 1 a.mw\nv\n", 256, Refusal::Twice(2)),
-        (b"t 1 1 a\n\n", 0, Refusal::Form(2)),
-        (b"t 1 1 a\nu 1 64 b\n", 64, Refusal::Pool),
-        (b"t 1 1 a\n", 0, Refusal::Pool),
-    ];
-    for (text, pool, refusal) in cases {
-        same(&rt, &count(text, pool), &Err(refusal));
-    }
-    same(&rt, &count(b"t 1 1 a\nu 1 64 b\n", 65), &Ok(2));
-}
-
-/// Reads two lines of eleven bytes each, cut to so many bytes.
-fn cut_to(length: usize) -> Result<usize, Refusal> {
-    count(
-        b"t 2 1 t.mw\nu 4 1 u.mw\n".get(..length).unwrap_or(b"?"),
-        256,
-    )
-}
+/// Two lines of eleven bytes each.
+const TWO_LINES: &[u8] = b"t 2 1 t.mw\nu 4 1 u.mw\n";
 
 #[test]
 fn cut_tenants(rt: HostRuntime) {
@@ -138,15 +117,16 @@ fn cut_tenants(rt: HostRuntime) {
             ..=21 => Err(Refusal::Form(2)),
             _ => Ok(2),
         };
-        same(&rt, &cut_to(length), &wanted);
+        let found = count(TWO_LINES.get(..length).unwrap_or(b"?"), 256);
+        same(&rt, "cut lines", length as u64, &found, &wanted);
     }
 }
 
 /// Reads sixteen lines and this one.
-fn seventeen(line: &[u8]) -> Result<usize, Refusal> {
+fn seventeen(line: &str) -> Result<usize, Refusal> {
     let mut text = [b' '; 256];
     let mut length = 0;
-    for byte in SIXTEEN.iter().chain(line) {
+    for byte in SIXTEEN.as_bytes().iter().chain(line.as_bytes()) {
         if let Some(place) = text.get_mut(length) {
             *place = *byte;
             length += 1;
@@ -155,93 +135,96 @@ fn seventeen(line: &[u8]) -> Result<usize, Refusal> {
     count(text.get(..length).unwrap_or(b"?"), 0)
 }
 
+/// Lines after sixteen others, and how the file is refused.
+const SEVENTEENTH: [(&str, Refusal); 8] = [
+    ("q 1 1", Refusal::Form(17)),
+    ("q 1 1 q", Refusal::Form(17)),
+    ("a 0 0 a\n", Refusal::Words(17)),
+    ("a 1 65 a\n", Refusal::Quota(17)),
+    ("p 1 1 q\n", Refusal::Twice(17)),
+    ("q 1 1 a\n", Refusal::Twice(17)),
+    ("q 1 1 q\n", Refusal::Many(17)),
+    ("", Refusal::Pool),
+];
+
 #[test]
 fn a_seventeenth_line(rt: HostRuntime) {
-    let cases: [(&[u8], Refusal); 7] = [
-        (b"q 1 1", Refusal::Form(17)),
-        (b"q 1 1 q", Refusal::Form(17)),
-        (b"a 0 0 a\n", Refusal::Words(17)),
-        (b"a 1 65 a\n", Refusal::Quota(17)),
-        (b"p 1 1 q\n", Refusal::Twice(17)),
-        (b"q 1 1 a\n", Refusal::Twice(17)),
-        (b"q 1 1 q\n", Refusal::Many(17)),
-    ];
-    for (line, refusal) in cases {
-        same(&rt, &seventeen(line), &Err(refusal));
+    for (line, refusal) in SEVENTEENTH {
+        same(&rt, line, 17, &seventeen(line), &Err(refusal));
     }
-    same(&rt, &seventeen(b""), &Err(Refusal::Pool));
 }
 
 #[test]
 fn long_files_and_paths(rt: HostRuntime) {
-    same(&rt, &count(&[b'a'; 8192], 256), &Err(Refusal::Form(1)));
-    same(&rt, &count(&[b'a'; 8193], 256), &Err(Refusal::File));
+    let found = [count(&[b'a'; 8192], 256), count(&[b'a'; 8193], 256)];
+    let wanted = [Err(Refusal::Form(1)), Err(Refusal::File)];
+    same(&rt, "files", 8192, &found, &wanted);
     let mut text = [b'p'; 208];
     text[..6].copy_from_slice(b"t 1 1 ");
     text[206] = b'\n';
-    same(&rt, &count(&text[..207], 256), &Ok(1));
+    let fits = count(&text[..207], 256);
     text[206] = b'p';
     text[207] = b'\n';
-    same(&rt, &count(&text, 256), &Err(Refusal::Form(1)));
+    let wanted = [Ok(1), Err(Refusal::Form(1))];
+    same(&rt, "paths", 200, &[fits, count(&text, 256)], &wanted);
 }
 
-/// Texts, and what their first line does that breaks a rule of the form. `/` is for a line's end.
+/// Texts, and what their first line does that breaks a rule of the form.
 const FORMS: [(&str, &str); 14] = [
     ("t 1 1 a", "has no line feed at its end"),
     ("", "has no line feed at its end"),
     (
-        "t 1 1 a\r/",
+        "t 1 1 a\r\n",
         "has a byte that is no space and no visible character of ASCII",
     ),
     (
-        "/t 1 1 a/",
+        "\nt 1 1 a\n",
         "isn't four fields with a single space between each two",
     ),
     (
-        " 1 1 a/",
+        " 1 1 a\n",
         "isn't four fields with a single space between each two",
     ),
     (
-        "t  1 a/",
+        "t  1 a\n",
         "isn't four fields with a single space between each two",
     ),
     (
-        "T 1 1 /",
+        "T 1 1 \n",
         "isn't four fields with a single space between each two",
     ),
     (
-        "t 1 1 a b/",
+        "t 1 1 a b\n",
         "isn't four fields with a single space between each two",
     ),
     (
-        "T 01 1 a/",
+        "T 01 1 a\n",
         "has a name that isn't a to z, then up to 15 of a to z, 0 to 9 and -",
     ),
     (
-        "t 01 -1 a/",
+        "t 01 -1 a\n",
         "has words that aren't a number without a 0 in front",
     ),
     (
-        "t 1x 1 a/",
+        "t 1x 1 a\n",
         "has words that aren't a number without a 0 in front",
     ),
     (
-        "t 1 00 a/",
+        "t 1 00 a\n",
         "has a quota that isn't a number without a 0 in front",
     ),
-    ("t 0 99999999999999999999 a/", ""),
-    ("t 1 1 a/T 1/", ""),
+    ("t 0 99999999999999999999 a\n", ""),
+    ("t 1 1 a\nT 1\n", ""),
 ];
 
 #[test]
 fn rules_of_the_form(rt: HostRuntime) {
     for (text, wanted) in FORMS {
-        let text = with_line_ends(&rt, text);
-        let told = match broken_rule(text.as_str().as_bytes()) {
+        let told = match broken_rule(text.as_bytes()) {
             Some(rule) => rule.broken(),
             None => "",
         };
-        same_text(&rt, told, wanted);
+        same_text(&rt, text, told, wanted);
     }
 }
 
@@ -275,15 +258,11 @@ const REFUSALS: [(Refusal, &str); 8] = [
     ),
 ];
 
-/// Gives the text of a refusal.
-fn text_of<R: Abort + AllocGlobal>(rt: &R, refusal: Refusal) -> String {
-    format!(in rt.alloc(); "{refusal}").expect(rt, MEMORY)
-}
-
 #[test]
 fn texts_of_refusals(rt: HostRuntime) {
     for (refusal, wanted) in REFUSALS {
-        same_text(&rt, text_of(&rt, refusal).as_str(), wanted);
+        let text = format!(in rt.alloc(); "{refusal}").expect(&rt, MEMORY);
+        same_text(&rt, wanted, text.as_str(), wanted);
     }
 }
 
@@ -296,75 +275,70 @@ fn words_of(alloc: Global, line: &str) -> Result<Vec<String>, AllocError> {
     Ok(words)
 }
 
-/// Gives the name of a command line's fault, unless memory is out.
-fn name_of(fault: &ArgFault) -> Result<&'static str, AllocError> {
+/// Gives the text of the rule that a command line's options break, or that the line is refused.
+fn told(alloc: Global, fault: &ArgFault) -> Result<String, AllocError> {
     match fault {
-        ArgFault::Refused(_) => Ok("refused"),
-        ArgFault::Mode(_) => Ok("mode"),
+        ArgFault::Refused(_) => String::from_str(alloc, "refused"),
+        ArgFault::Mode(_) => format!(in alloc; "{fault}"),
         ArgFault::Memory => Err(AllocError),
     }
 }
 
-/// Reads a command line. Gives what it asks for, or the name of its fault.
+/// Reads a command line. Gives what it asks for, or what is told of its fault.
 fn read(alloc: Global, line: &str) -> Result<String, AllocError> {
     match read_args(alloc, &words_of(alloc, line)?) {
         Ok(args) => format!(in alloc; "{args:?}"),
-        Err(fault) => String::from_str(alloc, name_of(&fault)?),
+        Err(fault) => told(alloc, &fault),
     }
-}
-
-/// A command line gives this.
-fn gives<R: Abort + AllocGlobal>(rt: &R, line: &str, wanted: &str) {
-    let given = read(rt.alloc(), line).expect(rt, MEMORY);
-    same_text(rt, given.as_str(), wanted);
 }
 
 /// Each of these command lines, one a line, gives this.
-fn each_gives<R: Abort + AllocGlobal>(rt: &R, lines: &str, wanted: &str) {
+fn each_gives<R: Abort + AllocGlobal>(rt: &R, wanted: &str, lines: &str) {
     for line in lines.split('\n') {
-        gives(rt, line, wanted);
+        let given = read(rt.alloc(), line).expect(rt, MEMORY);
+        same_text(rt, line, given.as_str(), wanted);
     }
 }
 
-/// Command lines, and what they ask for.
-const LINES: [(&str, &str); 6] = [
+/// What command lines ask for, and these lines.
+const ACCEPTED: [(&str, &str); 6] = [
     (
-        "mwserve --tenants t --script s",
         "Args { tenants: \"t\", pool: 256, workers: 4, strict: false, verbose: false, mode: Script(\"s\") }",
+        "mwserve --tenants t --script s",
     ),
     (
-        "mwserve --listen a:1 --tenants t",
         "Args { tenants: \"t\", pool: 256, workers: 4, strict: false, verbose: false, mode: Listen(Listening { address: \"a:1\", admin: None, http: None, connections: None, shared: None, wait: None, idle: None, line_time: None, socket_mode: 384 }) }",
+        "mwserve --listen a:1 --tenants t",
     ),
     (
-        "mwserve --tenants t --pool 1 --workers 64 --listen a:1 --connections 1000000 --idle 86400 --mode 777",
         "Args { tenants: \"t\", pool: 1, workers: 64, strict: false, verbose: false, mode: Listen(Listening { address: \"a:1\", admin: None, http: None, connections: Some(1000000), shared: None, wait: None, idle: Some(86400), line_time: Some(86400), socket_mode: 511 }) }",
+        "mwserve --tenants t --pool 1 --workers 64 --listen a:1 --connections 1000000 --idle 86400 --mode 777",
     ),
     (
-        "mwserve --tenants t --pool=256 --workers=1 --listen=a:1 --connections=1 --strict --idle=1 --admin=a:2 --verbose --mode=0660",
         "Args { tenants: \"t\", pool: 256, workers: 1, strict: true, verbose: true, mode: Listen(Listening { address: \"a:1\", admin: Some(\"a:2\"), http: None, connections: Some(1), shared: None, wait: None, idle: Some(1), line_time: Some(1), socket_mode: 432 }) }",
+        "mwserve --tenants t --pool=256 --workers=1 --listen=a:1 --connections=1 --strict --idle=1 --admin=a:2 --verbose --mode=0660",
     ),
     (
-        "mwserve --tenants t --workers 2 --listen a:1 --clients 1 --wait 1 --line-time 86400 --http unix:h",
         "Args { tenants: \"t\", pool: 256, workers: 2, strict: false, verbose: false, mode: Listen(Listening { address: \"a:1\", admin: None, http: Some(\"unix:h\"), connections: None, shared: Some(SharedWorkers { clients: 1, readers: 1 }), wait: Some(1), idle: None, line_time: Some(86400), socket_mode: 384 }) }",
+        "mwserve --tenants t --workers 2 --listen a:1 --clients 1 --wait 1 --line-time 86400 --http unix:h",
     ),
     (
-        "mwserve --tenants t --workers 64 --listen a:1 --clients 4096 --readers 63 --wait 86400 --idle 9 --line-time 2",
         "Args { tenants: \"t\", pool: 256, workers: 64, strict: false, verbose: false, mode: Listen(Listening { address: \"a:1\", admin: None, http: None, connections: None, shared: Some(SharedWorkers { clients: 4096, readers: 63 }), wait: Some(86400), idle: Some(9), line_time: Some(2), socket_mode: 384 }) }",
+        "mwserve --tenants t --workers 64 --listen a:1 --clients 4096 --readers 63 --wait 86400 --idle 9 --line-time 2",
     ),
 ];
 
 #[test]
 fn command_lines_that_are_accepted(rt: HostRuntime) {
-    for (line, wanted) in LINES {
-        gives(&rt, line, wanted);
+    for (wanted, line) in ACCEPTED {
+        each_gives(&rt, wanted, line);
     }
 }
 
-/// Rules of the options, and command lines that break them, one a line.
-const LINES_THAT_BREAK: [(&str, &str); 5] = [
+/// The texts of rules of the options, and command lines that break them, one a line. Others are refused.
+const REFUSED: [(&str, &str); 6] = [
     (
-        "give exactly one of --listen and --script",
+        "mwserve: refused 1 command\nmwserve: give exactly one of --listen and --script",
         "\
 mwserve --tenants t
 mwserve --tenants t --strict --mode 8
@@ -372,7 +346,7 @@ mwserve --tenants t --listen a:1 --script s
 mwserve --tenants t --listen a:1 --script s --readers 1",
     ),
     (
-        "--script takes no option of --listen",
+        "mwserve: refused 1 command\nmwserve: --script takes no option of --listen",
         "\
 mwserve --tenants t --script s --connections 1
 mwserve --tenants t --script s --idle 1
@@ -386,36 +360,25 @@ mwserve --tenants t --script s --wait 1
 mwserve --tenants t --script s --line-time 1",
     ),
     (
-        "--readers needs --clients",
+        "mwserve: refused 1 command\nmwserve: --readers needs --clients",
         "mwserve --tenants t --listen a --readers 1",
     ),
     (
-        "--clients needs more --workers than --readers, and so at least 2",
+        "mwserve: refused 1 command\nmwserve: --clients needs more --workers than --readers, and so at least 2",
         "\
 mwserve --tenants t --listen a --clients 1 --workers 1
 mwserve --tenants t --listen a --clients 1 --readers 4
 mwserve --tenants t --listen a --clients 1 --readers 2 --workers 2",
     ),
     (
-        "--mode is 0 to 777, in octal digits",
+        "mwserve: refused 1 command\nmwserve: --mode is 0 to 777, in octal digits",
         "\
 mwserve --tenants t --listen a --mode 1000
 mwserve --tenants t --listen a --mode 8
 mwserve --tenants t --listen a --mode 8 --readers 1",
     ),
+    ("refused", REFUSED_LINES),
 ];
-
-#[test]
-fn command_lines_that_break_a_rule(rt: HostRuntime) {
-    for (rule, lines) in LINES_THAT_BREAK {
-        let text = format!(in rt.alloc(); "mwserve: refused 1 command\nmwserve: {rule}").expect(
-            &rt, MEMORY,
-        );
-        for line in lines.split('\n') {
-            same_text(&rt, fault_of(&rt, line).as_str(), text.as_str());
-        }
-    }
-}
 
 /// Command lines that are not of the form that the help tells, that have a number out of range, or that ask
 /// for the help or the version.
@@ -446,13 +409,15 @@ mwserve --tenants t --script s --what
 mwserve --tenants t --script s more";
 
 #[test]
-fn command_lines_that_are_refused(rt: HostRuntime) {
-    each_gives(&rt, REFUSED_LINES, "refused");
+fn command_lines_that_break_a_rule(rt: HostRuntime) {
+    for (wanted, lines) in REFUSED {
+        each_gives(&rt, wanted, lines);
+    }
 }
 
-/// Gives the text of the fault of a command line.
-fn fault_of<R: Abort + AllocGlobal>(rt: &R, line: &str) -> String {
-    let words = words_of(rt.alloc(), line).expect(rt, MEMORY);
+/// Gives what the program writes if it is asked for its help.
+fn help<R: Abort + AllocGlobal>(rt: &R) -> String {
+    let words = words_of(rt.alloc(), "mwserve --help").expect(rt, MEMORY);
     let fault = read_args(rt.alloc(), &words).expect_err(rt, "a fault");
     format!(in rt.alloc(); "{fault}").expect(rt, MEMORY)
 }
@@ -479,7 +444,7 @@ const OPTIONS: &str = "\
 
 #[test]
 fn the_help_names_each_option(rt: HostRuntime) {
-    let help = fault_of(&rt, "mwserve --help");
+    let help = help(&rt);
     for option in OPTIONS.split('\n') {
         assert!(rt; help.as_str().contains(option), "{option}");
     }

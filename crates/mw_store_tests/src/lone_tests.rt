@@ -6,221 +6,184 @@ use mw_lone::*;
 use mw_words::{Entries, Entry, Job, Reply};
 use std::process::Abort;
 
-/// Makes a change of one word.
-fn change(addr: u16, expected: u64, new: u64) -> Job {
+/// A mark.
+#[derive(Clone, Copy)]
+enum Step {
+    /// A request comes that reads a word.
+    Get(u64, u16),
+    /// A request comes that changes words: their addresses, expected values and new values.
+    Cas(u64, &'static [(u16, u64, u64)]),
+    Admit(u64),
+    Busy(u64),
+    Look(u64),
+    Miss(u64, u8),
+    Seal(u64),
+    SealFail(u64),
+    FileFail,
+    GiveUp(u64),
+    Retire(u64),
+    Reply(u64),
+    /// A start that gives this quota: the change that was being made durable, and whether the change in doubt is
+    /// found.
+    Restart(Option<u64>, bool, u8),
+}
+
+/// Makes a change of these words.
+fn change(parts: &[(u16, u64, u64)]) -> Job {
     let mut entries = Entries::new();
-    entries.push(Entry {
-        addr,
-        expected,
-        new,
-    });
+    for part in parts {
+        let _ = entries.try_push(Entry {
+            addr: part.0,
+            expected: part.1,
+            new: part.2,
+        });
+    }
     Job::Cas(entries)
 }
 
-/// Makes a change of the words 0 and 1.
-fn change_both(first: (u64, u64), second: (u64, u64)) -> Job {
-    let mut entries = Entries::new();
-    entries.push(Entry {
-        addr: 0,
-        expected: first.0,
-        new: first.1,
-    });
-    entries.push(Entry {
-        addr: 1,
-        expected: second.0,
-        new: second.1,
-    });
-    Job::Cas(entries)
-}
-
-/// Makes a start that gives the quota of 1.
-fn restart(interrupted: Option<u64>, take: bool) -> Mark {
-    Mark::Restart {
-        interrupted,
-        take,
-        opened: true,
-        quota: 1,
+/// Makes a mark.
+fn mark_of(step: Step) -> Mark {
+    match step {
+        Step::Get(n, addr) => Mark::Ask(n, Job::Get(addr)),
+        Step::Cas(n, parts) => Mark::Ask(n, change(parts)),
+        Step::Admit(n) => Mark::Admit(n),
+        Step::Busy(n) => Mark::Busy(n),
+        Step::Look(n) => Mark::Look(n),
+        Step::Miss(n, entry) => Mark::Miss(n, entry),
+        Step::Seal(n) => Mark::Seal(n),
+        Step::SealFail(n) => Mark::SealFail(n),
+        Step::FileFail => Mark::FileFail,
+        Step::GiveUp(n) => Mark::GiveUp(n),
+        Step::Retire(n) => Mark::Retire(n),
+        Step::Reply(n) => Mark::Reply(n),
+        Step::Restart(interrupted, take, quota) => Mark::Restart {
+            interrupted,
+            take,
+            opened: true,
+            quota,
+        },
     }
 }
 
-/// Makes a start that gives this quota, and finds no change in doubt.
-fn restart_with(quota: u8) -> Mark {
-    Mark::Restart {
-        interrupted: None,
-        take: false,
-        opened: true,
-        quota,
+/// A mark, and what the store answers: the reply that it hands out, or that the mark is illegal.
+type Told = (Step, Result<Option<Reply>, LoneFault>);
+
+const NONE: Result<Option<Reply>, LoneFault> = Ok(None);
+
+const ILLEGAL: Result<Option<Reply>, LoneFault> = Err(LoneFault::Illegal);
+
+/// Hands these marks to a store of the words 10 and 20, with a quota of 1, which answers so.
+fn tells<R: Abort + AllocGlobal>(rt: &R, row: &str, told: &[Told]) {
+    let mut lone = Lone::new(rt.alloc(), &[10, 20], 1, false).expect(rt, MEMORY);
+    for (at, (step, wanted)) in told.iter().enumerate() {
+        same(rt, row, at as u64, &lone.mark(mark_of(*step)), wanted);
     }
 }
 
-/// A mark, and the reply that the store hands out at it.
-type Told = (Mark, Option<Reply>);
-
-/// Requests, of which one is refused by the quota and one by a word.
-fn requests() -> [Told; 16] {
-    [
-        (Mark::Ask(0, Job::Get(1)), None),
-        (Mark::Ask(1, change_both((10, 11), (20, 21))), None),
-        (Mark::Ask(2, change(0, 10, 12)), None),
-        (Mark::Look(0), None),
-        (Mark::Reply(0), Some(Reply::Val(20))),
-        (Mark::Admit(1), None),
-        (Mark::Busy(2), None),
-        (Mark::Reply(2), Some(Reply::Busy)),
-        (Mark::Seal(1), None),
-        (Mark::Retire(1), None),
-        (Mark::Reply(1), Some(Reply::Yes)),
-        (Mark::Ask(3, change_both((11, 0), (20, 0))), None),
-        (Mark::Admit(3), None),
-        (Mark::Miss(3, 1), None),
-        (Mark::Reply(3), Some(Reply::No(1, 21))),
-        (Mark::Retire(3), None),
-    ]
-}
-
-/// A change whose seal fails, and what is asked then.
-fn failures() -> [Told; 10] {
-    [
-        (Mark::Ask(4, change(0, 11, 13)), None),
-        (Mark::Admit(4), None),
-        (Mark::SealFail(4), None),
-        (Mark::Reply(4), Some(Reply::Fault)),
-        (Mark::Ask(5, Job::Get(0)), None),
-        (Mark::Look(5), None),
-        (Mark::Reply(5), Some(Reply::Val(11))),
-        (Mark::Ask(6, change(0, 11, 14)), None),
-        (Mark::GiveUp(6), None),
-        (Mark::Reply(6), Some(Reply::Fault)),
-    ]
-}
-
-/// Starts that find the change in doubt, none, and one that was cut off.
-fn starts() -> [Told; 15] {
-    [
-        (restart(None, true), None),
-        (Mark::Ask(7, Job::Get(0)), None),
-        (Mark::Look(7), None),
-        (Mark::Reply(7), Some(Reply::Val(13))),
-        (Mark::FileFail, None),
-        (Mark::Ask(8, change(0, 13, 15)), None),
-        (Mark::GiveUp(8), None),
-        (Mark::Reply(8), Some(Reply::Fault)),
-        (restart(None, false), None),
-        (Mark::Ask(9, change(1, 21, 22)), None),
-        (Mark::Admit(9), None),
-        (restart(Some(9), true), None),
-        (Mark::Ask(10, Job::Get(1)), None),
-        (Mark::Look(10), None),
-        (Mark::Reply(10), Some(Reply::Val(22))),
-    ]
-}
-
-/// Makes a store of the words 10 and 20, with a quota of 1.
-fn new_store<R: Abort + AllocGlobal>(rt: &R) -> Lone {
-    Lone::new(rt.alloc(), &[10, 20], 1, false).expect(rt, MEMORY)
-}
-
-/// Each of these marks is legal, and the store hands out the reply beside it.
-fn tells<R: Abort>(rt: &R, lone: &mut Lone, marks: Vec<Told>) {
-    for (mark, want) in marks {
-        same(rt, &lone.mark(mark), &Ok(want));
-    }
-}
+/// Requests, of which one is refused by the quota and one by a word; a change whose seal fails, and what is asked then;
+/// and starts that find the change in doubt, none, and one that was cut off.
+const REPLIES: [Told; 41] = [
+    (Step::Get(0, 1), NONE),
+    (Step::Cas(1, &[(0, 10, 11), (1, 20, 21)]), NONE),
+    (Step::Cas(2, &[(0, 10, 12)]), NONE),
+    (Step::Look(0), NONE),
+    (Step::Reply(0), Ok(Some(Reply::Val(20)))),
+    (Step::Admit(1), NONE),
+    (Step::Busy(2), NONE),
+    (Step::Reply(2), Ok(Some(Reply::Busy))),
+    (Step::Seal(1), NONE),
+    (Step::Retire(1), NONE),
+    (Step::Reply(1), Ok(Some(Reply::Yes))),
+    (Step::Cas(3, &[(0, 11, 0), (1, 20, 0)]), NONE),
+    (Step::Admit(3), NONE),
+    (Step::Miss(3, 1), NONE),
+    (Step::Reply(3), Ok(Some(Reply::No(1, 21)))),
+    (Step::Retire(3), NONE),
+    (Step::Cas(4, &[(0, 11, 13)]), NONE),
+    (Step::Admit(4), NONE),
+    (Step::SealFail(4), NONE),
+    (Step::Reply(4), Ok(Some(Reply::Fault))),
+    (Step::Get(5, 0), NONE),
+    (Step::Look(5), NONE),
+    (Step::Reply(5), Ok(Some(Reply::Val(11)))),
+    (Step::Cas(6, &[(0, 11, 14)]), NONE),
+    (Step::GiveUp(6), NONE),
+    (Step::Reply(6), Ok(Some(Reply::Fault))),
+    (Step::Restart(None, true, 1), NONE),
+    (Step::Get(7, 0), NONE),
+    (Step::Look(7), NONE),
+    (Step::Reply(7), Ok(Some(Reply::Val(13)))),
+    (Step::FileFail, NONE),
+    (Step::Cas(8, &[(0, 13, 15)]), NONE),
+    (Step::GiveUp(8), NONE),
+    (Step::Reply(8), Ok(Some(Reply::Fault))),
+    (Step::Restart(None, false, 1), NONE),
+    (Step::Cas(9, &[(1, 21, 22)]), NONE),
+    (Step::Admit(9), NONE),
+    (Step::Restart(Some(9), true, 1), NONE),
+    (Step::Get(10, 1), NONE),
+    (Step::Look(10), NONE),
+    (Step::Reply(10), Ok(Some(Reply::Val(22)))),
+];
 
 #[test]
 fn replies_as_the_marks_say(rt: HostRuntime) {
-    let mut lone = new_store(&rt);
-    let marks = Vec::from_array(rt.alloc(), requests()).expect(&rt, MEMORY);
-    tells(&rt, &mut lone, marks);
-    let marks = Vec::from_array(rt.alloc(), failures()).expect(&rt, MEMORY);
-    tells(&rt, &mut lone, marks);
-    let marks = Vec::from_array(rt.alloc(), starts()).expect(&rt, MEMORY);
-    tells(&rt, &mut lone, marks);
+    tells(&rt, "replies", &REPLIES);
 }
 
-/// Marks that are illegal after request 0 is admitted and no other one came.
-fn illegal() -> [Mark; 18] {
-    [
-        Mark::Ask(0, Job::Get(0)),
-        Mark::Ask(2, Job::Get(0)),
-        Mark::Ask(1, Job::Get(2)),
-        Mark::Ask(1, change(0, 10, 281_474_976_710_656)),
-        Mark::Admit(0),
-        Mark::Admit(1),
-        Mark::Busy(0),
-        Mark::Look(0),
-        Mark::Miss(0, 0),
-        Mark::Miss(0, 1),
-        Mark::GiveUp(0),
-        Mark::Retire(0),
-        Mark::Reply(0),
-        restart(None, true),
-        restart(Some(1), false),
-        restart_with(0),
-        restart_with(65),
-        restart_with(255),
-    ]
-}
-
-/// None of these marks is legal.
-fn refuses<R: Abort>(rt: &R, lone: &mut Lone, marks: Vec<Mark>) {
-    for mark in marks {
-        same(rt, &lone.mark(mark), &Err(LoneFault::Illegal));
-    }
-}
+/// Marks that are illegal after request 0 is admitted and no other one came. Then its seal is legal.
+const REFUSED: [Told; 21] = [
+    (Step::Cas(0, &[(0, 10, 11)]), NONE),
+    (Step::Admit(0), NONE),
+    (Step::Get(0, 0), ILLEGAL),
+    (Step::Get(2, 0), ILLEGAL),
+    (Step::Get(1, 2), ILLEGAL),
+    (Step::Cas(1, &[(0, 10, 281_474_976_710_656)]), ILLEGAL),
+    (Step::Admit(0), ILLEGAL),
+    (Step::Admit(1), ILLEGAL),
+    (Step::Busy(0), ILLEGAL),
+    (Step::Look(0), ILLEGAL),
+    (Step::Miss(0, 0), ILLEGAL),
+    (Step::Miss(0, 1), ILLEGAL),
+    (Step::GiveUp(0), ILLEGAL),
+    (Step::Retire(0), ILLEGAL),
+    (Step::Reply(0), ILLEGAL),
+    (Step::Restart(None, true, 1), ILLEGAL),
+    (Step::Restart(Some(1), false, 1), ILLEGAL),
+    (Step::Restart(None, false, 0), ILLEGAL),
+    (Step::Restart(None, false, 65), ILLEGAL),
+    (Step::Restart(None, false, 255), ILLEGAL),
+    (Step::Seal(0), NONE),
+];
 
 #[test]
 fn refuses_what_cannot_happen(rt: HostRuntime) {
-    let mut lone = new_store(&rt);
-    same(&rt, &lone.mark(Mark::Ask(0, change(0, 10, 11))), &Ok(None));
-    same(&rt, &lone.mark(Mark::Admit(0)), &Ok(None));
-    let marks = Vec::from_array(rt.alloc(), illegal()).expect(&rt, MEMORY);
-    refuses(&rt, &mut lone, marks);
-    same(&rt, &lone.mark(Mark::Seal(0)), &Ok(None));
+    tells(&rt, "marks that are refused", &REFUSED);
 }
 
-/// Starts that give the greatest quota, and then 2; and two changes, one of them not admitted yet.
-fn raised() -> [Told; 5] {
-    [
-        (restart_with(64), None),
-        (restart_with(2), None),
-        (Mark::Ask(0, change(0, 10, 11)), None),
-        (Mark::Admit(0), None),
-        (Mark::Ask(1, change(1, 20, 21)), None),
-    ]
-}
-
-/// The second change is admitted, and the one after it is refused by the quota of 2.
-fn filled() -> [Told; 4] {
-    [
-        (Mark::Admit(1), None),
-        (Mark::Ask(2, change(0, 10, 12)), None),
-        (Mark::Busy(2), None),
-        (Mark::Reply(2), Some(Reply::Busy)),
-    ]
-}
-
-/// A start that gives the quota of 1, by which the second change is refused.
-fn lowered() -> [Told; 6] {
-    [
-        (restart_with(1), None),
-        (Mark::Ask(3, change(0, 10, 13)), None),
-        (Mark::Admit(3), None),
-        (Mark::Ask(4, change(1, 20, 22)), None),
-        (Mark::Busy(4), None),
-        (Mark::Reply(4), Some(Reply::Busy)),
-    ]
-}
+/// Starts that give the greatest quota, and then 2: two changes are admitted, and the one after them is refused by the
+/// quota. Then a start that gives the quota of 1, by which a second change is refused.
+const QUOTAS: [Told; 17] = [
+    (Step::Restart(None, false, 64), NONE),
+    (Step::Restart(None, false, 2), NONE),
+    (Step::Cas(0, &[(0, 10, 11)]), NONE),
+    (Step::Admit(0), NONE),
+    (Step::Cas(1, &[(1, 20, 21)]), NONE),
+    (Step::Busy(1), ILLEGAL),
+    (Step::Admit(1), NONE),
+    (Step::Cas(2, &[(0, 10, 12)]), NONE),
+    (Step::Busy(2), NONE),
+    (Step::Reply(2), Ok(Some(Reply::Busy))),
+    (Step::Restart(None, false, 1), NONE),
+    (Step::Cas(3, &[(0, 10, 13)]), NONE),
+    (Step::Admit(3), NONE),
+    (Step::Cas(4, &[(1, 20, 22)]), NONE),
+    (Step::Busy(4), NONE),
+    (Step::Reply(4), Ok(Some(Reply::Busy))),
+    (Step::Admit(4), ILLEGAL),
+];
 
 #[test]
 fn a_start_tells_the_quota(rt: HostRuntime) {
-    let mut lone = new_store(&rt);
-    let marks = Vec::from_array(rt.alloc(), raised()).expect(&rt, MEMORY);
-    tells(&rt, &mut lone, marks);
-    same(&rt, &lone.mark(Mark::Busy(1)), &Err(LoneFault::Illegal));
-    let marks = Vec::from_array(rt.alloc(), filled()).expect(&rt, MEMORY);
-    tells(&rt, &mut lone, marks);
-    let marks = Vec::from_array(rt.alloc(), lowered()).expect(&rt, MEMORY);
-    tells(&rt, &mut lone, marks);
-    same(&rt, &lone.mark(Mark::Admit(4)), &Err(LoneFault::Illegal));
+    tells(&rt, "quotas", &QUOTAS);
 }

@@ -192,7 +192,13 @@ fn tickets(rt: HostRuntime) {
     let yes = Some(Reply::Yes);
     let replies = [Some(Reply::Busy), yes, yes, yes, None];
     let words = [val(1), val(1), val(1), val(0)];
-    same(&rt, &told_of_tickets(&rt), &(replies, words, true));
+    same(
+        &rt,
+        "tickets",
+        0,
+        &told_of_tickets(&rt),
+        &(replies, words, true),
+    );
 }
 
 /// Gives what the store finds by a name: the tenant's number, and how many words it has.
@@ -208,7 +214,7 @@ fn tenants_by_name(rt: HostRuntime) {
         found(&store, b"u"),
         found(&store, b"tu"),
     ];
-    same(&rt, &told, &[Some((0, 2)), Some((1, 2)), None]);
+    same(&rt, "names", 0, &told, &[Some((0, 2)), Some((1, 2)), None]);
 }
 
 /// Gives the replies to two changes of the same word by t, and to a read by u.
@@ -235,7 +241,7 @@ fn replies_in_order<R: Abort + AllocGlobal>(rt: &R) -> Vec<Reply> {
 fn tasks_in_order(rt: HostRuntime) {
     let replies = replies_in_order(&rt);
     let wanted = [Reply::Yes, Reply::No(0, 1), Reply::Val(0)];
-    same(&rt, &replies.as_slice(), &wanted.as_slice());
+    same(&rt, "tasks", 0, &replies.as_slice(), &wanted.as_slice());
 }
 
 /// How many device calls the opening of a new file makes: its length, a read, and five that give it its
@@ -289,8 +295,9 @@ fn wanted_after(calls: u8) -> (Option<Reply>, [Option<Reply>; 4]) {
 fn each_device_call_fails(rt: HostRuntime) {
     for calls in 0..10 {
         let (reply, bytes) = crash_in_trouble(&rt, calls);
-        let found = (calls, (reply, words_of_opened(&rt, bytes)));
-        same(&rt, &found, &(calls, wanted_after(calls)));
+        let found = (reply, words_of_opened(&rt, bytes));
+        let at = u64::from(calls);
+        same(&rt, "a device call fails", at, &found, &wanted_after(calls));
     }
 }
 
@@ -343,9 +350,9 @@ fn a_start_tells_the_quota(rt: HostRuntime) {
     let busy = Some(Reply::Busy);
     let fault = Some(Reply::Fault);
     let one = (val(1), [None, busy, busy], (1, 2));
-    same(&rt, &started_with(&rt, 1), &one);
+    same(&rt, "a quota", 1, &started_with(&rt, 1), &one);
     let two = (val(1), [None, None, busy], (2, 2));
-    same(&rt, &started_with(&rt, 2), &two);
+    same(&rt, "a quota", 2, &started_with(&rt, 2), &two);
     let three = (fault, [fault; 3], (3, 0));
-    same(&rt, &started_with(&rt, 3), &three);
+    same(&rt, "a quota", 3, &started_with(&rt, 3), &three);
 }

@@ -2,7 +2,7 @@
 //!
 //! Nothing else uses it: it may change with what it tests.
 
-use crate::same::{MEMORY, same_text};
+use crate::same::{MEMORY, same, same_text};
 use mw_record::{header, header2, size, size2};
 use mw_show::{show, show_args, show_file};
 use std::fs::File;
@@ -113,36 +113,24 @@ const SWITCHED_FILES: &str = "\
 368=165 369=1 376=2 632=165 > damage 4 byte 368
 368=165 369=1 1160=165 1161=1 > damage 5 byte 1160";
 
-/// What is shown of a file is this text, with ` / ` for a line feed.
-fn shows<R: Abort + AllocGlobal>(rt: &R, bytes: &[u8], text: &str) {
-    let found = shown(rt, bytes, false);
-    let lines = found.replace(rt.alloc(), "\n", " / ").expect(rt, MEMORY);
-    same_text(rt, lines.as_str().strip_suffix(" / ").unwrap_or("?"), text);
-}
-
 /// The text in each line is shown of a file that is changed as the line says.
 fn are_shown<R: Abort + AllocGlobal>(rt: &R, file: &[u8], lines: &str) {
     for line in lines.lines() {
         let (changes, text) = line.split_once(" > ").expect(rt, "a file");
-        shows(rt, &changed_file(rt, file, changes), text);
+        let found = shown(rt, &changed_file(rt, file, changes), false);
+        let found = found.replace(rt.alloc(), "\n", " / ").expect(rt, MEMORY);
+        let found = found.as_str().strip_suffix(" / ").unwrap_or("?");
+        same_text(rt, changes, found, text);
     }
 }
 
 #[test]
-fn files_and_damages_are_shown(rt: HostRuntime) {
+fn files_are_shown(rt: HostRuntime) {
     are_shown(&rt, &new_file(&rt), NEW_FILES);
-}
-
-#[test]
-fn second_layouts_are_shown(rt: HostRuntime) {
     are_shown(&rt, &switched_file(&rt), SWITCHED_FILES);
-}
-
-#[test]
-fn all_words_are_shown(rt: HostRuntime) {
     let wanted = "words 2\nplaces 2\nword 0 0\nword 1 7\n";
     let bytes = changed_file(&rt, &new_file(&rt), "40=7");
-    same_text(&rt, shown(&rt, &bytes, true).as_str(), wanted);
+    same_text(&rt, "all words", shown(&rt, &bytes, true).as_str(), wanted);
 }
 
 /// What a program gave: its exit status, and what it wrote to its two outputs.
@@ -155,10 +143,10 @@ struct Outcome {
 
 impl Outcome {
     /// The program gave just this.
-    fn is<R: Abort>(&self, rt: &R, status: u8, out: &str, err: &str) {
-        assert!(rt; self.status == status);
-        same_text(rt, self.out.as_str(), out);
-        same_text(rt, self.err.as_str(), err);
+    fn is<R: Abort>(&self, rt: &R, row: &str, status: u8, out: &str, err: &str) {
+        same(rt, row, 0, &self.status, &status);
+        same_text(rt, row, self.out.as_str(), out);
+        same_text(rt, row, self.err.as_str(), err);
     }
 }
 
@@ -192,57 +180,90 @@ fn path_of(rt: &HostRuntime, name: &str) -> Result<String, Fail> {
     Ok(String::from_str(rt.alloc(), path.as_path().as_str())?)
 }
 
-/// Writes a file with these bytes at this path.
-fn write_file<R: Abort + AllocGlobal + Files<File = File>>(rt: &R, path: &str, changes: &str) {
-    let bytes = changed_file(rt, &new_file(rt), changes);
-    fs::write(rt, path, bytes.as_slice()).expect(rt, "a file");
+/// A file that the program is run on, and what it must give.
+#[derive(Clone, Copy)]
+struct Row {
+    name: &'static str,
+    /// How a new file's bytes are changed.
+    changes: &'static str,
+    /// Whether all words are asked for.
+    all_words: bool,
+    /// Whether a server has the file open.
+    in_use: bool,
+    status: u8,
+    out: &'static str,
+    err: &'static str,
 }
 
-/// Removes the file at this path.
-fn remove<R: Abort + AllocGlobal + Files<File = File>>(rt: &R, path: &str) {
-    fs::remove_file(rt, path).expect(rt, "a file");
-}
+const ROWS: [Row; 3] = [
+    Row {
+        name: "file",
+        changes: "40=7",
+        all_words: false,
+        in_use: false,
+        status: 0,
+        out: "words 2\nplaces 2\nword 1 7\n",
+        err: "",
+    },
+    Row {
+        name: "damaged",
+        changes: "0=78",
+        all_words: true,
+        in_use: false,
+        status: 1,
+        out: "damage 1 byte 0\n",
+        err: "",
+    },
+    Row {
+        name: "used",
+        changes: "",
+        all_words: false,
+        in_use: true,
+        status: 1,
+        out: "",
+        err: "mwshow: in use\n",
+    },
+];
 
-#[test]
-fn a_file_is_shown(rt: HostRuntime) -> Result<(), Fail> {
-    let path = path_of(&rt, "file")?;
-    write_file(&rt, path.as_str(), "40=7");
-    let outcome = run(&rt, &["mwshow", path.as_str()]);
-    remove(&rt, path.as_str());
-    outcome.is(&rt, 0, "words 2\nplaces 2\nword 1 7\n", "");
-    Ok(())
-}
-
-#[test]
-fn a_damaged_file_ends_with_status_1(rt: HostRuntime) -> Result<(), Fail> {
-    let path = path_of(&rt, "damaged")?;
-    write_file(&rt, path.as_str(), "0=78");
-    let outcome = run(&rt, &["mwshow", "--words", path.as_str()]);
-    remove(&rt, path.as_str());
-    outcome.is(&rt, 1, "damage 1 byte 0\n", "");
-    Ok(())
-}
-
-/// Gives what the program gives for a file that is in use.
-fn run_in_use<R: Abort + AllocGlobal + Files<File = File>>(rt: &R, path: &str) -> Outcome {
+/// Opens a file as a server does, which locks it.
+fn locked<R: Abort + Files<File = File>>(rt: &R, path: &str) -> File {
     let server = File::open(rt, path).expect(rt, "a file");
     assert!(rt; server.try_lock().is_ok());
-    run(rt, &["mwshow", path])
+    server
+}
+
+/// Runs the program on a row's file at this path.
+fn run_on<R: Abort + AllocGlobal + Files<File = File>>(rt: &R, row: Row, path: &str) -> Outcome {
+    let _server = if row.in_use {
+        Some(locked(rt, path))
+    } else {
+        None
+    };
+    if row.all_words {
+        run(rt, &["mwshow", "--words", path])
+    } else {
+        run(rt, &["mwshow", path])
+    }
+}
+
+/// Writes a row's file at this path, runs the program on it, and removes it.
+fn run_row<R: Abort + AllocGlobal + Files<File = File>>(rt: &R, row: Row, path: &str) {
+    let bytes = changed_file(rt, &new_file(rt), row.changes);
+    fs::write(rt, path, bytes.as_slice()).expect(rt, "a file");
+    let outcome = run_on(rt, row, path);
+    fs::remove_file(rt, path).expect(rt, "a file");
+    outcome.is(rt, row.name, row.status, row.out, row.err);
 }
 
 #[test]
-fn a_file_in_use_is_not_read(rt: HostRuntime) -> Result<(), Fail> {
-    let path = path_of(&rt, "used")?;
-    write_file(&rt, path.as_str(), "");
-    let outcome = run_in_use(&rt, path.as_str());
-    remove(&rt, path.as_str());
-    outcome.is(&rt, 1, "", "mwshow: in use\n");
+fn runs_of_the_program(rt: HostRuntime) -> Result<(), Fail> {
+    for row in ROWS {
+        let path = path_of(&rt, row.name)?;
+        run_row(&rt, row, path.as_str());
+    }
+    let folder = run(&rt, &["mwshow", "."]);
+    folder.is(&rt, "a folder", 1, "", "mwshow: not a plain file\n");
     Ok(())
-}
-
-#[test]
-fn a_folder_is_refused(rt: HostRuntime) {
-    run(&rt, &["mwshow", "."]).is(&rt, 1, "", "mwshow: not a plain file\n");
 }
 
 #[test]
@@ -250,6 +271,10 @@ fn a_missing_file_is_told(rt: HostRuntime) {
     let mut out = Vec::new(rt.alloc());
     let mut err = Vec::new(rt.alloc());
     let status = show_file(&rt, "./no such file", true, &mut out, &mut err);
-    assert!(rt; status == 1 && out.is_empty());
-    same_text(&rt, text_of(&rt, err).as_str(), "mwshow: cannot read\n");
+    let missing = Outcome {
+        status,
+        out: text_of(&rt, out),
+        err: text_of(&rt, err),
+    };
+    missing.is(&rt, "a missing file", 1, "", "mwshow: cannot read\n");
 }

@@ -4,71 +4,114 @@
 use arrayvec::ArrayVec;
 use mw_frame::*;
 use mw_words::MAX_LINE;
-use std::alloc::{AllocError, Global};
+use std::process::Abort;
 use std::test::Fail;
 
-/// Makes the line of this text, which is no longer than a line may be.
-fn text(bytes: &[u8]) -> Option<Line> {
-    Some(Line::Text(ArrayVec::try_from(bytes).ok()?))
+/// What a feed gets, or what it must give next.
+#[derive(Clone, Copy)]
+enum Step {
+    /// A piece comes.
+    Piece(&'static [u8]),
+    /// The next line is this one.
+    Line(&'static [u8]),
+    /// The next line is too long.
+    TooLong,
+    /// There is no whole line.
+    Nothing,
 }
 
-/// Tells whether a feed that gets this piece then has just these lines.
-fn gives(feed: &mut Feed, piece: &[u8], lines: &[&[u8]]) -> Result<bool, AllocError> {
-    feed.feed(piece)?;
-    Ok(has(feed, lines) && feed.next().is_none())
+/// The longest line, and one byte more than that.
+const LONGEST: [u8; MAX_LINE] = [b'A'; MAX_LINE];
+
+const TOO_MANY: [u8; MAX_LINE + 1] = [b'A'; MAX_LINE + 1];
+
+/// Pieces, and the lines between them.
+const ROWS: [(&str, &[Step]); 4] = [
+    (
+        "several lines in a piece",
+        &[
+            Step::Piece(b""),
+            Step::Nothing,
+            Step::Piece(b"GET 0\n\nQUIT\nGE"),
+            Step::Line(b"GET 0"),
+            Step::Line(b""),
+            Step::Line(b"QUIT"),
+            Step::Nothing,
+            Step::Piece(b"T 1\n"),
+            Step::Line(b"GET 1"),
+            Step::Nothing,
+        ],
+    ),
+    (
+        "single bytes",
+        &[
+            Step::Piece(b"C"),
+            Step::Nothing,
+            Step::Piece(b"A"),
+            Step::Nothing,
+            Step::Piece(b"S"),
+            Step::Nothing,
+            Step::Piece(b" "),
+            Step::Nothing,
+            Step::Piece(b"0"),
+            Step::Nothing,
+            Step::Piece(b":"),
+            Step::Nothing,
+            Step::Piece(b"0"),
+            Step::Nothing,
+            Step::Piece(b":"),
+            Step::Nothing,
+            Step::Piece(b"1"),
+            Step::Nothing,
+            Step::Piece(b"\n"),
+            Step::Line(b"CAS 0:0:1"),
+            Step::Nothing,
+        ],
+    ),
+    (
+        "the longest line",
+        &[
+            Step::Piece(&LONGEST),
+            Step::Nothing,
+            Step::Piece(b"\n"),
+            Step::Line(&LONGEST),
+            Step::Nothing,
+        ],
+    ),
+    (
+        "a line too long, which comes while another one waits",
+        &[
+            Step::Piece(b"QUIT\n"),
+            Step::Piece(&TOO_MANY),
+            Step::Line(b"QUIT"),
+            Step::TooLong,
+            Step::Piece(b"\nGET 0\n"),
+            Step::Nothing,
+        ],
+    ),
+];
+
+/// A feed gets this piece, or the next line is this one.
+fn take<R: Abort>(rt: &R, row: &str, at: usize, feed: &mut Feed, step: Step) {
+    let wanted = match step {
+        Step::Piece(piece) => {
+            feed.feed(piece).expect(rt, "memory");
+            return;
+        }
+        Step::Line(line) => Some(Line::Text(ArrayVec::try_from(line).expect(rt, "a line"))),
+        Step::TooLong => Some(Line::TooLong),
+        Step::Nothing => None,
+    };
+    assert!(rt; feed.next() == wanted, "{row}, at {at}");
 }
 
-/// Tells whether the next lines of a feed are these.
-fn has(feed: &mut Feed, lines: &[&[u8]]) -> bool {
-    for line in lines {
-        if feed.next() != text(line) {
-            return false;
+#[test]
+fn pieces_are_cut_into_lines(rt: HostRuntime) -> Result<(), Fail> {
+    for (row, steps) in ROWS {
+        let mut feed = Feed::new(rt.alloc())?;
+        for (at, step) in steps.iter().enumerate() {
+            take(&rt, row, at, &mut feed, *step);
         }
     }
-    true
-}
-
-#[test]
-fn several_lines_in_a_piece(rt: HostRuntime) -> Result<(), Fail> {
-    let mut feed = Feed::new(rt.alloc())?;
-    assert!(rt; gives(&mut feed, b"", &[])?);
-    assert!(rt; gives(&mut feed, b"GET 0\n\nQUIT\nGE", &[b"GET 0", b"", b"QUIT"])?);
-    assert!(rt; gives(&mut feed, b"T 1\n", &[b"GET 1"])?);
-    Ok(())
-}
-
-#[test]
-fn single_bytes(rt: HostRuntime) -> Result<(), Fail> {
-    let mut feed = Feed::new(rt.alloc())?;
-    for byte in b"CAS 0:0:1" {
-        assert!(rt; gives(&mut feed, &[*byte], &[])?);
-    }
-    assert!(rt; gives(&mut feed, b"\n", &[b"CAS 0:0:1"])?);
-    Ok(())
-}
-
-#[test]
-fn the_longest_line(rt: HostRuntime) -> Result<(), Fail> {
-    let mut feed = Feed::new(rt.alloc())?;
-    let line = [b'A'; MAX_LINE];
-    assert!(rt; gives(&mut feed, &line, &[])?);
-    assert!(rt; gives(&mut feed, b"\n", &[&line])?);
-    Ok(())
-}
-
-/// Makes a feed with a whole line, and more bytes after it than a line may have.
-fn overlong(alloc: Global) -> Result<Feed, AllocError> {
-    let mut feed = Feed::new(alloc)?;
-    feed.feed(b"QUIT\n")?;
-    feed.feed(&[b'A'; MAX_LINE + 1])?;
-    Ok(feed)
-}
-
-#[test]
-fn a_line_too_long(rt: HostRuntime) -> Result<(), Fail> {
-    let mut feed = overlong(rt.alloc())?;
-    assert!(rt; has(&mut feed, &[b"QUIT"]));
-    assert!(rt; feed.next() == Some(Line::TooLong));
-    assert!(rt; gives(&mut feed, b"\nGET 0\n", &[])?);
     Ok(())
 }

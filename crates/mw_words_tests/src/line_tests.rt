@@ -5,6 +5,18 @@ use mw_line::*;
 use mw_words::{Entries, Entry, Job, MAX_LINE, Name, Reply};
 use std::process::Abort;
 
+/// What a line asks for.
+#[derive(Clone, Copy)]
+enum Asked {
+    Tenant(&'static [u8]),
+    Admin,
+    Report,
+    Quit,
+    Get(u16),
+    /// A change of words that have the value 0, with these addresses and new values.
+    Cas(&'static [(u16, u64)]),
+}
+
 /// Makes a change of words that have the value 0, with these addresses and new values.
 fn change(parts: &[(u16, u64)]) -> Option<Request> {
     let mut entries = Entries::new();
@@ -19,33 +31,15 @@ fn change(parts: &[(u16, u64)]) -> Option<Request> {
     Some(Request::Job(Job::Cas(entries)))
 }
 
-fn tenant(name: &[u8]) -> Option<Request> {
-    Some(Request::Tenant(Name::try_from(name).ok()?))
-}
-
-fn get(addr: u16) -> Option<Request> {
-    Some(Request::Job(Job::Get(addr)))
-}
-
-/// Tells whether a line is read as this request.
-fn is_read(line: &[u8], request: Option<Request>) -> bool {
-    request.is_some() && read_line(line).ok() == request
-}
-
-#[test]
-fn lines_are_read(rt: HostRuntime) {
-    assert!(rt; is_read(b"TENANT t", tenant(b"t")));
-    assert!(rt; is_read(b"TENANT abc-0123456789-z", tenant(b"abc-0123456789-z")));
-    assert!(rt; is_read(b"ADMIN", Some(Request::Admin)));
-    assert!(rt; is_read(b"REPORT", Some(Request::Report)));
-    assert!(rt; is_read(b"QUIT", Some(Request::Quit)));
-}
-
-#[test]
-fn reads_are_read(rt: HostRuntime) {
-    let cases: [(&[u8], u16); 3] = [(b"GET 0", 0), (b"GET 10", 10), (b"GET 4095", 4095)];
-    for (line, addr) in cases {
-        assert!(rt; is_read(line, get(addr)), "{addr}");
+/// Makes a request. Gives None if it has too many entries or too long a name.
+fn request_of(asked: Asked) -> Option<Request> {
+    match asked {
+        Asked::Tenant(name) => Some(Request::Tenant(Name::try_from(name).ok()?)),
+        Asked::Admin => Some(Request::Admin),
+        Asked::Report => Some(Request::Report),
+        Asked::Quit => Some(Request::Quit),
+        Asked::Get(addr) => Some(Request::Job(Job::Get(addr))),
+        Asked::Cas(parts) => change(parts),
     }
 }
 
@@ -69,19 +63,39 @@ const SIXTEEN: [(u16, u64); 16] = [
     (15, 1),
 ];
 
+/// Lines, and what they ask for.
+const READ: [(&str, Asked); 12] = [
+    ("TENANT t", Asked::Tenant(b"t")),
+    (
+        "TENANT abc-0123456789-z",
+        Asked::Tenant(b"abc-0123456789-z"),
+    ),
+    ("ADMIN", Asked::Admin),
+    ("REPORT", Asked::Report),
+    ("QUIT", Asked::Quit),
+    ("GET 0", Asked::Get(0)),
+    ("GET 10", Asked::Get(10)),
+    ("GET 4095", Asked::Get(4095)),
+    ("CAS 0:0:1", Asked::Cas(&[(0, 1)])),
+    ("CAS 3:0:1 4:0:2", Asked::Cas(&[(3, 1), (4, 2)])),
+    (
+        "CAS 4095:0:281474976710655",
+        Asked::Cas(&[(4095, 281474976710655)]),
+    ),
+    (
+        "CAS 0:0:1 1:0:1 2:0:1 3:0:1 4:0:1 5:0:1 6:0:1 7:0:1 8:0:1 9:0:1 10:0:1 11:0:1 12:0:1 13:0:1 14:0:1 15:0:1",
+        Asked::Cas(&SIXTEEN),
+    ),
+];
+
 #[test]
-fn changes_are_read(rt: HostRuntime) {
-    let cases: [(&[u8], &[(u16, u64)]); 4] = [
-        (b"CAS 0:0:1", &[(0, 1)]),
-        (b"CAS 3:0:1 4:0:2", &[(3, 1), (4, 2)]),
-        (b"CAS 4095:0:281474976710655", &[(4095, 281474976710655)]),
-        (
-            b"CAS 0:0:1 1:0:1 2:0:1 3:0:1 4:0:1 5:0:1 6:0:1 7:0:1 8:0:1 9:0:1 10:0:1 11:0:1 12:0:1 13:0:1 14:0:1 15:0:1",
-            &SIXTEEN,
-        ),
-    ];
-    for (line, parts) in cases {
-        assert!(rt; is_read(line, change(parts)), "{parts:?}");
+fn lines_are_read(rt: HostRuntime) {
+    for (line, asked) in READ {
+        let request = request_of(asked);
+        assert!(rt;
+            request.is_some() && read_line(line.as_bytes()).ok() == request,
+            "{line}"
+        );
     }
 }
 
@@ -150,21 +164,31 @@ fn have_fault<R: Abort>(rt: &R, fault: LineFault, lines: &str) {
     }
 }
 
+/// Lines of the greatest length are read to their end.
+fn have_faults_at_the_end<R: Abort>(rt: &R) {
+    assert!(rt;
+        read_line(&[b'A'; MAX_LINE]) == Err(LineFault::NotACommand),
+        "letters"
+    );
+    let mut line = [b'7'; MAX_LINE];
+    line[..4].copy_from_slice(b"GET ");
+    assert!(rt;
+        read_line(&line) == Err(LineFault::AddressRange),
+        "a long address"
+    );
+    line[MAX_LINE - 1] = b'x';
+    assert!(rt;
+        read_line(&line) == Err(LineFault::NotACommand),
+        "a letter at the end"
+    );
+}
+
 #[test]
 fn lines_are_refused(rt: HostRuntime) {
     for (fault, lines) in FAULTS {
         have_fault(&rt, fault, lines);
     }
-}
-
-#[test]
-fn long_lines_are_read_to_their_end(rt: HostRuntime) {
-    assert!(rt; read_line(&[b'A'; MAX_LINE]) == Err(LineFault::NotACommand));
-    let mut line = [b'7'; MAX_LINE];
-    line[..4].copy_from_slice(b"GET ");
-    assert!(rt; read_line(&line) == Err(LineFault::AddressRange));
-    line[MAX_LINE - 1] = b'x';
-    assert!(rt; read_line(&line) == Err(LineFault::NotACommand));
+    have_faults_at_the_end(&rt);
 }
 
 #[test]
@@ -195,21 +219,16 @@ fn replies_are_written(rt: HostRuntime) {
 #[test]
 fn faults_have_numbers(rt: HostRuntime) {
     let cases = [
-        (LineFault::NotACommand, 2),
-        (LineFault::AddressRange, 6),
-        (LineFault::AddressOrder, 7),
-        (LineFault::TooManyEntries, 8),
-        (LineFault::ValueRange, 9),
-    ];
-    for (fault, number) in cases {
-        assert_eq!(rt; ErrCode::from(fault).number(), number);
-    }
-    let sessions = [
+        (ErrCode::from(LineFault::NotACommand), 2),
         (ErrCode::NotBound, 3),
         (ErrCode::AlreadyBound, 4),
         (ErrCode::NoSuchTenant, 5),
+        (ErrCode::from(LineFault::AddressRange), 6),
+        (ErrCode::from(LineFault::AddressOrder), 7),
+        (ErrCode::from(LineFault::TooManyEntries), 8),
+        (ErrCode::from(LineFault::ValueRange), 9),
     ];
-    for (fault, number) in sessions {
+    for (fault, number) in cases {
         assert_eq!(rt; fault.number(), number);
     }
 }

@@ -6,6 +6,7 @@ ghost use Rattle.mw_report.specs.Table.{IsWithinLimits};
 
 use mw_report::*;
 use mw_words::{MAX_PLACES, MAX_QUOTA, MAX_WORDS, Name};
+use std::process::Abort;
 
 /// Makes the figures of a tenant with no slot in use.
 fn tenant(name: &[u8], words: u16, quota: u8, places: u8) -> TenantFigures
@@ -24,12 +25,46 @@ fn tenant(name: &[u8], words: u16, quota: u8, places: u8) -> TenantFigures
     }
 }
 
-#[test]
+/// The report of a tenant, with so many free slots, has this text.
 #[tactic(auto, using(crate::proofs::Within::within))]
-fn report_one_tenant(rt: HostRuntime) {
-    let text = report_text(&[tenant(b"t", 2, 1, 2)], 256);
-    let wanted = b"t                   2  1  2  0 up\nfree 256\n";
-    assert!(rt; text.as_slice() == wanted.as_slice());
+fn is_told<R: Abort>(rt: &R, figures: TenantFigures, free: u16, wanted: &[u8])
+    requires within { IsWithinLimits figures }
+    requires free { free ≤ 256 }
+{
+    let text = report_text(&[figures], free);
+    assert!(rt; text.as_slice() == wanted, "{free} free");
+}
+
+#[test]
+fn reports_of_one_tenant(rt: HostRuntime) {
+    let usual = tenant(b"t", 2, 1, 2);
+    is_told(
+        &rt,
+        usual,
+        256,
+        b"t                   2  1  2  0 up\nfree 256\n",
+    );
+    let widest = TenantFigures {
+        used: 63,
+        up: false,
+        ..tenant(b"abcdefghijklmno-", 4096, 64, 64)
+    };
+    is_told(
+        &rt,
+        widest,
+        0,
+        b"abcdefghijklmno- 4096 64 64 63 down\nfree 0\n",
+    );
+    let without_a_file = TenantFigures {
+        up: false,
+        ..tenant(b"t", 2, 1, 0)
+    };
+    is_told(
+        &rt,
+        without_a_file,
+        255,
+        b"t                   2  1  0  0 down\nfree 255\n",
+    );
 }
 
 #[test]
@@ -38,27 +73,4 @@ fn report_two_tenants(rt: HostRuntime) {
     let text = report_text(&[tenant(b"t", 2, 1, 2), tenant(b"u", 4096, 32, 64)], 33);
     let wanted = b"t                   2  1  2  0 up\nu                4096 32 64  0 up\nfree 33\n";
     assert!(rt; text.as_slice() == wanted.as_slice());
-}
-
-#[test]
-#[tactic(auto, using(crate::proofs::Within::within))]
-fn widest_figures(rt: HostRuntime) {
-    let widest = TenantFigures {
-        used: 63,
-        up: false,
-        ..tenant(b"abcdefghijklmno-", 4096, 64, 64)
-    };
-    let wanted = b"abcdefghijklmno- 4096 64 64 63 down\nfree 0\n";
-    assert!(rt; report_text(&[widest], 0).as_slice() == wanted.as_slice());
-}
-
-#[test]
-#[tactic(auto, using(crate::proofs::Within::within))]
-fn a_tenant_without_a_file(rt: HostRuntime) {
-    let unopened = TenantFigures {
-        up: false,
-        ..tenant(b"t", 2, 1, 0)
-    };
-    let wanted = b"t                   2  1  0  0 down\nfree 255\n";
-    assert!(rt; report_text(&[unopened], 255).as_slice() == wanted.as_slice());
 }
