@@ -31,7 +31,11 @@ impl Outcome {
         let (status, out, err) = (self.status, self.out.as_str(), self.err.as_str());
         match verb {
             "gives" => Ok(format!(in alloc; "{status} {out}|{err}")?.as_str() == text),
-            "begins" => Ok(format!(in alloc; "{status} {out}|{err}")?.as_str().starts_with(text)),
+            "begins" => Ok(
+                format!(in alloc; "{status} {out}|{err}")?
+                    .as_str()
+                    .starts_with(text),
+            ),
             "ends" => Ok(format!(in alloc; "{status}|{err}")?.as_str() == text),
             "locked" => Ok(self.was_locked),
             _ => Ok(false),

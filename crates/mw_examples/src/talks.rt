@@ -32,7 +32,11 @@ where
 {
     match verb {
         "call" => {
-            let port = if rest == "admin" { &stage.told.admin } else { &stage.told.ready };
+            let port = if rest == "admin" {
+                &stage.told.admin
+            } else {
+                &stage.told.ready
+            };
             let port = wait_for(rt, port, 1)?;
             stage.callers.push(Caller::new(rt, port)?)?;
             Ok(true)
