@@ -1,7 +1,6 @@
-//! Clients over loopback for the tests, and how they learn where the server listens. What they wait for
-//! comes within a limit.
+//! Clients over loopback, and what they learn of the server. What they wait for comes within a limit.
 //!
-//! Used by: `outputs`, `servers`, mw_examples, mw_fault_examples. It may change freely as long as these check and their tests pass.
+//! Used by: `outputs`, `player`, `stage`, `talks`. It may change freely as long as this crate checks and its tests pass.
 use std::alloc::Global;
 use std::io::{ErrorKind, Read, Write};
 use std::net::{Net, TcpListener, TcpStream};
@@ -12,29 +11,32 @@ use std::{io, str, thread};
 /// How long a client waits for an answer, in seconds.
 const PATIENCE: u64 = 10;
 
-/// How many times a client looks whether the server is ready, and how many milliseconds it waits between.
+/// How many times a client looks whether the server has told something, and how many milliseconds it waits between.
 const LOOKS: u32 = 1000;
 
 const PAUSE: u64 = 10;
 
-/// The ports that a server tells. Each is 0 until it is told.
+/// What a server has told: its ports, of which each is 0 until it is told, and how many lines of notes.
 #[derive(Drop)]
-pub struct Ports {
+pub(crate) struct Told {
     /// The administrator's port.
-    pub admin: AtomicU16,
+    pub(crate) admin: AtomicU16,
     /// The port of the pages.
-    pub http: AtomicU16,
+    pub(crate) http: AtomicU16,
     /// The clients' port. It is told last.
-    pub ready: AtomicU16,
+    pub(crate) ready: AtomicU16,
+    /// How many lines of notes.
+    pub(crate) lines: AtomicU16,
 }
 
-impl Ports {
-    /// Makes the ports of a server that has told none.
-    pub fn new() -> Self {
-        Ports {
+impl Told {
+    /// Makes what a server has told that has told nothing.
+    pub(crate) fn new() -> Self {
+        Told {
             admin: AtomicU16::new(0),
             http: AtomicU16::new(0),
             ready: AtomicU16::new(0),
+            lines: AtomicU16::new(0),
         }
     }
 
@@ -56,22 +58,11 @@ fn port_in(text: &[u8], word: &str) -> Option<u16> {
     port.parse().ok()
 }
 
-/// Waits until so many lines were told.
-pub fn waits_for<R: Clock>(rt: &R, lines: &AtomicU16, count: u16) -> io::Result<()> {
+/// Waits until this number is at least so much, and gives it.
+pub(crate) fn wait_for<R: Clock>(rt: &R, number: &AtomicU16, least: u16) -> io::Result<u16> {
     for _ in 0..LOOKS {
-        if lines.load(Ordering::SeqCst) >= count {
-            return Ok(());
-        }
-        thread::sleep(rt, Duration::from_millis(PAUSE));
-    }
-    Err(io::Error::from(ErrorKind::TimedOut))
-}
-
-/// Waits until the server is ready, and gives its port.
-pub fn port_of_server<R: Clock>(rt: &R, port: &AtomicU16) -> io::Result<u16> {
-    for _ in 0..LOOKS {
-        let told = port.load(Ordering::SeqCst);
-        if told > 0 {
+        let told = number.load(Ordering::SeqCst);
+        if told >= least {
             return Ok(told);
         }
         thread::sleep(rt, Duration::from_millis(PAUSE));
@@ -81,13 +72,13 @@ pub fn port_of_server<R: Clock>(rt: &R, port: &AtomicU16) -> io::Result<u16> {
 
 /// A client's end of a connection.
 #[derive(Drop)]
-pub struct Caller {
+pub(crate) struct Caller {
     stream: TcpStream,
 }
 
 impl Caller {
     /// Connects a client to the server at this port.
-    pub fn new<R: Net<Listener = TcpListener, Stream = TcpStream>>(
+    pub(crate) fn new<R: Net<Listener = TcpListener, Stream = TcpStream>>(
         rt: &R,
         port: u16,
     ) -> io::Result<Self> {
@@ -98,7 +89,7 @@ impl Caller {
     }
 
     /// Says `text`. Gives true if just `answer` comes.
-    pub fn asks(&mut self, text: &[u8], answer: &[u8]) -> bool {
+    pub(crate) fn asks(&mut self, text: &[u8], answer: &[u8]) -> bool {
         let mut heard = [0; 64];
         match heard.get_mut(..answer.len()) {
             Some(room) => {
@@ -111,7 +102,7 @@ impl Caller {
     }
 
     /// Says `text`, and gives all that comes until the server closes the connection.
-    pub fn hears_all(&mut self, alloc: Global, text: &[u8]) -> io::Result<Vec<u8>> {
+    pub(crate) fn hears_all(&mut self, alloc: Global, text: &[u8]) -> io::Result<Vec<u8>> {
         self.stream.write_all(text)?;
         let mut heard = Vec::new(alloc);
         self.stream.read_to_end(&mut heard)?;
@@ -119,14 +110,14 @@ impl Caller {
     }
 
     /// Gives true if the server closes the connection and says no more.
-    pub fn hears_the_end(&mut self) -> bool {
+    pub(crate) fn hears_the_end(&mut self) -> bool {
         let mut heard = [0; 1];
         self.stream.read(&mut heard).is_ok_and(|count| count == 0)
     }
 }
 
 /// Comes and goes so many times, so that a server that still waits for clients gets them.
-pub fn come_and_go<R: Net<Listener = TcpListener, Stream = TcpStream>>(
+pub(crate) fn come_and_go<R: Net<Listener = TcpListener, Stream = TcpStream>>(
     rt: &R,
     port: u16,
     times: usize,

@@ -1,35 +1,34 @@
 //! A runtime for the tests, under which some files can't be read or written, and some addresses give no connection.
 //!
-//! Used by: mw_fault_examples. It may change freely as long as that checks and its tests pass.
+//! Used by: the tests. It may change freely as long as this crate checks and its tests pass.
 use std::alloc::{Allocator, Global};
 use std::fs::{File, Metadata, OpenOptions, Permissions};
 use std::io;
-use std::io::{PipeReader, PipeWriter};
-use std::net::{Net, SocketAddr, TcpListener, TcpStream, UdpSocket};
+use std::net::{Net, SocketAddr, TcpListener, TcpStream};
 use std::os::fd::{BorrowedFd, OwnedFd};
 use std::os::unix::net;
 use std::os::unix::net::UnixStream;
-use std::path::PathBuf;
 use std::rt::Files;
 use std::sync::Wait;
 use std::thread::Threads;
 use std::time::{Clock, Duration};
 
 /// The address at which a listener waits for nobody.
-pub const NO_ROOM: [u8; 4] = [127, 0, 0, 2];
+const NO_ROOM: [u8; 4] = [127, 0, 0, 2];
 
 /// A runtime that does what another one does, but for this:
 /// - It opens a file whose path ends with `.read-only` for reading alone, so that each write fails.
 /// - It opens a file whose path ends with `.write-only` for writing alone, so that each read fails.
 /// - At [`NO_ROOM`] it gives a listener that waits for nobody: an accept fails if no client is there.
+/// - It has none of the calls that neither the programs nor the tests make: each that the traits have a body for.
 #[derive(Drop)]
-pub struct FaultyRuntime<'a, R> {
+pub(crate) struct FaultyRuntime<'a, R> {
     rt: &'a R,
 }
 
 impl<'a, R> FaultyRuntime<'a, R> {
     /// Makes a runtime over this one.
-    pub fn new(rt: &'a R) -> Self {
+    pub(crate) fn new(rt: &'a R) -> Self {
         FaultyRuntime { rt }
     }
 }
@@ -88,14 +87,6 @@ impl<R: Files<File = File>> Files for FaultyRuntime<'_, R> {
         self.rt.remove_dir_all(alloc, path)
     }
 
-    fn canonicalize<B: Allocator>(&self, alloc: B, path: &str) -> io::Result<PathBuf<B>> {
-        self.rt.canonicalize(alloc, path)
-    }
-
-    fn read_link<B: Allocator>(&self, alloc: B, path: &str) -> io::Result<PathBuf<B>> {
-        self.rt.read_link(alloc, path)
-    }
-
     fn hard_link(&self, original: &str, link: &str) -> io::Result<()> {
         self.rt.hard_link(original, link)
     }
@@ -106,22 +97,6 @@ impl<R: Files<File = File>> Files for FaultyRuntime<'_, R> {
 
     fn symlink(&self, original: &str, link: &str) -> io::Result<()> {
         self.rt.symlink(original, link)
-    }
-
-    fn pipe(&self) -> io::Result<(PipeReader, PipeWriter)> {
-        self.rt.pipe()
-    }
-
-    fn chown(&self, path: &str, uid: Option<u32>, gid: Option<u32>) -> io::Result<()> {
-        self.rt.chown(path, uid, gid)
-    }
-
-    fn lchown(&self, path: &str, uid: Option<u32>, gid: Option<u32>) -> io::Result<()> {
-        self.rt.lchown(path, uid, gid)
-    }
-
-    fn create_dir_with_mode(&self, path: &str, mode: u32) -> io::Result<()> {
-        self.rt.create_dir_with_mode(path, mode)
     }
 
     fn bind_unix(&self, socket: BorrowedFd<'_>, addr: &net::SocketAddr) -> io::Result<()> {
@@ -146,24 +121,12 @@ impl<R: Net<Listener = TcpListener, Stream = TcpStream>> Net for FaultyRuntime<'
         self.rt.connect(addr)
     }
 
-    fn connect_timeout(&self, addr: SocketAddr, timeout: Duration) -> io::Result<TcpStream> {
-        self.rt.connect_timeout(addr, timeout)
-    }
-
-    fn bind_udp(&self, addr: SocketAddr) -> io::Result<UdpSocket> {
-        self.rt.bind_udp(addr)
-    }
-
     fn lookup_host(&self, host: &str, port: u16, found: &mut [SocketAddr]) -> io::Result<usize> {
         self.rt.lookup_host(host, port, found)
     }
 
     fn connect_unix(&self, addr: &net::SocketAddr) -> io::Result<UnixStream> {
         self.rt.connect_unix(addr)
-    }
-
-    fn unix_pair(&self) -> io::Result<(UnixStream, UnixStream)> {
-        self.rt.unix_pair()
     }
 
     fn unix_socket(&self) -> io::Result<OwnedFd> {

@@ -1,6 +1,6 @@
 //! A file in memory that writes down each call on it, and fails at the calls that a test names.
 //!
-//! Used by: the other modules of this crate. It may change with them.
+//! Used by: `opening`. It may change with it.
 use std::cell::Cell;
 use std::fs::{Metadata, OpenFile};
 use std::io;
