@@ -9,6 +9,8 @@ from register_parts.source import TOP, files_below, read
 # Where the edits of a crate are, in words and as a folder: `rt ci` tries the first, scripts/check-wrong-bodies the others.
 FOLDERS = {"in the gate": "crates/{}/must-fail", "by rounds": "wrong-bodies/{}"}
 BODIES = os.path.join("scripts", "register_parts", "wrong_bodies.txt")
+# The name of a row in a table of tests.
+ROW = re.compile(r'"([a-z][\w -]*)"')
 # Tests and schedules that a cell names: tests `a`, `b` and `c`.
 PROSE = re.compile(r"\b(tests?|schedules?) (`[\w-]+`(?:(?:, | and )`[\w-]+`)*)")
 KEYS = {
@@ -79,13 +81,16 @@ def edits_told(row):
 
 
 class There:
-    """What the rows may name: edits, tests with their crates, public calls; and the text of the tests, which has schedules."""
+    """What the rows may name: edits, tests with their crates, public calls; rows of tests' tables, by the name that such a row
+    has as a text, with a hyphen for each space; and the text of the tests, which has schedules."""
 
     def __init__(self, crates, edit_places):
         sources = [source for crate in crates for source in crate.sources]
         functions = [function for source in sources for function in source.functions]
         self.edits = edit_places
         self.tests = {(f.source.crate, f.name) for f in functions if f.is_test}
+        self.tests |= {(source.crate, row.replace(" ", "-")) for crate in crates for source in crate.sources if crate.is_test(source)
+                       for row in ROW.findall(source.text)}
         self.test_names = {name for _, name in self.tests}
         self.calls = {f"{f.source.path}: {f.label()}" for f in functions if f.is_open}
         self.test_text = "\n".join(source.text for crate in crates for source in crate.sources if crate.is_test(source))

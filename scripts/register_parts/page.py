@@ -30,7 +30,7 @@ doesn't check the third column.
 """,
         ("wrong body", "in the code alone", "in code and definition", "by a test, in both"),
         """
-The tests `schedules_of_requests`, `schedules_of_files` and `schedules_of_late_workers` play the schedules.
+The test `schedules_that_end_well` of mw_player_tests plays the schedules.
 """,
     ),
     "survivors": (
