@@ -4,7 +4,7 @@
 //! Nothing else uses it: it may change with what it tests.
 use crate::script::Step;
 use mw_actor::*;
-use mw_look::{Call, Got, Kind, Op, Told};
+use mw_look::{Call, Got, Kind, Told};
 use mw_words::{At, Entries, Entry, Job, Reply, WORN_NUMBER};
 use std::process::Abort;
 
