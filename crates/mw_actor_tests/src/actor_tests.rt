@@ -2,9 +2,9 @@
 //! next step.
 //!
 //! Nothing else uses it: it may change with what it tests.
-use crate::same::same;
+use crate::script::Step;
 use mw_actor::*;
-use mw_look::{Call, Got, Kind, Op, Told};
+use mw_look::{Call, Got, Kind, Told};
 use mw_words::{At, Entries, Entry, Job, Reply, WORN_NUMBER};
 use std::process::Abort;
 
@@ -34,41 +34,125 @@ const TAKEN: u64 = 0x8001_0000_0000_0007;
 // The word with attempt 9 of worker 2.
 const PLANTED: u64 = 0x4002_0000_0000_0009;
 
-fn load(at: At, found: u64) -> (Op, Got) {
-    (Op::Load(at), Got::Word(found))
-}
+// Slot 0 is taken, so slot 1 is claimed and written.
+static OPENING: [Step; 11] = [
+    Step::Load(At::Door(3), 1),
+    Step::Won(Kind::Admit, At::Door(3), 1, 2),
+    Step::Load(At::Gate(0), 0x8001_0000_0000_0004),
+    Step::Load(At::Gate(1), 7),
+    Step::Won(Kind::Claim, At::Gate(1), 7, TAKEN),
+    Step::Won(Kind::Fill, At::Status(1), 0, 0),
+    Step::Won(Kind::Fill, At::Count(1), 0, 1),
+    Step::Won(Kind::Fill, At::Addr { slot: 1, entry: 0 }, 0, 6),
+    Step::Won(Kind::Fill, At::Expected { slot: 1, entry: 0 }, 0, 5),
+    Step::Won(Kind::Fill, At::New { slot: 1, entry: 0 }, 0, 8),
+    Step::File(Call::Prepare, 1, true),
+];
 
-fn change(kind: Kind, at: At, from: u64, to: u64) -> (Op, Got) {
-    (Op::Change { kind, at, from, to }, Got::Won)
-}
+// A change alone is made: it holds the word, and lets it go.
+static HOLDING: [Step; 11] = [
+    Step::Load(At::Status(1), OPEN),
+    Step::Load(WORD, 5),
+    Step::Won(Kind::Row, At::Row(2), 0, 0x0100_0000_0000_0007),
+    Step::Won(Kind::Plant, WORD, 5, PLANTED),
+    Step::Load(At::Status(1), OPEN),
+    Step::Won(Kind::Resolve, WORD, PLANTED, HELD),
+    Step::Load(At::Status(1), OPEN),
+    Step::Load(WORD, HELD),
+    Step::Won(Kind::DecideYes, At::Status(1), OPEN, YES_DIRTY),
+    Step::Load(At::Status(1), YES_DIRTY),
+    Step::File(Call::Seal, 1, true),
+];
 
-fn fetch(kind: Kind, at: At, found: u64) -> (Op, Got) {
-    let (op, _) = change(kind, at, 0, 0);
-    (op, Got::Word(found))
-}
+static LETTING_GO: [Step; 10] = [
+    Step::Load(At::Status(1), YES),
+    Step::Load(WORD, HELD),
+    Step::Won(Kind::Release, WORD, HELD, DIRTY),
+    Step::File(Call::Settle, 1, true),
+    Step::Load(At::Status(1), DONE_YES),
+    Step::Load(WORD, DIRTY),
+    Step::Won(Kind::Clean, WORD, DIRTY, 8),
+    Step::Found(Kind::Unpin, At::Gate(1), TAKEN),
+    Step::Won(Kind::Free, At::Gate(1), 0, 8),
+    Step::Found(Kind::Drop, At::Door(3), 2),
+];
 
-fn file(call: Call, slot: u8, went_well: bool) -> (Op, Got) {
-    (Op::File { call, slot }, Got::File(went_well))
-}
+// The word has another value.
+static REFUSING: [Step; 9] = [
+    Step::Load(At::Status(1), OPEN),
+    Step::Load(WORD, 11),
+    Step::Won(Kind::DecideNo, At::Status(1), OPEN, 0x4000_0000_0000_000b),
+    Step::Load(At::Status(1), 0x4000_0000_0000_000b),
+    Step::Load(WORD, 11),
+    Step::File(Call::Cancel, 1, true),
+    Step::Load(At::Status(1), 0x6000_0000_0000_000b),
+    Step::Load(WORD, 11),
+    Step::Found(Kind::Unpin, At::Gate(1), 0x8002_0000_0000_0007),
+];
+
+// Another change is helped first.
+static HELPING: [Step; 21] = [
+    Step::Load(At::Status(1), OPEN),
+    Step::Load(WORD, 0x8000_0000_0000_0004),
+    Step::Load(At::Gate(0), 0x8001_0000_0000_0004),
+    Step::Won(
+        Kind::Pin,
+        At::Gate(0),
+        0x8001_0000_0000_0004,
+        0x8002_0000_0000_0004,
+    ),
+    Step::Load(At::Count(0), 1),
+    Step::Load(At::Addr { slot: 0, entry: 0 }, 6),
+    Step::Load(At::Expected { slot: 0, entry: 0 }, 4),
+    Step::Load(At::New { slot: 0, entry: 0 }, 5),
+    Step::Load(At::Status(0), YES_DIRTY),
+    Step::File(Call::Seal, 0, true),
+    Step::Load(At::Status(0), YES),
+    Step::Load(WORD, 0x8000_0000_0000_0004),
+    Step::Won(
+        Kind::Release,
+        WORD,
+        0x8000_0000_0000_0004,
+        0xc000_0000_0000_0005,
+    ),
+    Step::File(Call::Settle, 0, true),
+    Step::Load(At::Status(0), DONE_YES),
+    Step::Load(WORD, 5),
+    Step::Found(Kind::Unpin, At::Gate(0), 0x8001_0000_0000_0004),
+    Step::Won(Kind::Free, At::Gate(0), 0, 5),
+    Step::Found(Kind::Drop, At::Door(3), 2),
+    Step::Load(At::Status(1), OPEN),
+    Step::Load(WORD, 5),
+];
+
+// The file fails.
+static FAILING: [Step; 3] = [
+    Step::Load(At::Status(1), YES_DIRTY),
+    Step::File(Call::Seal, 1, false),
+    Step::Load(At::Status(1), YES_DIRTY),
+];
+
+static READING: [Step; 2] = [Step::Load(At::Door(3), 1), Step::Load(WORD, DIRTY)];
 
 // Tells whether the actor asks for these steps, in this order, and has no reply before they are made.
-fn follows(actor: &mut Actor, script: &[(Op, Got)]) -> bool {
-    for (op, got) in script {
-        if actor.ask() != *op || actor.reply().is_some() {
+fn follows(actor: &mut Actor, script: &[Step]) -> bool {
+    for step in script {
+        let (asked, got) = step.played();
+        if actor.ask() != asked || actor.reply().is_some() {
             return false;
         }
         let next = 9;
-        actor.tell(Told { got: *got, next });
+        actor.tell(Told { got, next });
     }
     true
 }
 
 // The actor asks for these steps, part after part, and ends with this reply.
-fn ends<R: Abort>(rt: &R, actor: &mut Actor, parts: &[&[(Op, Got)]], reply: Option<Reply>) {
+fn ends<R: Abort>(rt: &R, name: &str, actor: &mut Actor, parts: &[&[Step]], reply: Option<Reply>) {
     for (index, part) in parts.iter().enumerate() {
-        assert!(rt; follows(actor, part), "part {index}");
+        assert!(rt; follows(actor, part), "{name}, part {index}");
     }
-    same(rt, &actor.reply(), &reply);
+    assert!(rt; actor.reply() == reply, "{name}");
 }
 
 // Makes a request of worker 2 to change the word from 5 to 8, for tenant 3 with a quota of 4, in a pool of
@@ -83,124 +167,38 @@ fn change_of_one_word() -> Actor {
     Actor::new(2, 3, 4, 2, Job::Cas(entries))
 }
 
-// Slot 0 is taken, so slot 1 is claimed and written.
-fn opening() -> [(Op, Got); 11] {
-    [
-        load(At::Door(3), 1),
-        change(Kind::Admit, At::Door(3), 1, 2),
-        load(At::Gate(0), 0x8001_0000_0000_0004),
-        load(At::Gate(1), 7),
-        change(Kind::Claim, At::Gate(1), 7, TAKEN),
-        change(Kind::Fill, At::Status(1), 0, 0),
-        change(Kind::Fill, At::Count(1), 0, 1),
-        change(Kind::Fill, At::Addr { slot: 1, entry: 0 }, 0, 6),
-        change(Kind::Fill, At::Expected { slot: 1, entry: 0 }, 0, 5),
-        change(Kind::Fill, At::New { slot: 1, entry: 0 }, 0, 8),
-        file(Call::Prepare, 1, true),
-    ]
-}
-
 #[test]
-fn a_change_alone_is_made(rt: HostRuntime) {
-    let mut actor = change_of_one_word();
-    let holding = [
-        load(At::Status(1), OPEN),
-        load(WORD, 5),
-        change(Kind::Row, At::Row(2), 0, 0x0100_0000_0000_0007),
-        change(Kind::Plant, WORD, 5, PLANTED),
-        load(At::Status(1), OPEN),
-        change(Kind::Resolve, WORD, PLANTED, HELD),
-        load(At::Status(1), OPEN),
-        load(WORD, HELD),
-        change(Kind::DecideYes, At::Status(1), OPEN, YES_DIRTY),
-        load(At::Status(1), YES_DIRTY),
-        file(Call::Seal, 1, true),
-    ];
-    let letting_go = [
-        load(At::Status(1), YES),
-        load(WORD, HELD),
-        change(Kind::Release, WORD, HELD, DIRTY),
-        file(Call::Settle, 1, true),
-        load(At::Status(1), DONE_YES),
-        load(WORD, DIRTY),
-        change(Kind::Clean, WORD, DIRTY, 8),
-        fetch(Kind::Unpin, At::Gate(1), TAKEN),
-        change(Kind::Free, At::Gate(1), 0, 8),
-        fetch(Kind::Drop, At::Door(3), 2),
-    ];
-    let parts: [&[(Op, Got)]; 3] = [&opening(), &holding, &letting_go];
-    ends(&rt, &mut actor, &parts, Some(Reply::Yes));
-}
-
-#[test]
-fn a_change_of_another_value_is_refused(rt: HostRuntime) {
-    let mut actor = change_of_one_word();
-    let refusing = [
-        load(At::Status(1), OPEN),
-        load(WORD, 11),
-        change(Kind::DecideNo, At::Status(1), OPEN, 0x4000_0000_0000_000b),
-        load(At::Status(1), 0x4000_0000_0000_000b),
-        load(WORD, 11),
-        file(Call::Cancel, 1, true),
-        load(At::Status(1), 0x6000_0000_0000_000b),
-        load(WORD, 11),
-        fetch(Kind::Unpin, At::Gate(1), 0x8002_0000_0000_0007),
-    ];
-    let reply = Some(Reply::No(6, 11));
-    ends(&rt, &mut actor, &[&opening(), &refusing], reply);
+fn changes_that_end(rt: HostRuntime) {
+    let mut alone = change_of_one_word();
+    let parts: [&[Step]; 3] = [&OPENING, &HOLDING, &LETTING_GO];
+    ends(&rt, "alone", &mut alone, &parts, Some(Reply::Yes));
+    let mut refused = change_of_one_word();
+    let parts: [&[Step]; 2] = [&OPENING, &REFUSING];
+    ends(
+        &rt,
+        "another value",
+        &mut refused,
+        &parts,
+        Some(Reply::No(6, 11)),
+    );
+    let mut failed = change_of_one_word();
+    let parts: [&[Step]; 2] = [&OPENING, &FAILING];
+    ends(
+        &rt,
+        "the file fails",
+        &mut failed,
+        &parts,
+        Some(Reply::Fault),
+    );
 }
 
 #[test]
 fn another_change_is_helped_first(rt: HostRuntime) {
     let mut actor = change_of_one_word();
-    let helping = [
-        load(At::Status(1), OPEN),
-        load(WORD, 0x8000_0000_0000_0004),
-        load(At::Gate(0), 0x8001_0000_0000_0004),
-        change(
-            Kind::Pin,
-            At::Gate(0),
-            0x8001_0000_0000_0004,
-            0x8002_0000_0000_0004,
-        ),
-        load(At::Count(0), 1),
-        load(At::Addr { slot: 0, entry: 0 }, 6),
-        load(At::Expected { slot: 0, entry: 0 }, 4),
-        load(At::New { slot: 0, entry: 0 }, 5),
-        load(At::Status(0), YES_DIRTY),
-        file(Call::Seal, 0, true),
-        load(At::Status(0), YES),
-        load(WORD, 0x8000_0000_0000_0004),
-        change(
-            Kind::Release,
-            WORD,
-            0x8000_0000_0000_0004,
-            0xc000_0000_0000_0005,
-        ),
-        file(Call::Settle, 0, true),
-        load(At::Status(0), DONE_YES),
-        load(WORD, 5),
-        fetch(Kind::Unpin, At::Gate(0), 0x8001_0000_0000_0004),
-        change(Kind::Free, At::Gate(0), 0, 5),
-        fetch(Kind::Drop, At::Door(3), 2),
-        load(At::Status(1), OPEN),
-        load(WORD, 5),
-    ];
-    ends(&rt, &mut actor, &[&opening(), &helping], None);
-    let (row, _) = change(Kind::Row, At::Row(2), 0, 0x0100_0000_0000_0007);
-    same(&rt, &[actor.ask(), actor.copy().ask()], &[row, row]);
-}
-
-#[test]
-fn a_change_gives_up_where_its_file_fails(rt: HostRuntime) {
-    let mut actor = change_of_one_word();
-    let failing = [
-        load(At::Status(1), YES_DIRTY),
-        file(Call::Seal, 1, false),
-        load(At::Status(1), YES_DIRTY),
-    ];
-    let reply = Some(Reply::Fault);
-    ends(&rt, &mut actor, &[&opening(), &failing], reply);
+    ends(&rt, "helping", &mut actor, &[&OPENING, &HELPING], None);
+    let row = Step::Won(Kind::Row, At::Row(2), 0, 0x0100_0000_0000_0007);
+    let (row, _) = row.played();
+    assert!(rt; actor.ask() == row && actor.copy().ask() == row);
 }
 
 #[test]
@@ -214,15 +212,14 @@ fn requests_that_end_at_the_door(rt: HostRuntime) {
         let mut actor = change_of_one_word();
         let got = Got::Word(door);
         actor.tell(Told { got, next });
-        same(&rt, &actor.reply(), &Some(reply));
+        assert!(rt; actor.reply() == Some(reply), "door {door}");
     }
 }
 
 #[test]
 fn a_read_is_handed_through(rt: HostRuntime) {
     let mut actor = Actor::new(2, 3, 4, 2, Job::Get(6));
-    let reading = [load(At::Door(3), 1), load(WORD, DIRTY)];
-    ends(&rt, &mut actor, &[&reading], Some(Reply::Val(8)));
-    same(&rt, &(actor.worker(), actor.tenant()), &(2, 3));
+    ends(&rt, "a read", &mut actor, &[&READING], Some(Reply::Val(8)));
+    assert!(rt; (actor.worker(), actor.tenant()) == (2, 3));
     assert!(rt; *actor.job() == Job::Get(6));
 }

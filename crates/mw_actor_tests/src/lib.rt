@@ -10,4 +10,4 @@ mod look_tests;
 #[cfg(test)]
 mod pool_tests;
 #[cfg(test)]
-mod same;
+mod script;

@@ -2,7 +2,7 @@
 //! next step.
 //!
 //! Nothing else uses it: it may change with what it tests.
-use crate::same::same;
+use crate::script::Step;
 use mw_look::*;
 use mw_words::{At, Reply};
 use std::process::Abort;
@@ -41,222 +41,259 @@ const DONE_YES: u64 = 0x5000_0000_0000_0000;
 
 const NO_PATTERN: u64 = 0x0001_0000_0000_0000;
 
-// A step that is asked for, and what it finds.
-type Play = (Op, Got);
+// The door, the gate with one pin, a pin of it that is won, and an unpin that finds another pin.
+const ADMITTED: Step = Step::Load(DOOR, 1);
 
-fn load(at: At, bits: u64) -> Play {
-    (Op::Load(at), Got::Word(bits))
-}
+const PINNABLE: Step = Step::Load(GATE, ONE_PIN);
 
-fn door() -> Play {
-    load(DOOR, 1)
-}
+const PINNED: Step = Step::Won(Kind::Pin, GATE, ONE_PIN, TWO_PINS);
 
-fn change(kind: Kind, at: At, from: u64, to: u64, got: Got) -> Play {
-    (Op::Change { kind, at, from, to }, got)
-}
+const UNPINNED: Step = Step::Found(Kind::Unpin, GATE, TWO_PINS);
 
-fn pin(got: Got) -> Play {
-    change(Kind::Pin, GATE, ONE_PIN, TWO_PINS, got)
-}
+// The statuses of slot 3, its entries 0 and 1, and the values of its entry 2.
+const IS_OPEN: Step = Step::Load(At::Status(3), OPEN);
 
-fn unpin(found: u64) -> Play {
-    change(Kind::Unpin, GATE, 0, 0, Got::Word(found))
-}
+const IS_YES: Step = Step::Load(At::Status(3), YES);
 
-fn status(bits: u64) -> Play {
-    load(At::Status(3), bits)
-}
+const IS_DONE_YES: Step = Step::Load(At::Status(3), DONE_YES);
 
-fn addr(entry: u8, address: u64) -> Play {
-    load(At::Addr { slot: 3, entry }, address)
-}
+const ADDR_0: At = At::Addr { slot: 3, entry: 0 };
 
-fn expected(entry: u8, value: u64) -> Play {
-    load(At::Expected { slot: 3, entry }, value)
-}
+const ADDR_1: At = At::Addr { slot: 3, entry: 1 };
 
-fn new(entry: u8, value: u64) -> Play {
-    load(At::New { slot: 3, entry }, value)
-}
+const EXPECTED_0: At = At::Expected { slot: 3, entry: 0 };
+
+const EXPECTED_1: At = At::Expected { slot: 3, entry: 1 };
+
+const EXPECTED_2: At = At::Expected { slot: 3, entry: 2 };
+
+const NEW_0: At = At::New { slot: 3, entry: 0 };
+
+const NEW_1: At = At::New { slot: 3, entry: 1 };
+
+const NEW_2: At = At::New { slot: 3, entry: 2 };
+
+// A read that comes to its pin of a held word, one that is told the value 5, and the way back from a held word.
+static TO_THE_PIN: [Step; 4] = [ADMITTED, Step::Load(WORD, HELD), PINNABLE, PINNED];
+
+static FINDS_5: [Step; 2] = [ADMITTED, Step::Load(WORD, PLAIN_5)];
+
+static BACK: [Step; 2] = [Step::Load(WORD, HELD), UNPINNED];
+
+static FINDS_DIRTY_9: [Step; 2] = [ADMITTED, Step::Load(WORD, DIRTY_9)];
+
+static FINDS_FAULT: [Step; 1] = [Step::Load(DOOR, 0x8000_0000_0000_0001)];
+
+static ENTRY_1_OF_YES: [Step; 5] = [
+    IS_YES,
+    Step::Load(ADDR_0, 5),
+    Step::Load(ADDR_1, 7),
+    Step::Load(EXPECTED_1, 40),
+    Step::Load(NEW_1, 41),
+];
+
+static ENTRY_1_OF_OPEN: [Step; 5] = [
+    IS_OPEN,
+    Step::Load(ADDR_0, 5),
+    Step::Load(ADDR_1, 7),
+    Step::Load(EXPECTED_1, 40),
+    Step::Load(NEW_1, 41),
+];
+
+static ENTRY_0_OF_YES: [Step; 4] = [
+    IS_YES,
+    Step::Load(ADDR_0, 7),
+    Step::Load(EXPECTED_0, 40),
+    Step::Load(NEW_0, 41),
+];
+
+static ENTRY_0_OF_OPEN: [Step; 4] = [
+    IS_OPEN,
+    Step::Load(ADDR_0, 7),
+    Step::Load(EXPECTED_0, 40),
+    Step::Load(NEW_0, 41),
+];
+
+static ENTRY_0_OF_DONE_YES: [Step; 4] = [
+    IS_DONE_YES,
+    Step::Load(ADDR_0, 7),
+    Step::Load(EXPECTED_0, 40),
+    Step::Load(NEW_0, 41),
+];
+
+// A read of a planted word, whose row names entry 2 of slot 3.
+static PLANTED_ENTRY_2: [Step; 11] = [
+    ADMITTED,
+    Step::Load(WORD, PLANTED),
+    Step::Load(At::Row(4), ROW),
+    Step::Load(WORD, PLANTED),
+    PINNABLE,
+    PINNED,
+    IS_YES,
+    Step::Load(EXPECTED_2, 40),
+    Step::Load(NEW_2, 41),
+    Step::Load(WORD, PLANTED),
+    UNPINNED,
+];
+
+// The word changes behind the row, or behind the pin.
+static CHANGED_BEHIND_ROW: [Step; 4] = [
+    ADMITTED,
+    Step::Load(WORD, PLANTED),
+    Step::Load(At::Row(4), ROW),
+    Step::Load(WORD, PLAIN_5),
+];
+
+static BACK_TO_ANOTHER_WORD: [Step; 2] = [Step::Load(WORD, PLAIN_5), UNPINNED];
+
+// Gates that can't be pinned: a free one, one without a pin, one of another number, and one with the most pins.
+static FREE_GATE: [Step; 3] = [ADMITTED, Step::Load(WORD, HELD), Step::Load(GATE, FREE)];
+
+static GATE_WITHOUT_PIN: [Step; 3] = [
+    ADMITTED,
+    Step::Load(WORD, HELD),
+    Step::Load(GATE, 0x8000_0000_0000_0006),
+];
+
+static GATE_OF_ANOTHER: [Step; 3] = [
+    ADMITTED,
+    Step::Load(WORD, HELD),
+    Step::Load(GATE, 0x8001_0000_0000_0007),
+];
+
+static GATE_WITH_MOST_PINS: [Step; 3] = [
+    ADMITTED,
+    Step::Load(WORD, HELD),
+    Step::Load(GATE, 0xffff_0000_0000_0006),
+];
+
+// A pin that is lost, and then a gate whose number is worn.
+static LOST_PIN: [Step; 4] = [
+    ADMITTED,
+    Step::Load(WORD, HELD),
+    PINNABLE,
+    Step::Lost(Kind::Pin, GATE, ONE_PIN, TWO_PINS),
+];
+
+static WORN_GATE: [Step; 3] = [
+    ADMITTED,
+    Step::Load(WORD, 0x8003_ffff_ffff_ffff),
+    Step::Load(GATE, 0x8001_ffff_ffff_ffff),
+];
+
+// The way back of the last pin, which frees the slot and lowers the door.
+static BACK_WITH_LAST_PIN: [Step; 4] = [
+    Step::Load(WORD, HELD),
+    Step::Found(Kind::Unpin, GATE, ONE_PIN),
+    Step::Won(Kind::Free, GATE, 0, FREE),
+    Step::Found(Kind::Drop, DOOR, 1),
+];
+
+// A slot without an entry of the word.
+static NO_ENTRY: [Step; 18] = [
+    IS_OPEN,
+    Step::Load(ADDR_0, 8),
+    Step::Load(ADDR_1, 8),
+    Step::Load(At::Addr { slot: 3, entry: 2 }, 8),
+    Step::Load(At::Addr { slot: 3, entry: 3 }, 8),
+    Step::Load(At::Addr { slot: 3, entry: 4 }, 8),
+    Step::Load(At::Addr { slot: 3, entry: 5 }, 8),
+    Step::Load(At::Addr { slot: 3, entry: 6 }, 8),
+    Step::Load(At::Addr { slot: 3, entry: 7 }, 8),
+    Step::Load(At::Addr { slot: 3, entry: 8 }, 8),
+    Step::Load(At::Addr { slot: 3, entry: 9 }, 8),
+    Step::Load(At::Addr { slot: 3, entry: 10 }, 8),
+    Step::Load(At::Addr { slot: 3, entry: 11 }, 8),
+    Step::Load(At::Addr { slot: 3, entry: 12 }, 8),
+    Step::Load(At::Addr { slot: 3, entry: 13 }, 8),
+    Step::Load(At::Addr { slot: 3, entry: 14 }, 8),
+    Step::Load(At::Addr { slot: 3, entry: 15 }, 8),
+    UNPINNED,
+];
 
 // Plays these steps from where the read is. Tells whether it asked for each of them, and had no reply
 // before any of them.
-fn plays(look: &mut Look, script: &[Play]) -> bool {
-    for (asked, got) in script {
-        if look.ask() != *asked || look.reply().is_some() {
+fn plays(look: &mut Look, script: &[Step]) -> bool {
+    for step in script {
+        let (asked, got) = step.played();
+        if look.ask() != asked || look.reply().is_some() {
             return false;
         }
-        look.tell(Told { got: *got, next: 0 });
+        look.tell(Told { got, next: 0 });
     }
     true
 }
 
-// Gives the reply of a read of word 7 of tenant 2 that asks for these steps, and None if it asks for
-// others.
-fn answer(script: &[Play]) -> Option<Reply> {
+// A read of word 7 of tenant 2 asks for these steps, part after part, and ends with this reply.
+fn ends<R: Abort>(rt: &R, name: &str, parts: &[&[Step]], reply: Reply) {
     let mut look = Look::new(2, 7);
-    if plays(&mut look, script) {
-        look.reply()
-    } else {
-        None
-    }
-}
-
-// Gives the steps of a read that has come to its pin.
-fn pinned() -> [Play; 4] {
-    [door(), load(WORD, HELD), load(GATE, ONE_PIN), pin(Got::Won)]
-}
-
-// Gives the steps of a read that begins again, and finds the value 5.
-fn again() -> [Play; 2] {
-    [door(), load(WORD, PLAIN_5)]
-}
-
-// The read asks for these steps, part after part, and ends with this value.
-fn ends<R: Abort>(rt: &R, look: &mut Look, parts: &[&[Play]], value: u64) {
     for (index, part) in parts.iter().enumerate() {
-        assert!(rt; plays(look, part), "part {index}");
+        assert!(rt; plays(&mut look, part), "{name}, part {index}");
     }
-    same(rt, &look.reply(), &Some(Reply::Val(value)));
+    assert!(rt; look.reply() == Some(reply), "{name}");
 }
 
 #[test]
-fn words_that_say_their_value(rt: HostRuntime) {
-    let plain = answer(&[door(), load(WORD, PLAIN_5)]);
-    let dirty = answer(&[door(), load(WORD, DIRTY_9)]);
-    let failed = answer(&[load(DOOR, 0x8000_0000_0000_0001)]);
-    let told = [Some(Reply::Val(5)), Some(Reply::Val(9)), Some(Reply::Fault)];
-    same(&rt, &[plain, dirty, failed], &told);
+fn reads_that_end(rt: HostRuntime) {
+    ends(&rt, "plain", &[&FINDS_5], Reply::Val(5));
+    ends(&rt, "dirty", &[&FINDS_DIRTY_9], Reply::Val(9));
+    ends(&rt, "failed", &[&FINDS_FAULT], Reply::Fault);
+    ends(
+        &rt,
+        "held, sealed",
+        &[&TO_THE_PIN, &ENTRY_1_OF_YES, &BACK],
+        Reply::Val(41),
+    );
+    ends(
+        &rt,
+        "held, open",
+        &[&TO_THE_PIN, &ENTRY_1_OF_OPEN, &BACK],
+        Reply::Val(40),
+    );
+    let last: [&[Step]; 3] = [&TO_THE_PIN, &ENTRY_0_OF_YES, &BACK_WITH_LAST_PIN];
+    ends(&rt, "a last pin frees the slot", &last, Reply::Val(41));
+    ends(&rt, "planted", &[&PLANTED_ENTRY_2], Reply::Val(40));
 }
 
 #[test]
-fn a_held_word_has_the_value_of_its_status(rt: HostRuntime) {
-    let cases: [(u64, u64); 2] = [(YES, 41), (OPEN, 40)];
-    for (bits, value) in cases {
-        let mut look = Look::new(2, 7);
-        let entry = [
-            status(bits),
-            addr(0, 5),
-            addr(1, 7),
-            expected(1, 40),
-            new(1, 41),
-        ];
-        let back = [load(WORD, HELD), unpin(TWO_PINS)];
-        ends(&rt, &mut look, &[&pinned(), &entry, &back], value);
-    }
-}
-
-#[test]
-fn a_held_word_of_a_change_that_is_done_with_is_read_again(rt: HostRuntime) {
-    let mut look = Look::new(2, 7);
-    let entry = [status(DONE_YES), addr(0, 7), expected(0, 40), new(0, 41)];
-    let back = [load(WORD, HELD), unpin(TWO_PINS)];
-    let parts: [&[Play]; 4] = [&pinned(), &entry, &back, &again()];
-    ends(&rt, &mut look, &parts, 5);
-}
-
-#[test]
-fn a_planted_word_has_the_expected_value(rt: HostRuntime) {
-    let mut look = Look::new(2, 7);
-    let row = [
-        door(),
-        load(WORD, PLANTED),
-        load(At::Row(4), ROW),
-        load(WORD, PLANTED),
+fn reads_that_begin_again(rt: HostRuntime) {
+    let done: [&[Step]; 4] = [&TO_THE_PIN, &ENTRY_0_OF_DONE_YES, &BACK, &FINDS_5];
+    ends(&rt, "held, done with", &done, Reply::Val(5));
+    let changed: [&[Step]; 5] = [
+        &CHANGED_BEHIND_ROW,
+        &TO_THE_PIN,
+        &ENTRY_0_OF_OPEN,
+        &BACK_TO_ANOTHER_WORD,
+        &FINDS_5,
     ];
-    let gate = [load(GATE, ONE_PIN), pin(Got::Won)];
-    let entry = [status(YES), expected(2, 40), new(2, 41)];
-    let back = [load(WORD, PLANTED), unpin(TWO_PINS)];
-    let parts: [&[Play]; 4] = [&row, &gate, &entry, &back];
-    ends(&rt, &mut look, &parts, 40);
-}
-
-#[test]
-fn a_word_that_changed_is_read_again(rt: HostRuntime) {
-    let mut look = Look::new(2, 7);
-    let row = [
-        door(),
-        load(WORD, PLANTED),
-        load(At::Row(4), ROW),
-        load(WORD, PLAIN_5),
-    ];
-    let entry = [status(OPEN), addr(0, 7), expected(0, 40), new(0, 41)];
-    let back = [load(WORD, PLAIN_5), unpin(TWO_PINS)];
-    let parts: [&[Play]; 5] = [&row, &pinned(), &entry, &back, &again()];
-    ends(&rt, &mut look, &parts, 5);
-}
-
-#[test]
-fn a_gate_that_can_not_be_pinned(rt: HostRuntime) {
-    let gates: [u64; 4] = [
-        FREE,
-        0x8000_0000_0000_0006,
-        0x8001_0000_0000_0007,
-        0xffff_0000_0000_0006,
-    ];
-    for gate in gates {
-        let mut look = Look::new(2, 7);
-        let refused = [door(), load(WORD, HELD), load(GATE, gate)];
-        ends(&rt, &mut look, &[&refused, &again()], 5);
-    }
-}
-
-#[test]
-fn a_pin_that_is_lost(rt: HostRuntime) {
-    let mut look = Look::new(2, 7);
-    let lost = [
-        door(),
-        load(WORD, HELD),
-        load(GATE, ONE_PIN),
-        pin(Got::Lost),
-    ];
-    let worn = [
-        door(),
-        load(WORD, 0x8003_ffff_ffff_ffff),
-        load(GATE, 0x8001_ffff_ffff_ffff),
-    ];
-    ends(&rt, &mut look, &[&lost, &worn, &again()], 5);
-}
-
-#[test]
-fn a_last_pin_frees_the_slot(rt: HostRuntime) {
-    let mut look = Look::new(2, 7);
-    let entry = [status(YES), addr(0, 7), expected(0, 40), new(0, 41)];
-    let lower = change(Kind::Drop, DOOR, 0, 0, Got::Word(1));
-    let back = [
-        load(WORD, HELD),
-        unpin(ONE_PIN),
-        change(Kind::Free, GATE, 0, FREE, Got::Won),
-        lower,
-    ];
-    ends(&rt, &mut look, &[&pinned(), &entry, &back], 41);
-}
-
-#[test]
-fn a_slot_without_an_entry_of_the_word(rt: HostRuntime) {
-    let mut look = Look::new(2, 7);
-    let entries = [
-        addr(0, 8),
-        addr(1, 8),
-        addr(2, 8),
-        addr(3, 8),
-        addr(4, 8),
-        addr(5, 8),
-        addr(6, 8),
-        addr(7, 8),
-        addr(8, 8),
-        addr(9, 8),
-        addr(10, 8),
-        addr(11, 8),
-        addr(12, 8),
-        addr(13, 8),
-        addr(14, 8),
-        addr(15, 8),
-        unpin(TWO_PINS),
-    ];
-    let parts: [&[Play]; 4] = [&pinned(), &[status(OPEN)], &entries, &again()];
-    ends(&rt, &mut look, &parts, 5);
+    ends(&rt, "a word that changed", &changed, Reply::Val(5));
+    ends(&rt, "a free gate", &[&FREE_GATE, &FINDS_5], Reply::Val(5));
+    ends(
+        &rt,
+        "a gate without a pin",
+        &[&GATE_WITHOUT_PIN, &FINDS_5],
+        Reply::Val(5),
+    );
+    ends(
+        &rt,
+        "a gate of another",
+        &[&GATE_OF_ANOTHER, &FINDS_5],
+        Reply::Val(5),
+    );
+    ends(
+        &rt,
+        "the most pins",
+        &[&GATE_WITH_MOST_PINS, &FINDS_5],
+        Reply::Val(5),
+    );
+    ends(
+        &rt,
+        "a lost pin",
+        &[&LOST_PIN, &WORN_GATE, &FINDS_5],
+        Reply::Val(5),
+    );
+    let absent: [&[Step]; 3] = [&TO_THE_PIN, &NO_ENTRY, &FINDS_5];
+    ends(&rt, "no entry of the word", &absent, Reply::Val(5));
 }
 
 #[test]
@@ -265,12 +302,13 @@ fn what_does_not_fit_the_step_changes_nothing(rt: HostRuntime) {
     let told: [Got; 4] = [Got::Word(NO_PATTERN), Got::Won, Got::Lost, Got::File(true)];
     for got in told {
         look.tell(Told { got, next: 9 });
-        same(&rt, &(look.ask(), look.reply()), &(Op::Load(DOOR), None));
+        assert!(rt; look.ask() == Op::Load(DOOR) && look.reply().is_none());
     }
-    ends(&rt, &mut look, &[&again()], 5);
+    assert!(rt; plays(&mut look, &FINDS_5));
+    assert!(rt; look.reply() == Some(Reply::Val(5)));
     look.tell(Told {
         got: Got::Word(1),
         next: 9,
     });
-    same(&rt, &look.reply(), &Some(Reply::Val(5)));
+    assert!(rt; look.reply() == Some(Reply::Val(5)), "it has its reply");
 }

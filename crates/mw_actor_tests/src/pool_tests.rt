@@ -1,7 +1,6 @@
 //! Tests the rules for doors and gates (`mw_pool`): admission, claims, pins and freed slots.
 //!
 //! Nothing else uses it: it may change with what it tests.
-use crate::same::same;
 use mw_pool::*;
 use mw_words::{Door, Gate, MAX_PINS, WORN_NUMBER};
 
@@ -36,7 +35,10 @@ fn a_door_admits_up_to_its_quota(rt: HostRuntime) {
         (true, 2, 2, Admission::Fault),
     ];
     for (fault, used, quota, said) in cases {
-        same(&rt, &admit(Door { fault, used }, quota), &said);
+        assert!(rt;
+            admit(Door { fault, used }, quota) == said,
+            "{used} of {quota}"
+        );
     }
 }
 
@@ -56,7 +58,9 @@ fn gates_that_are_claimed_and_freed(rt: HostRuntime) {
     ];
     for (from, claimed, freed) in cases {
         assert!(rt; from.is_in_range());
-        same(&rt, &(claim(from), free(from)), &(claimed, freed));
+        let Gate { taken, pins, seq } = from;
+        let is_so = claim(from) == claimed && free(from) == freed;
+        assert!(rt; is_so, "taken {taken}, {pins} pins, number {seq}");
     }
 }
 
@@ -76,9 +80,17 @@ fn gates_that_are_pinned_and_unpinned(rt: HostRuntime) {
     ];
     for (from, seq, pinned) in cases {
         assert!(rt; from.is_in_range());
-        same(&rt, &pin(from, seq), &pinned);
+        let Gate {
+            taken,
+            pins,
+            seq: own,
+        } = from;
+        assert!(rt;
+            pin(from, seq) == pinned,
+            "taken {taken}, {pins} pins, {seq} of {own}"
+        );
         if let Some(next) = pin(from, seq) {
-            same(&rt, &unpin(next), &from);
+            assert!(rt; unpin(next) == from, "back to {pins} pins");
         }
     }
 }

@@ -22,7 +22,7 @@ use std::rt::Files;
 use std::test::Fail;
 
 /// What a program gave: its exit status, and what it wrote to its two outputs.
-#[derive(Debug, Drop)]
+#[derive(Drop)]
 struct Played {
     status: u8,
     out: String,
@@ -61,7 +61,8 @@ impl Played {
     /// The program gave just this. `what` says what was played.
     fn is<R: Abort>(&self, rt: &R, what: &str, status: u8, out: &str, err: &str) {
         let is_so = self.status == status && self.out.as_str() == out && self.err.as_str() == err;
-        assert!(rt; is_so, "{what}: {self:?}");
+        let (ended, printed, said) = (self.status, self.out.as_str(), self.err.as_str());
+        assert!(rt; is_so, "{what}: status {ended}, {printed}, {said}");
     }
 }
 
@@ -102,7 +103,11 @@ fn command_lines_without_a_schedule(rt: HostRuntime) -> Result<(), Fail> {
         let played = Played::of_arg(&rt, arg)?;
         let is_told = played.out.is_empty() == (status != 0)
             && played.err.is_empty() == (status == 0);
-        assert!(rt; played.status == status && is_told, "{arg}: {played:?}");
+        assert!(rt;
+            played.status == status && is_told,
+            "{arg}: {}",
+            played.status
+        );
     }
     Ok(())
 }

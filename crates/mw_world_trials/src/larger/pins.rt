@@ -1,12 +1,12 @@
 //! Computes what a request holds at its point (program counter): its pins, and the words that it will release or
 //! clean.
 //!
-//! Used by: `larger/clauses`. It may change freely as long as this crate checks and
-//! its tests pass.
+//! Used by: `larger/clauses/changes`, `larger/clauses/slots`, `larger/clauses/words`. It may change freely as long as
+//! this crate checks and its tests pass.
 
 use crate::larger::seen::{Seen, WorkerState};
 use mw_actor::{Actor, After, Point, Slot, Sweep, Task};
-use mw_look::{Look, Point as ReadPoint, Trail};
+use mw_look::{Point as ReadPoint, Trail};
 use mw_words::MAX_ENTRIES;
 
 /// Gives how many pins of a slot a request holds. It has written its own change into a slot, or gives up with it, or

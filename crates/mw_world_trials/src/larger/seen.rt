@@ -1,8 +1,7 @@
 //! Keeps what can be seen of a world between two events.
 //!
-//! Used by: `larger/clauses`, `larger/clauses/changes`, `larger/clauses/counts`, `larger/clauses/files`,
-//! `larger/clauses/references`, `larger/clauses/words`, `larger/past`, other modules. It may change freely as long
-//! as this crate checks and its tests pass.
+//! Used by: `larger/clauses` and its modules, `larger/past`, `larger/pins`, `larger/planted_faults`, `larger/tests`,
+//! `run`. It may change freely as long as this crate checks and its tests pass.
 ghost use Rattle.std.specs.Prelude.{◌<◌, ◌≤◌, length};
 
 use crate::larger::past::Past;
@@ -98,21 +97,22 @@ impl Seen {
         self.words.clear();
         self.doors.clear();
         self.data.clear();
-        for tenant in 0..world.config().tenants.len() {
-            let tenant = tenant as u8;
-            match Door::unpack(world.word(At::Door(tenant))) {
-                Some(door) => self.doors.push(door)?,
-                None => self.is_junk = true,
+        for tenant in 0..MAX_TENANTS {
+            if tenant < world.config().tenants.len() {
+                self.look_at_tenant(world, tenant as u8)?;
             }
-            self.look_at_data(world, tenant)?;
         }
         self.look_at_slots(world)?;
         self.look_at_workers(world)
     }
 
-    fn look_at_data(&mut self, world: &World, tenant: u8) -> Result<(), AllocError>
+    fn look_at_tenant(&mut self, world: &World, tenant: u8) -> Result<(), AllocError>
         requires { tenant < length world.now.config.tenants.items }
     {
+        match Door::unpack(world.word(At::Door(tenant))) {
+            Some(door) => self.doors.push(door)?,
+            None => self.is_junk = true,
+        }
         let words = world.config().tenants[usize::from(tenant)].words;
         self.words.push(words)?;
         for address in 0..words {
