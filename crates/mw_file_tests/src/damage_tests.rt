@@ -365,9 +365,9 @@ fn is_told<R: Abort + AllocGlobal>(rt: &R, row: Row) {
     let mut bytes = bytes_of(rt, start);
     set_bytes(&mut bytes, changes);
     bytes.truncate(kept);
-    same(rt, name, 2, &bytes.len(), &kept);
-    let found = [told(&bytes), told_by_opening(rt, name, &bytes)];
-    same(rt, name, 3, &found, &[number, number]);
+    holds(rt, name, kept as u64, bytes.len() == kept);
+    same(rt, name, 2, &told(&bytes), &number);
+    same(rt, name, 3, &told_by_opening(rt, name, &bytes), &number);
 }
 
 #[test]
@@ -378,8 +378,14 @@ fn damages_are_told(rt: HostRuntime) {
     for row in SECOND {
         is_told(&rt, row);
     }
-    let numbers = [Damage::Record.number(), Damage::Overlap.number()];
-    same(&rt, "numbers of damages", 0, &numbers, &[4, 5]);
+    same(&rt, "a damaged record", 0, &Damage::Record.number(), &4);
+    same(
+        &rt,
+        "records that overlap",
+        0,
+        &Damage::Overlap.number(),
+        &5,
+    );
 }
 
 /// Makes a file in the first layout with the home words 5 and 0, and one open record, which makes the

@@ -22,7 +22,7 @@ struct File {
     calls: u8,
     words: &'static [u64],
     /// How many places the opened file has.
-    places: u16,
+    places: u64,
     /// Whether a crash during the opening of what a crash in a first opening left is looked at too.
     crashes_twice: bool,
 }
@@ -116,7 +116,7 @@ const TWO_RECORDS: [(usize, u8); 4] = [(384, 0), (385, 1), (648, 0xa5), (649, 2)
 /// Makes a file of three words whose first record is prepared, and whose second one is sealed.
 fn two_records<R: Abort + AllocGlobal>(rt: &R) -> Vec<u8> {
     let left = left(rt, &with_two_records(rt), WRITTEN);
-    same(rt, "the length", 0, &left.len(), &1440);
+    same(rt, "the length", 0, &(left.len() as u64), &1440);
     for (at, byte) in TWO_RECORDS {
         let is_right = left.get(at) == Some(&byte);
         holds(rt, "two records", at as u64, is_right);
@@ -127,7 +127,7 @@ fn two_records<R: Abort + AllocGlobal>(rt: &R) -> Vec<u8> {
 /// Makes a new file of three words and two places, without its second layout.
 fn first_of_three<R: Abort + AllocGlobal>(rt: &R) -> Vec<u8> {
     let bytes = new_bytes(rt, 3, 2);
-    same(rt, "a new file's length", 0, &bytes.len(), &328);
+    same(rt, "a new file's length", 0, &(bytes.len() as u64), &328);
     bytes
 }
 
@@ -278,7 +278,7 @@ fn keeps_words_in_each<R: Abort + AllocGlobal>(rt: &R, file: &File, image: &[u8]
 /// An opened file has so many places, and one of them is free.
 fn has_places<R: Abort + AllocGlobal>(rt: &R, file: &File, image: &[u8]) {
     let opened = opened(rt, disk_with(rt, image));
-    same(rt, file.name, 0, &opened.places(), &file.places);
+    same(rt, file.name, 0, &u64::from(opened.places()), &file.places);
     holds(rt, file.name, 0, opened.has_place());
 }
 

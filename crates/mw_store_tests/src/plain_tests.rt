@@ -81,22 +81,13 @@ fn store_of(
     Plain::new(alloc, &lines, files, u16::from(quota) + 1)
 }
 
-/// Makes the store of two tenants, t and u, over these disks, each with a quota of one.
-fn store(alloc: Global, first: MemDisk, second: MemDisk) -> Result<Plain<MemDisk>, AllocError>
-    ensures count { IfOk result (λ plain. tenants plain ≡ 2) }
-    ensures first { IfOk result (λ plain. words_at plain 0 ≡ 2) }
-    ensures second { IfOk result (λ plain. words_at plain 1 ≡ 2) }
-{
-    store_of(alloc, 1, first, second)
-}
-
-/// Makes the store of two tenants, t and u, over new disks.
+/// Makes the store of two tenants, t and u, over new disks, each with a quota of one.
 fn new_store<R: Abort + AllocGlobal>(rt: &R) -> Plain<MemDisk>
     ensures count { tenants result ≡ 2 }
     ensures first { words_at result 0 ≡ 2 }
     ensures second { words_at result 1 ≡ 2 }
 {
-    store(rt.alloc(), new_disk(rt), new_disk(rt)).expect(rt, MEMORY)
+    store_of(rt.alloc(), 1, new_disk(rt), new_disk(rt)).expect(rt, MEMORY)
 }
 
 /// Makes the change of one word from 0 to 1.
@@ -177,28 +168,17 @@ fn two_at_a_time(store: &mut Plain<MemDisk>) -> [Option<Reply>; 5]
     [busy, Some(made), Some(next), Some(other), None]
 }
 
-/// The replies to two tenants' changes, their words then, and whether both slots are free again.
-type Told = ([Option<Reply>; 5], [Option<Reply>; 4], bool);
-
-fn told_of_tickets<R: Abort + AllocGlobal>(rt: &R) -> Told {
-    let mut store = new_store(rt);
-    let replies = two_at_a_time(&mut store);
-    let words = words(&mut store);
-    (replies, words, store.figures().pool_free == 2)
-}
-
 #[test]
 fn tickets(rt: HostRuntime) {
+    let mut store = new_store(&rt);
+    let replies = two_at_a_time(&mut store);
+    let found = (replies, words(&mut store));
     let yes = Some(Reply::Yes);
     let replies = [Some(Reply::Busy), yes, yes, yes, None];
     let words = [val(1), val(1), val(1), val(0)];
-    same(
-        &rt,
-        "tickets",
-        0,
-        &told_of_tickets(&rt),
-        &(replies, words, true),
-    );
+    same(&rt, "tickets", 0, &found, &(replies, words));
+    let free = u64::from(store.figures().pool_free);
+    same(&rt, "free slots", 0, &free, &2);
 }
 
 /// Gives what the store finds by a name: the tenant's number, and how many words it has.
@@ -248,14 +228,6 @@ fn tasks_in_order(rt: HostRuntime) {
 /// second layout.
 const OPENING_CALLS: u64 = 7;
 
-/// Makes a new disk that fails so many calls after the opening.
-fn failing_disk<R: Abort + AllocGlobal>(rt: &R, calls: u8) -> MemDisk {
-    let mut disk = new_disk(rt);
-    disk.fail_next(OPENING_CALLS + u64::from(calls) + 1)
-        .expect(rt, MEMORY);
-    disk
-}
-
 /// Gives what a crash leaves of the first of these disks, if there is one.
 fn left_of_first<R: Abort + AllocGlobal>(rt: &R, disks: &[Option<MemDisk>]) -> Vec<u8> {
     match disks.first() {
@@ -267,8 +239,11 @@ fn left_of_first<R: Abort + AllocGlobal>(rt: &R, disks: &[Option<MemDisk>]) -> V
 /// Gives the reply to t's change if its device fails so many calls after the opening, and what a crash then
 /// leaves of its disk.
 fn crash_in_trouble<R: Abort + AllocGlobal>(rt: &R, calls: u8) -> (Option<Reply>, Vec<u8>) {
-    let failing = failing_disk(rt, calls);
-    let mut first = store(rt.alloc(), failing, new_disk(rt)).expect(rt, MEMORY);
+    let mut failing = new_disk(rt);
+    failing
+        .fail_next(OPENING_CALLS + u64::from(calls) + 1)
+        .expect(rt, MEMORY);
+    let mut first = store_of(rt.alloc(), 1, failing, new_disk(rt)).expect(rt, MEMORY);
     let reply = ask(&mut first, 0, &change(1));
     let disks = first.into_disks();
     (reply, left_of_first(rt, &disks))
@@ -277,7 +252,7 @@ fn crash_in_trouble<R: Abort + AllocGlobal>(rt: &R, calls: u8) -> (Option<Reply>
 /// Gives the words of t, whose disk has these bytes, and of u, whose disk is new.
 fn words_of_opened<R: Abort + AllocGlobal>(rt: &R, bytes: Vec<u8>) -> [Option<Reply>; 4] {
     let left = disk_with(rt, bytes);
-    let mut second = store(rt.alloc(), left, new_disk(rt)).expect(rt, MEMORY);
+    let mut second = store_of(rt.alloc(), 1, left, new_disk(rt)).expect(rt, MEMORY);
     words(&mut second)
 }
 
