@@ -88,7 +88,7 @@ impl Case {
 
     /// Gives the words that a crash may leave, at least and at most, if so many device calls were begun and so many of
     /// them went well.
-    fn may(self, begun: u8, well: u8) -> [Words; 2] {
+    fn may(self, begun: u8, well: u8) -> (Words, Words) {
         let (before, after) = (self.words_with(b"s"), self.words_with(b"sc"));
         let records = self.count(b'a');
         let least = if well >= records.saturating_add(2) {
@@ -97,7 +97,7 @@ impl Case {
             before
         };
         let most = if begun > records { after } else { before };
-        [least, most]
+        (least, most)
     }
 }
 
@@ -204,10 +204,10 @@ fn torn_after<R: Abort + AllocGlobal>(
     new: &Left,
 ) -> u64 {
     if new.written == new.ones {
-        let [least, most] = case.may(calls.saturating_sub(1), calls.saturating_sub(1));
+        let (least, most) = case.may(calls.saturating_sub(1), calls.saturating_sub(1));
         torn_anywhere(rt, case.name, &old.ones, &old.written, &[&least, &most])
     } else {
-        let [least, most] = case.may(calls, calls);
+        let (least, most) = case.may(calls, calls);
         torn_anywhere(rt, case.name, &old.written, &new.written, &[&least, &most])
     }
 }
@@ -234,7 +234,7 @@ fn fails_at<R: Abort + AllocGlobal>(rt: &R, case: Case, calls: u8) {
     let at = u64::from(calls);
     same(rt, case.name, at, &answers, &[disk, failed, failed]);
     same(rt, case.name, at, &faults(rt, &file), &1);
-    let [least, most] = case.may(calls.saturating_add(1), calls);
+    let (least, most) = case.may(calls.saturating_add(1), calls);
     for torn in TORN {
         let is_right = opens_with(rt, &left(rt, &file, torn), &[&least, &most]);
         holds(rt, case.name, at, is_right);
@@ -284,7 +284,7 @@ fn cut_off_in_each<R: Abort + AllocGlobal>(rt: &R, name: &str, image: &[u8], wor
 /// opens with the words that the first crash left. Gives after how many device calls the opening went well.
 fn cut_off_twice<R: Abort + AllocGlobal>(rt: &R, case: Case, calls: u8) -> u8 {
     let image = left_after(rt, case, calls, SET_FIRST);
-    let [least, most] = case.may(calls, calls);
+    let (least, most) = case.may(calls, calls);
     let words = if opens_with(rt, &image, &[&least]) {
         least
     } else {

@@ -19,10 +19,31 @@ fn run<S: Service, R: Wait + AllocGlobal>(
     script: &Script<'_>,
 ) -> Option<usize> {
     let heard = Mutex::new(Heard::new());
-    let mut guest = Guest::new(script, &heard);
-    guest.serve(rt, rt.alloc(), service, &NoOthers);
+    serve_guest(rt, service, script, script.says, script.told, &heard);
     let heard = *heard.lock(rt);
     heard.is(script.told, script.ends).then_some(heard.calls)
+}
+
+/// Runs a session with a client that says this and takes that, else as this script has it. What happens is heard there.
+fn serve_guest<'a, S: Service, R: Wait + AllocGlobal>(
+    rt: &R,
+    service: &mut S,
+    script: &Script<'_>,
+    says: &'a [u8],
+    told: &'a [u8],
+    heard: &'a Mutex<Heard>,
+) {
+    let own = Script {
+        says,
+        told,
+        piece: script.piece,
+        then: script.then,
+        bite: script.bite,
+        full: script.full,
+        ends: script.ends,
+    };
+    let mut guest = Guest::new(&own, heard);
+    guest.serve(rt, rt.alloc(), service, &NoOthers);
 }
 
 /// Tells whether a session with this client, over these words, goes as its script says.
