@@ -211,7 +211,14 @@ where
         + Sync
         + SeesPaths,
 {
-    let port = wait_for(rt, &told.ready, 1)?;
+    let port = match wait_for(rt, &told.ready, 1) {
+        Ok(port) => port,
+        Err(error) => {
+            let title = scene.title;
+            let told = format!(in rt.alloc(); "{title}: no server is ready: {error:?}")?;
+            return Err(Fail::new(told));
+        }
+    };
     let mut stage = Stage::new(scene, told);
     stage.port = format!(in rt.alloc(); "{port}")?;
     let played = play_lines(rt, &mut stage, lines);
