@@ -57,7 +57,8 @@ where
         + Wait
         + Clock
         + Sync
-        + SeesPaths,
+        + SeesPaths
+        + Stagehand,
 {
     for story in stories {
         match story.lines.split_once("\nfor each of\n") {
@@ -84,7 +85,8 @@ where
         + Wait
         + Clock
         + Sync
-        + SeesPaths,
+        + SeesPaths
+        + Stagehand,
 {
     for case in cases.split('\n') {
         let title = format!(in rt.alloc(); "{name}, {case}")?;
@@ -131,7 +133,8 @@ where
         + Wait
         + Clock
         + Sync
-        + SeesPaths,
+        + SeesPaths
+        + Stagehand,
 {
     let folder = new_folder(host, name)?;
     let scene = Scene {
@@ -163,7 +166,8 @@ where
         + Wait
         + Clock
         + Sync
-        + SeesPaths,
+        + SeesPaths
+        + Stagehand,
 {
     let (meanwhile, after) = rest.split_once("\nstop\n").unwrap_or((rest, ""));
     let (options, lines) = meanwhile.split_once('\n').unwrap_or((meanwhile, ""));
@@ -173,34 +177,26 @@ where
     let told = Told::new();
     let (served, played) = thread::join(
         rt,
-        || serve_telling(rt, &args, &told),
-        || play_beside(rt, scene, &told, lines),
+        || rt.serve_telling(&args, &told),
+        || rt.play_beside(scene, &told, lines),
     );
     played?;
     stage.ran = served?;
     play_lines(rt, stage, after)
 }
 
-/// Runs `mwserve`, which tells its ports and its notes here.
-fn serve_telling<R>(rt: &R, args: &[String], told: &Told) -> io::Result<Outcome>
-where
-    R: Files<File = File>
-        + AllocGlobal
-        + Net<Listener = TcpListener, Stream = TcpStream>
-        + Threads
-        + Wait
-        + Clock
-        + Sync
-        + SeesPaths,
-{
-    let out = Output::new(rt.alloc(), usize::MAX, Watch::Ports(told));
-    let err = Output::new(rt.alloc(), usize::MAX, Watch::Lines(told));
-    run_to(rt, args, out, err)
+/// What two threads do, one of which serves. A thread can use it that was started by code over any runtime; the bounds of
+/// [`play_lines`] it can't, because of the types that come with them.
+pub(crate) trait Stagehand {
+    /// Runs `mwserve`, which tells its ports and its notes here.
+    fn serve_telling(&self, args: &[String], told: &Told) -> io::Result<Outcome>;
+
+    /// Plays lines beside a server that tells its ports here, once it is ready. Whatever comes of them, the server gets
+    /// its connections.
+    fn play_beside(&self, scene: Scene<'_>, told: &Told, lines: &str) -> Result<(), Fail>;
 }
 
-/// Plays lines beside a server that tells its ports here, once it is ready. Whatever comes of them, the server gets its
-/// connections.
-fn play_beside<R>(rt: &R, scene: Scene<'_>, told: &Told, lines: &str) -> Result<(), Fail>
+impl<R> Stagehand for R
 where
     R: Files<File = File>
         + AllocGlobal
@@ -211,19 +207,27 @@ where
         + Sync
         + SeesPaths,
 {
-    let port = match wait_for(rt, &told.ready, 1) {
-        Ok(port) => port,
-        Err(error) => {
-            let title = scene.title;
-            let told = format!(in rt.alloc(); "{title}: no server is ready: {error:?}")?;
-            return Err(Fail::new(told));
-        }
-    };
-    let mut stage = Stage::new(scene, told);
-    stage.port = format!(in rt.alloc(); "{port}")?;
-    let played = play_lines(rt, &mut stage, lines);
-    come_and_go(rt, port, CONNECTIONS);
-    played
+    fn serve_telling(&self, args: &[String], told: &Told) -> io::Result<Outcome> {
+        let out = Output::new(self.alloc(), usize::MAX, Watch::Ports(told));
+        let err = Output::new(self.alloc(), usize::MAX, Watch::Lines(told));
+        run_to(self, args, out, err)
+    }
+
+    fn play_beside(&self, scene: Scene<'_>, told: &Told, lines: &str) -> Result<(), Fail> {
+        let port = match wait_for(self, &told.ready, 1) {
+            Ok(port) => poself,
+            Err(error) => {
+                let title = scene.title;
+                let told = format!(in rt.alloc(); "{title}: no server is ready: {error:?}")?;
+                return Err(Fail::new(told));
+            }
+        };
+        let mut stage = Stage::new(scene, told);
+        stage.port = format!(in rt.alloc(); "{port}")?;
+        let played = play_lines(self, &mut stage, lines);
+        come_and_go(self, poself, CONNECTIONS);
+        played
+    }
 }
 
 /// Plays lines, none of which is `meanwhile`.

@@ -2,10 +2,11 @@
 //!
 //! Nothing else uses it: it may change with what it tests.
 use crate::calls::change;
-use crate::files::{disk_with, new_bytes, opened};
+use crate::files::{disk_with, new_bytes};
 use crate::same::{MEMORY, same};
 use mw_book::{Book, Filed, Waiting};
 use mw_disk::MemDisk;
+use mw_file::TenantFile;
 use mw_look::Call;
 use mw_words::is_change;
 use std::process::Abort;
@@ -88,15 +89,20 @@ fn waiting_of<R: Abort + AllocGlobal>(rt: &R, row: Row) -> Vec<Waiting> {
     waiting
 }
 
-/// Makes the book of a row's file. Gives `None` if the file has fewer places than are used.
+/// Makes the book of a row's file. Gives `None` if the file doesn't open, or has fewer places than are used.
 fn book_of<R: Abort + AllocGlobal>(rt: &R, row: Row) -> Option<Book<MemDisk>> {
     let mut disk = disk_with(rt, &new_bytes(rt, 2, 3));
     disk.fail_next(row.fails).expect(rt, MEMORY);
-    let file = opened(rt, disk);
-    if file.places() >= row.places {
-        Some(Book::new(file, row.places))
-    } else {
-        None
+    match TenantFile::open(rt.alloc(), disk) {
+        Ok(opened) => {
+            let (file, _) = opened;
+            if file.places() >= row.places {
+                Some(Book::new(file, row.places))
+            } else {
+                None
+            }
+        }
+        Err(_) => None,
     }
 }
 

@@ -192,26 +192,25 @@ fn replies_of(alloc: Global, world: &World) -> Result<Vec<Reply>, Fault>
     Ok(replies)
 }
 
-/// Runs the events of the schedule in a new world. Gives the world, and what a store alone replies.
-fn left_by_late_plant(alloc: Global) -> Result<(World, Vec<Reply>), Fault> {
+/// Runs the events of the schedule in a new world. Gives how many attempts each worker has made, and what a store
+/// alone replies.
+fn left_by_late_plant(alloc: Global) -> Result<(u64, u64, u64, Vec<Reply>), Fault> {
     let events = late_plant(alloc)?;
     let mut world = World::new(alloc, world_of_three())?;
     if let Err((_, fault)) = world.run(&events) {
         return Err(Fault::from(fault));
     }
+    let (first, second, third) = (world.attempt(0), world.attempt(1), world.attempt(2));
     let replies = replies_of(alloc, &world)?;
-    Ok((world, replies))
+    Ok((first, second, third, replies))
 }
 
 #[test]
 fn late_finisher(rt: HostRuntime) {
     match left_by_late_plant(rt.alloc()) {
-        Ok((world, replies)) => {
+        Ok((first, second, third, replies)) => {
             let wanted = [Reply::Yes, Reply::Yes, Reply::No(0, 1), Reply::Val(0)];
-            assert!(rt;
-                (world.attempt(0), world.attempt(1), world.attempt(2)) == (2, 1, 1),
-                "attempts"
-            );
+            assert!(rt; (first, second, third) == (2, 1, 1), "attempts");
             assert!(rt; replies.as_slice() == wanted.as_slice(), "replies");
         }
         Err(fault) => {
