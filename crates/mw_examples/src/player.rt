@@ -215,17 +215,17 @@ where
 
     fn play_beside(&self, scene: Scene<'_>, told: &Told, lines: &str) -> Result<(), Fail> {
         let port = match wait_for(self, &told.ready, 1) {
-            Ok(port) => poself,
+            Ok(port) => port,
             Err(error) => {
                 let title = scene.title;
-                let told = format!(in rt.alloc(); "{title}: no server is ready: {error:?}")?;
+                let told = format!(in self.alloc(); "{title}: no server is ready: {error:?}")?;
                 return Err(Fail::new(told));
             }
         };
         let mut stage = Stage::new(scene, told);
-        stage.port = format!(in rt.alloc(); "{port}")?;
+        stage.port = format!(in self.alloc(); "{port}")?;
         let played = play_lines(self, &mut stage, lines);
-        come_and_go(self, poself, CONNECTIONS);
+        come_and_go(self, port, CONNECTIONS);
         played
     }
 }
