@@ -2,4 +2,4 @@ pub mod NewPassesOfWorlds
 pub mod ReadsMayCome
 pub mod ReadsStayReads
 pub mod GetsMayCome
-pub mod Worlds
+pub mod MadeWorlds

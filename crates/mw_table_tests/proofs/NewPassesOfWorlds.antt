@@ -16,7 +16,7 @@ use Rattle.mw_simulator.specs.declared.world.World.{World}
 use Rattle.mw_simulator.specs.Events.{IsAfterEvent}
 use Rattle.mw_simulator.specs.Representation.{Represents}
 use Rattle.mw_table_tests.specs.Worlds.{basis_of_world}
-use Rattle.mw_table_tests.proofs.Worlds.{worker_states_same}
+use Rattle.mw_table_tests.proofs.MadeWorlds.{worker_states_same}
 use Rattle.mw_table_tests.specs.Reached.{IsReached}
 
 -- a run goes on by an event, or ends where it was

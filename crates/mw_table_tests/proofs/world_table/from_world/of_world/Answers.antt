@@ -7,7 +7,7 @@ use Rattle.mw_rule.specs.Rule.{BitsMatch}
 use Rattle.mw_simulator.specs.FromMemory.{worker_state_of}
 use Rattle.mw_table.specs.Runs.{AreAfterRun, LastStart, last_start, worker_state_so_far}
 use Rattle.mw_table_tests.specs.Worlds.{actor_of, last_start_of}
-use Rattle.mw_table_tests.proofs.Worlds.{actors_are, after_run}
+use Rattle.mw_table_tests.proofs.MadeWorlds.{actors_are, after_run}
 use Rattle.mw_table_tests.proofs.world_table.from_world.of_world.Goals as goal
 
 pub of_run-requires-clause-run : goal.of_run-requires-clause-run
