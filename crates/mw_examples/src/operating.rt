@@ -6,7 +6,7 @@ use crate::player::{Story, play};
 use std::test::Fail;
 
 /// Command lines, and what is told.
-static LINES: [Story; 12] = [
+static LINES: [Story; 11] = [
     Story {
         name: "version",
         lines: "\
@@ -204,22 +204,6 @@ new s
 absent a
 mwserve --tenants DIR/tenants --listen unix:DIR/s --http unix:DIR/h
 gives 1 http unix:DIR/h;|mwserve: cannot listen;",
-    },
-    // The server is told to listen where somebody else does, for clients or for the administrator.
-    Story {
-        name: "a-port-that-is-taken",
-        lines: "\
-mwinit DIR/u.mw 2 1
-write tenants u 2 1 DIR/u.mw;
-meanwhile --listen 127.0.0.1:0 --connections 1
-mwinit DIR/t.mw 2 1
-write tenants t 2 1 DIR/t.mw;
-mwserve --tenants DIR/tenants --verbose --connections 1 --listen 127.0.0.1:<PORT>
-gives 1 |mwserve: cannot listen;127.0.0.1:<PORT>: Address already in use (os error 98);
-mwserve --tenants DIR/tenants --verbose --connections 1 --listen 127.0.0.1:0 --admin 127.0.0.1:<PORT>
-gives 1 |mwserve: cannot listen;127.0.0.1:<PORT>: Address already in use (os error 98);
-stop
-ends 0|",
     },
 ];
 

@@ -23,6 +23,7 @@ use crate::outputs::{LockWatch, Output, Watch};
 use crate::stage::{Outcome, Scene, Stage};
 use mw_init::init;
 use mw_programs::{SeesPaths, serve};
+use std::alloc::Global;
 use std::fs::{self, File};
 use std::net::{Net, TcpListener, TcpStream};
 use std::rt::Files;
@@ -30,7 +31,7 @@ use std::sync::Wait;
 use std::test::Fail;
 use std::thread::Threads;
 use std::time::Clock;
-use std::{env, io, process, thread};
+use std::{env, io, process};
 
 /// The most connections that a server takes which ends after some.
 const CONNECTIONS: usize = 3;
@@ -57,8 +58,7 @@ where
         + Wait
         + Clock
         + Sync
-        + SeesPaths
-        + Stagehand,
+        + SeesPaths,
 {
     for story in stories {
         match story.lines.split_once("\nfor each of\n") {
@@ -85,8 +85,7 @@ where
         + Wait
         + Clock
         + Sync
-        + SeesPaths
-        + Stagehand,
+        + SeesPaths,
 {
     for case in cases.split('\n') {
         let title = format!(in rt.alloc(); "{name}, {case}")?;
@@ -133,8 +132,7 @@ where
         + Wait
         + Clock
         + Sync
-        + SeesPaths
-        + Stagehand,
+        + SeesPaths,
 {
     let folder = new_folder(host, name)?;
     let scene = Scene {
@@ -145,58 +143,42 @@ where
     };
     let told = Told::new();
     let mut stage = Stage::new(scene, &told);
-    match lines.split_once("\nmeanwhile ") {
-        Some((before, rest)) => {
-            play_lines(rt, &mut stage, before)?;
-            play_around(rt, &mut stage, rest)?;
-        }
-        None => play_lines(rt, &mut stage, lines)?,
-    }
+    play_lines(rt, &mut stage, lines)?;
     fs::remove_dir_all(rt, folder.as_str())?;
     Ok(())
 }
 
-/// Plays what is done beside a server, and what is done after it has ended.
-fn play_around<R>(rt: &R, stage: &mut Stage<'_>, rest: &str) -> Result<(), Fail>
-where
-    R: Files<File = File>
-        + AllocGlobal
-        + Net<Listener = TcpListener, Stream = TcpStream>
-        + Threads
-        + Wait
-        + Clock
-        + Sync
-        + SeesPaths
-        + Stagehand,
-{
+/// A story with a server: what is done before it, its options, what is done beside it, and what after it has ended.
+struct Parts<'a> {
+    before: &'a str,
+    options: &'a str,
+    beside: &'a str,
+    after: &'a str,
+}
+
+/// Splits the lines of a story with a server.
+fn parts_of(lines: &str) -> Parts<'_> {
+    let (before, rest) = lines.split_once("\nmeanwhile ").unwrap_or((lines, ""));
     let (meanwhile, after) = rest.split_once("\nstop\n").unwrap_or((rest, ""));
-    let (options, lines) = meanwhile.split_once('\n').unwrap_or((meanwhile, ""));
-    let line = format!(in rt.alloc(); "mwserve --tenants DIR/tenants {options}")?;
-    let args = stage.command_line(line.as_str())?;
-    let scene = stage.scene;
-    let told = Told::new();
-    let (served, played) = thread::join(
-        rt,
-        || rt.serve_telling(&args, &told),
-        || rt.play_beside(scene, &told, lines),
-    );
-    played?;
-    stage.ran = served?;
-    play_lines(rt, stage, after)
+    let (options, beside) = meanwhile.split_once('\n').unwrap_or((meanwhile, ""));
+    Parts {
+        before,
+        options,
+        beside,
+        after,
+    }
 }
 
-/// What two threads do, one of which serves. A thread can use it that was started by code over any runtime; the bounds of
-/// [`play_lines`] it can't, because of the types that come with them.
-pub(crate) trait Stagehand {
-    /// Runs `mwserve`, which tells its ports and its notes here.
-    fn serve_telling(&self, args: &[String], told: &Told) -> io::Result<Outcome>;
-
-    /// Plays lines beside a server that tells its ports here, once it is ready. Whatever comes of them, the server gets
-    /// its connections.
-    fn play_beside(&self, scene: Scene<'_>, told: &Told, lines: &str) -> Result<(), Fail>;
+/// A story whose server has not begun.
+#[derive(Drop)]
+pub(crate) struct Begun {
+    pub(crate) folder: String,
+    /// The server's command line.
+    pub(crate) args: Vec<String>,
 }
 
-impl<R> Stagehand for R
+/// Plays a story with a server in a new folder, up to the server.
+pub(crate) fn begin<R>(rt: &R, host: &HostRuntime, story: &Story) -> Result<Begun, Fail>
 where
     R: Files<File = File>
         + AllocGlobal
@@ -207,27 +189,127 @@ where
         + Sync
         + SeesPaths,
 {
-    fn serve_telling(&self, args: &[String], told: &Told) -> io::Result<Outcome> {
-        let out = Output::new(self.alloc(), usize::MAX, Watch::Ports(told));
-        let err = Output::new(self.alloc(), usize::MAX, Watch::Lines(told));
-        run_to(self, args, out, err)
-    }
+    let folder = new_folder(host, story.name)?;
+    let args = play_before(rt, host, story, folder.as_str())?;
+    Ok(Begun { folder, args })
+}
 
-    fn play_beside(&self, scene: Scene<'_>, told: &Told, lines: &str) -> Result<(), Fail> {
-        let port = match wait_for(self, &told.ready, 1) {
-            Ok(port) => port,
-            Err(error) => {
-                let title = scene.title;
-                let told = format!(in self.alloc(); "{title}: no server is ready: {error:?}")?;
-                return Err(Fail::new(told));
-            }
-        };
-        let mut stage = Stage::new(scene, told);
-        stage.port = format!(in self.alloc(); "{port}")?;
-        let played = play_lines(self, &mut stage, lines);
-        come_and_go(self, port, CONNECTIONS);
-        played
+/// Plays what is done before the server. Gives its command line.
+fn play_before<R>(
+    rt: &R,
+    host: &HostRuntime,
+    story: &Story,
+    folder: &str,
+) -> Result<Vec<String>, Fail>
+where
+    R: Files<File = File>
+        + AllocGlobal
+        + Net<Listener = TcpListener, Stream = TcpStream>
+        + Threads
+        + Wait
+        + Clock
+        + Sync
+        + SeesPaths,
+{
+    let parts = parts_of(story.lines);
+    let told = Told::new();
+    let mut stage = Stage::new(scene_of(rt.alloc(), host, story.name, folder), &told);
+    play_lines(rt, &mut stage, parts.before)?;
+    let options = parts.options;
+    let line = format!(in rt.alloc(); "mwserve --tenants DIR/tenants {options}")?;
+    Ok(stage.command_line(line.as_str())?)
+}
+
+/// Plays what is done after the server has ended, which gave this, and removes the folder.
+pub(crate) fn end<R>(
+    rt: &R,
+    host: &HostRuntime,
+    story: &Story,
+    folder: &str,
+    served: Outcome,
+) -> Result<(), Fail>
+where
+    R: Files<File = File>
+        + AllocGlobal
+        + Net<Listener = TcpListener, Stream = TcpStream>
+        + Threads
+        + Wait
+        + Clock
+        + Sync
+        + SeesPaths,
+{
+    let told = Told::new();
+    let mut stage = Stage::new(scene_of(rt.alloc(), host, story.name, folder), &told);
+    stage.ran = served;
+    play_lines(rt, &mut stage, parts_of(story.lines).after)?;
+    fs::remove_dir_all(rt, folder)?;
+    Ok(())
+}
+
+/// The scene of a story in this folder.
+fn scene_of<'a>(
+    alloc: Global,
+    host: &'a HostRuntime,
+    title: &'a str,
+    folder: &'a str,
+) -> Scene<'a> {
+    Scene {
+        alloc,
+        host,
+        title,
+        folder,
     }
+}
+
+/// Runs `mwserve`, which tells its ports and its notes here.
+pub(crate) fn serve_telling<R>(rt: &R, args: &[String], told: &Told) -> io::Result<Outcome>
+where
+    R: Files<File = File>
+        + AllocGlobal
+        + Net<Listener = TcpListener, Stream = TcpStream>
+        + Threads
+        + Wait
+        + Clock
+        + Sync
+        + SeesPaths,
+{
+    let out = Output::new(rt.alloc(), usize::MAX, Watch::Ports(told));
+    let err = Output::new(rt.alloc(), usize::MAX, Watch::Lines(told));
+    run_to(rt, args, out, err)
+}
+
+/// Plays lines beside a server that tells its ports here, once it is ready. Whatever comes of them, the server gets its
+/// connections.
+pub(crate) fn play_beside<R>(
+    rt: &R,
+    host: &HostRuntime,
+    story: &Story,
+    folder: &str,
+    told: &Told,
+) -> Result<(), Fail>
+where
+    R: Files<File = File>
+        + AllocGlobal
+        + Net<Listener = TcpListener, Stream = TcpStream>
+        + Threads
+        + Wait
+        + Clock
+        + Sync
+        + SeesPaths,
+{
+    let port = match wait_for(rt, &told.ready, 1) {
+        Ok(port) => port,
+        Err(error) => {
+            let title = story.name;
+            let told = format!(in rt.alloc(); "{title}: no server is ready: {error:?}")?;
+            return Err(Fail::new(told));
+        }
+    };
+    let mut stage = Stage::new(scene_of(rt.alloc(), host, story.name, folder), told);
+    stage.port = format!(in rt.alloc(); "{port}")?;
+    let played = play_lines(rt, &mut stage, parts_of(story.lines).beside);
+    come_and_go(rt, port, CONNECTIONS);
+    played
 }
 
 /// Plays lines, none of which is `meanwhile`.

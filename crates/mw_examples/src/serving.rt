@@ -2,27 +2,14 @@
 //! replaced, cut short or removed.
 //!
 //! Nothing else uses it: it may change with what it tests.
+use crate::clients::Told;
 use crate::faulty_runtime::FaultyRuntime;
-use crate::player::{Story, play};
+use crate::player::{Story, begin, end, play_beside, serve_telling};
 use std::test::Fail;
+use std::thread;
 
 /// Servers, and what is done beside them.
-static SERVERS: [Story; 7] = [
-    // `mwinit` has the new file locked when it says so, and `mwserve` a tenant's file when it answers.
-    Story {
-        name: "files-stay-locked",
-        lines: "\
-watch t.mw
-mwinit DIR/t.mw 2 1
-locked
-gives 0 made 184;|
-write tenants t 2 1 DIR/t.mw;
-write script TENANT t;CAS 0:0:1;
-watch t.mw
-serve
-locked
-gives 0 OK 2;YES;|",
-    },
+static SERVERS: [Story; 9] = [
     // The second client begins after the first has ended. The next session finds what they changed.
     Story {
         name: "two-clients",
@@ -151,9 +138,83 @@ ask 1 TENANT w;CAS 0:0:1;QUIT;|OK 2;YES;BYE;
 stop
 ends 0|tenant t: replaced;DIR/t.mw;tenant t: failed;DIR/t.mw: Stale file handle (os error 116);tenant u: replaced;DIR/u.mw;tenant v: replaced;DIR/v.mw;",
     },
+    // Each tenant whose file fails while it is served has one note, with its own path. The files of t and u have been
+    // opened once before they can't be written to. The next sessions find nothing of what was answered FAULT.
+    Story {
+        name: "faults-while-served",
+        lines: "\
+mwinit DIR/s.mw 2 1
+mwinit DIR/t.mw 2 1
+mwinit DIR/u.mw 2 1
+write tenants s 2 1 DIR/s.mw;t 2 1 DIR/t.mw;u 2 1 DIR/u.mw;
+write script ADMIN;
+serve
+gives 0 OK ADMIN;|
+rename t.mw t.read-only
+rename u.mw u.read-only
+write tenants s 2 1 DIR/s.mw;t 2 1 DIR/t.read-only;u 2 1 DIR/u.read-only;
+meanwhile --listen 127.0.0.1:0 --workers 1 --connections 3 --verbose
+alone TENANT t;CAS 0:0:1;CAS 0:0:1;QUIT;|OK 2;FAULT;FAULT;BYE;
+alone TENANT u;CAS 1:0:1;GET 0;QUIT;|OK 2;FAULT;FAULT;BYE;
+alone TENANT s;CAS 0:0:1;GET 0;QUIT;|OK 2;YES;VAL 1;BYE;
+stop
+ends 0|tenant t: failed;DIR/t.read-only: Bad file descriptor (os error 9);tenant u: failed;DIR/u.read-only: Bad file descriptor (os error 9);
+rename t.read-only t.mw
+rename u.read-only u.mw
+write tenants s 2 1 DIR/s.mw;t 2 1 DIR/t.mw;u 2 1 DIR/u.mw;
+write script TENANT t;GET 0;
+serve
+gives 0 OK 2;VAL 0;|
+write script TENANT u;GET 1;
+serve
+gives 0 OK 2;VAL 0;|
+write script TENANT s;GET 0;
+serve
+gives 0 OK 2;VAL 1;|",
+    },
+    // The system gives no connection at the administrator's address. The note comes once, and clients are served.
+    Story {
+        name: "no-room-for-the-administrator",
+        lines: "\
+mwinit DIR/t.mw 2 1
+write tenants t 2 1 DIR/t.mw;
+meanwhile --listen 127.0.0.1:0 --admin 127.0.0.2:0 --workers 1 --connections 1 --verbose
+wait 2
+alone TENANT t;GET 0;QUIT;|OK 2;VAL 0;BYE;
+stop
+ends 0|mwserve: no room for connections;127.0.0.2:0: Resource temporarily unavailable (os error 11);",
+    },
+    // The server is told to listen where somebody else does, for clients or for the administrator.
+    Story {
+        name: "a-port-that-is-taken",
+        lines: "\
+mwinit DIR/u.mw 2 1
+write tenants u 2 1 DIR/u.mw;
+meanwhile --listen 127.0.0.1:0 --connections 1
+mwinit DIR/t.mw 2 1
+write tenants t 2 1 DIR/t.mw;
+mwserve --tenants DIR/tenants --verbose --connections 1 --listen 127.0.0.1:<PORT>
+gives 1 |mwserve: cannot listen;127.0.0.1:<PORT>: Address already in use (os error 98);
+mwserve --tenants DIR/tenants --verbose --connections 1 --listen 127.0.0.1:0 --admin 127.0.0.1:<PORT>
+gives 1 |mwserve: cannot listen;127.0.0.1:<PORT>: Address already in use (os error 98);
+stop
+ends 0|",
+    },
 ];
 
 #[test]
 fn servers_and_clients(rt: HostRuntime) -> Result<(), Fail> {
-    play(&FaultyRuntime::new(&rt), &rt, &SERVERS)
+    let faulty = FaultyRuntime::new(&rt);
+    for story in &SERVERS {
+        let begun = begin(&faulty, &rt, story)?;
+        let told = Told::new();
+        let (served, played) = thread::join(
+            &faulty,
+            || serve_telling(&faulty, &begun.args, &told),
+            || play_beside(&faulty, &rt, story, begun.folder.as_str(), &told),
+        );
+        played?;
+        end(&faulty, &rt, story, begun.folder.as_str(), served?)?;
+    }
+    Ok(())
 }

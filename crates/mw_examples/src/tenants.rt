@@ -139,7 +139,7 @@ fn tenants_files(rt: HostRuntime) -> Result<(), Fail> {
 }
 
 /// Tenants whose files open, or don't.
-static TENANTS: [Story; 8] = [
+static TENANTS: [Story; 9] = [
     // A file that was made with one place has two, so its tenant's quota is 1 or 2.
     Story {
         name: "quota-limits",
@@ -270,6 +270,21 @@ write script TENANT s;CAS 0:0:1;
 write tenants s 2 1 DIR/s.mw;t 2 1 DIR/no.mw;u 2 3 DIR/u.mw;v 2 1 DIR/./s.mw;w 2 1 DIR/script;x 2 1 DIR;
 serve --verbose
 gives 0 OK 2;YES;|tenant t: disk;DIR/no.mw: No such file or directory (os error 2);tenant u: misfit;DIR/u.mw: 2 words, 2 places;tenant v: in use;DIR/./s.mw;tenant w: damage 6;DIR/script;tenant x: disk;DIR: Is a directory (os error 21);",
+    },
+    // `mwinit` has the new file locked when it says so, and `mwserve` a tenant's file when it answers.
+    Story {
+        name: "files-stay-locked",
+        lines: "\
+watch t.mw
+mwinit DIR/t.mw 2 1
+locked
+gives 0 made 184;|
+write tenants t 2 1 DIR/t.mw;
+write script TENANT t;CAS 0:0:1;
+watch t.mw
+serve
+locked
+gives 0 OK 2;YES;|",
     },
 ];
 
