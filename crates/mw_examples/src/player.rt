@@ -149,6 +149,7 @@ where
 }
 
 /// A story with a server: what is done before it, its options, what is done beside it, and what after it has ended.
+#[derive(Clone, Copy)]
 struct Parts<'a> {
     before: &'a str,
     options: &'a str,
