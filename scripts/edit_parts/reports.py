@@ -8,7 +8,7 @@ ITEM = re.compile(r"^(?:enum|struct|impl|trait|const|static) \S+: ")
 REFUSED = ("not proved", "no proof")
 NOT_TRIED = re.compile(r"\b(it calls|it passes|a call of) ")
 """A function's own contract was not tried, because one that it calls is not proved."""
-FALSE = "at which this goal is false"
+FALSE, GAVE_UP = "at which this goal is false", "gave up at one of its limits"
 STALE = re.compile(r"module .Rattle-(\w+)-.*Run the lower steps again")
 ERROR = re.compile(r"(?:\./)?(\S+?):\d+:\d+: error: (?:(`[^`]*`): )?(.*)")
 NAMES = re.compile(r"is not in scope|has no field|is no name|operand is missing|expected the end|cannot continue")
@@ -67,10 +67,10 @@ class Report:
 
     def reasons_of(self, name: str) -> List[str]:
         """Why a function isn't proved: what is told right before its line, and of its own proof files, or else that line.
-        A goal that is false comes first."""
+        A goal that is false comes first, and one at which the search for a proof gave up last."""
         own = re.compile(rf"(\./)?proofs/{re.escape('/'.join(name.split('::')[1:]))}/")
         told = reasons_in(self.before[name]) + [it for it in reasons_in(self.lines) if own.match(it)]
-        return sorted(dict.fromkeys(told), key=lambda it: FALSE not in it) or [self.functions[name]]
+        return sorted(dict.fromkeys(told), key=lambda it: (FALSE not in it, GAVE_UP in it)) or [self.functions[name]]
 
 
 def reasons_in(lines: List[str]) -> List[str]:
