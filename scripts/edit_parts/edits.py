@@ -48,10 +48,13 @@ class Place:
         if not symbol.startswith(f"{self.module}::"):
             return False
         parts = symbol[len(self.module) + 2:].split("::")
+        # (a closure of `f` in the module m is m::fn::f::NAME)
+        parts = parts[1:] if parts[0] == "fn" else parts
         if not self.owner:
             return parts[0] == self.name
-        of = parts[0] == self.owner or self.is_of_trait and re.search(rf"(^|\+){re.escape(self.owner)}", parts[0])
-        return bool(of) and parts[1:2] == [self.name]
+        # (an impl of a trait is named by both, as MemDiskDisk)
+        of_trait = self.is_of_trait and re.search(rf"(^|\+){re.escape(self.owner)}.", parts[0])
+        return bool(of_trait or not self.is_of_trait and parts[0] == self.owner) and parts[1:2] == [self.name]
 
 
 def read_edit(path: Path, crate: str) -> Edit:

@@ -6,6 +6,9 @@ from typing import Collection, Dict, List
 FUNCTION = re.compile(r"^fn (\S+): (.*)$")
 ITEM = re.compile(r"^(?:enum|struct|impl|trait|const|static) \S+: ")
 REFUSED = ("not proved", "no proof")
+NOT_TRIED = re.compile(r"\b(it calls|it passes|a call of) ")
+"""A function's own contract was not tried, because one that it calls is not proved."""
+FALSE, GAVE_UP = "at which this goal is false", "gave up at one of its limits"
 STALE = re.compile(r"module .Rattle-(\w+)-.*Run the lower steps again")
 ERROR = re.compile(r"(?:\./)?(\S+?):\d+:\d+: error: (?:(`[^`]*`): )?(.*)")
 NAMES = re.compile(r"is not in scope|has no field|is no name|operand is missing|expected the end|cannot continue")
@@ -37,8 +40,12 @@ class Report:
         return self.last.startswith("logic=")
 
     def refused(self) -> List[str]:
-        """The functions that aren't proved."""
-        return [name for name, words in self.functions.items() if words.startswith(REFUSED)]
+        """The functions whose own proof is refused."""
+        return [name for name, words in self.functions.items() if words.startswith(REFUSED) and not NOT_TRIED.search(words)]
+
+    def not_tried(self) -> List[str]:
+        """The functions that aren't proved because they call one that isn't."""
+        return [name for name, words in self.functions.items() if words.startswith(REFUSED) and NOT_TRIED.search(words)]
 
     def unread(self, changed: Collection[str]) -> str:
         """The first line that says that a text of src/, of specs/ or of an edited file could not be read; empty if there is none."""
@@ -59,15 +66,22 @@ class Report:
         return reasons_in(self.lines)
 
     def reasons_of(self, name: str) -> List[str]:
-        """Why a function isn't proved: what is told right before its line, and of its own proof files, or else that line."""
-        own = re.compile(rf"(note: )?(\./)?proofs/{re.escape('/'.join(name.split('::')[1:]))}/")
-        told = self.before.get(name, []) + [it for it in self.lines if own.match(it)]
-        return reasons_in(list(dict.fromkeys(told))) or [self.functions[name]]
+        """Why a function isn't proved: what is told right before its line, and of its own proof files, or else that line.
+        A goal that is false comes first, and one at which the search for a proof gave up last."""
+        own = re.compile(rf"(\./)?proofs/{re.escape('/'.join(name.split('::')[1:]))}/")
+        told = reasons_in(self.before[name]) + [it for it in reasons_in(self.lines) if own.match(it)]
+        return sorted(dict.fromkeys(told), key=lambda it: (FALSE not in it, GAVE_UP in it)) or [self.functions[name]]
 
 
 def reasons_in(lines: List[str]) -> List[str]:
-    """The errors, and the notes on what was not shown."""
-    told = [it for it in lines if TOLD.match(it)]
+    """The errors, and the notes on what was not shown. A text that goes on in lines further in is one."""
+    whole: List[str] = []
+    for line in lines:
+        if line.startswith("  ") and whole:
+            whole[-1] += f" {line.strip()}"
+        else:
+            whole.append(line)
+    told = [it for it in whole if TOLD.match(it)]
     return [it for it in told if ": error" in it or it.startswith("note: ")] or told
 
 

@@ -1,6 +1,6 @@
 """Tries the wrong bodies of a crate, as many at once as change different functions, and tells which are refused."""
 from dataclasses import dataclass
-from typing import Dict, FrozenSet, List
+from typing import Dict, FrozenSet, Iterable, List
 
 from register_parts.source import Source
 
@@ -20,7 +20,7 @@ class Found:
 
 
 class Unclear(Exception):
-    """A round tells nothing of its edits: a fault of one hides the others."""
+    """A check tells nothing of its edits, as when a fault of one hides the others."""
 
 
 class Trials:
@@ -72,33 +72,41 @@ class Trials:
         return found
 
     def refused_in_round(self, edits: List[Edit]) -> Dict[Edit, Found]:
-        """Those of a round that are refused, if all functions but theirs are proved; else none."""
-        texts = self.texts(edits)
-        report = self.room.check(texts)
-        try:
-            stop_if_unclear(report, texts)
-            refused = {edit: self.refused_functions(edit, report) for edit in edits}
-        except Unclear as unclear:
-            print(f"{self.room.crate.name}: edit by edit, since a round of {len(edits)} tells nothing: {unclear}", flush=True)
-            return {}
-        others = set(report.refused()).difference(*refused.values())
+        """Those of a round that are clearly refused. Where one hides others, as it changes what they call, these are tried on."""
+        found: Dict[Edit, Found] = {}
+        left = edits
+        while len(left) > 1:
+            texts = self.texts(left)
+            report = self.room.check(texts)
+            try:
+                stop_if_unclear(report, texts)
+                now = self.clearly_refused(left, report)
+            except Unclear as unclear:
+                print(f"{self.room.crate.name}: edit by edit, since a round of {len(left)} tells nothing: {unclear}", flush=True)
+                break
+            found.update(now)
+            left = [it for it in left if now and it not in now and self.lines_of(it, report.not_tried())]
+        return found
+
+    def clearly_refused(self, edits: List[Edit], report: Report) -> Dict[Edit, Found]:
+        """The edits whose functions are refused, if no other function is."""
+        names = {edit: self.refused_functions(edit, report) for edit in edits}
+        others = set(report.refused()).difference(*names.values())
         if others:
-            found = ", ".join(sorted(others))
-            print(f"{self.room.crate.name}: edit by edit, since in a round of {len(edits)} others are not proved: {found}", flush=True)
-            return {}
-        told = {edit: self.reason(names, report) for edit, names in refused.items()}
+            raise Unclear(f"others are not proved: {', '.join(sorted(others))}")
+        told = {edit: self.reason(own, report) for edit, own in names.items()}
         return {edit: Found(True, why) for edit, why in told.items() if why}
 
+    def lines_of(self, edit: Edit, names: Iterable[str]) -> List[str]:
+        """Those of these functions that the edit changes."""
+        return [name for name in names if any(place.is_named_by(name) for place in self.places[edit])]
+
     def refused_functions(self, edit: Edit, report: Report) -> List[str]:
-        """Those functions that the edit changes that aren't proved. The report has to name each function once."""
-        refused = report.refused()
-        found: List[str] = []
+        """Those functions that the edit changes whose proof is refused. The report has to name each that it changes."""
         for place in self.places[edit]:
-            names = [it for it in report.functions if place.is_named_by(it)]
-            if not names:
+            if not any(place.is_named_by(it) for it in report.functions):
                 raise Unclear(f"the check has no line on {place.module} {place.name}, which {edit.name} changes")
-            found += [it for it in names if it in refused]
-        return found
+        return self.lines_of(edit, report.refused())
 
     def reason(self, names: List[str], report: Report) -> str:
         """Why these functions are refused; nothing if it is only that a proof file names what isn't there."""
