@@ -17,7 +17,7 @@ use denote.Triple.Entry.{alive}
 use denote.Triple.Walked.{says, Stays, stay_dropped, walk_of, ends_at, Goes-dropped}
 use Rattle.mw_table.proofs.Fieldless.{none, none_made}
 use Rattle.mw_simulator.specs.contracts.world.World.{the_row as R}
-use Rattle.mw_table_tests.specs.contracts.runs.run_before as f
+use Rattle.mw_table_tests.specs.contracts.world_table.runs.run_before as f
 use Rattle.mw_table_tests.proofs.world_table.runs.run_before.Statement.{statement}
 use Rattle.mw_table_tests.proofs.world_table.runs.run_before.Code as code
 
