@@ -74,7 +74,9 @@ class Model:
     def after(self, state: State) -> Iterator[State]:
         """The states after a step of some worker."""
         for number, worker in enumerate(state.workers):
-            if worker.at != "end" and (worker.at != "sleep" or state.rung & 1 << number):
+            if worker.at == "onward":
+                yield from self.onward(state, number, worker)
+            elif worker.at != "end" and (worker.at != "sleep" or state.rung & 1 << number):
                 yield getattr(self, "step_" + worker.at)(state, number, worker)
 
     # The order of calls
@@ -257,10 +259,16 @@ class Model:
         return self.goes_on(state, number, worker)
 
     def goes_on(self, state: State, number: int, worker: Worker) -> State:
-        """It makes the steps to its next call, or replies."""
+        """It makes the steps that follow its call."""
+        return put(state, number, Worker("onward", worker.call, worker.left))
+
+    def onward(self, state: State, number: int, worker: Worker) -> Iterator[State]:
+        """It comes to its next call, or to its reply, also if a helper has ended its change. A change that is sealed in the file has none before
+        a settle."""
+        if not state.unsettled & 1 << number:
+            yield put(state, number, Worker("reply", SETTLE, worker.left))
         if worker.call != SETTLE:
-            return put(state, number, Worker("come", worker.call + 1, worker.left))
-        return put(state, number, Worker("reply", SETTLE, worker.left))
+            yield put(state, number, Worker("come", worker.call + 1, worker.left))
 
     def step_reply(self, state: State, number: int, worker: Worker) -> State:
         """`depart`."""
