@@ -1,17 +1,20 @@
-//! Tells a book's number of words and places, whether its file has failed, and whether a place is free.
+//! Tells a book's number of words and places, whether its file has failed, whether a place is free, and whether a change is
+//! prepared ahead.
 //!
-//! Only tests call these (mw_file_tests): the server makes calls on a book, and takes its words when a file opens.
-//! They may change with these tests.
+//! mw_engine asks whether a change is prepared ahead. Only tests call the others (mw_file_tests): the server makes calls on
+//! a book, and takes its words when a file opens.
 ghost use Rattle.std.specs.Prelude.{◌≡◌, ◌&&◌, true, false, nat_lt, is_some};
 ghost use Rattle.mw_world_file.specs.Files.{File, empty_from};
 
 use crate::book::Book;
 use mw_disk::Disk;
+use mw_words::Entries;
 
 impl<D: Disk> Book<D> {
     ghost use Rattle.mw_book.specs.OpenFile.{states_in};
     ghost use Rattle.mw_book.specs.Permits.{HasPlace};
     ghost use Rattle.mw_book.specs.Permits as permit;
+    ghost use Rattle.mw_book.specs.PreparedAhead as ahead;
     ghost use Rattle.mw_book.specs.Representation.{Represents};
 
     /// Returns how many words the file has.
@@ -46,6 +49,21 @@ impl<D: Disk> Book<D> {
     {
         match &self.held {
             Some(file) => self.table.vacant_place(file.states(), self.places) < self.places,
+            None => false,
+        }
+    }
+
+    /// Tells whether a change of a slot with these entries is prepared ahead. Then its prepare makes no device call. A file that
+    /// didn't open has none.
+    pub fn has_written(&self, slot: u8, entries: &Entries) -> bool
+        ensures { result ≡ (is_some self.now.held && ahead.has_written self.now slot entries.now.items) }
+    {
+        match &self.held {
+            Some(file) => {
+                self.table
+                    .written_place(file.states(), slot, entries, self.places)
+                    < self.places
+            }
             None => false,
         }
     }

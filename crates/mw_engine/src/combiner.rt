@@ -1,366 +1,405 @@
-//! Makes the calls of many requests on one file in one turn of its lock.
+//! Makes the calls of many requests on one file, one call at a time, so that they share syncs.
 //!
-//! A worker whose request comes to a call on its file takes the file's lock if it is free and nobody waits in the
-//! file's room. Else it leaves the request in its box (`errand_boxes`), enters the room, and sleeps. The holder of the
-//! lock prepares and seals its own change, then those of the requests in the room. Then it settles or cancels all of
-//! them. So changes share syncs, and no other thread has to wake in between. This is the flat combining of Hendler,
-//! Incze, Shavit and Tzafrir, 2010.
+//! A worker whose request comes to a call on its file tries the file's lock. If others wait for the file, or are expected
+//! there, it leaves the request in its box (`errand_boxes`), enters the file's room, and sleeps. Whoever gets the lock
+//! makes the call of those that wait that is best made next (`order`), its own or another worker's, and no more: the lock
+//! is kept for one call, and for no step and no point of the engine's `Hold`. Then that worker makes calls that are due
+//! and cheap, as a courtesy, wakes others, and goes on with its own request. So a seal's sync writes the records of all
+//! that wait, and a settle settles all sealed changes. This is flat combining (Hendler, Incze, Shavit, Tzafrir, 2010)
+//! of calls, without a combiner that others depend on.
 //!
 //! # Why no worker sleeps for ever
 //!
-//! A worker enters the room, listens to its bell, and then tries the lock. If the lock is held, its holder looks into
-//! the room after the release, and rings the bell of the worker that came first of those there. If the lock is
-//! starving, the first of its queue takes it, and does the same afterwards. A worker leaves the room only while the
-//! lock is held, so some release always follows. The holder also rings the bells of the first three that it has served.
-//! Each worker that takes its served request back rings the bell of the one three behind it, which was served before. So
-//! threads wake one after another: if all woke at once, the first reply would wait for a processor. Apart from all this
-//! no sleep is longer than a tenth of a second, and a worker looks again after each.
+//! No sleep is longer than a fiftieth of a second, and then the worker tries the lock itself. Rings only make it faster. A worker
+//! that is stopped holds nothing that others need, but while it has the file's lock or the room's: its request waits, and
+//! theirs go on. Others wait for it once, for a fifth of a millisecond, if its change was prepared and its seal is
+//! expected.
+//!
+//! # Who wakes whom
+//!
+//! A worker enters the room, and tries the lock before each sleep. If the lock is held, its holder looks into the room
+//! after the release. It makes calls there, or rings the bell of the one that came first, unless it comes back soon itself.
+//! Of the workers whose calls were made three are rung, and each that takes its request back rings the next: if all
+//! woke at once, the first reply would wait for a processor. A worker whose change another one has sealed sleeps on until
+//! the settle of all.
 //!
 //! Used by: `serving`; `copies` calls `wake_next`. Its contracts use `specs/Errands`: change them together.
-ghost use Rattle.std.specs.Prelude.{◌≡◌, ◌≢◌, None, IfOk, IfErr};
+ghost use Rattle.std.specs.Prelude.{◌≢◌, None, IfOk, IfErr};
 ghost use Rattle.mw_world.specs.Definition.Calls.{called_at};
-ghost use Rattle.mw_core.specs.FromTable.{IsCarried, IsOfSameWorker, View as Knowledge};
 ghost use Rattle.mw_loan.specs.Loans.{IsReceiptFor, IsReceiptOf};
 ghost use Rattle.mw_engine.specs.declared.errand.Errand.{Errand as ErrandOf};
 ghost use Rattle.mw_engine.specs.Errands.{CarriesRequest, GoesOn, IsCarriedHere, RequestGoesOn};
-ghost use Rattle.mw_engine.specs.History.{IsInProgress};
-ghost use Rattle.mw_engine.specs.Passes.{IsPassOf};
-ghost use Rattle.mw_engine.specs.Replies.{IsOnItsWay};
-ghost use Rattle.mw_engine.specs.Steps.{IsSameRequest};
 
 use crate::brand::EngineBrand;
 use crate::engine::Engine;
 use crate::errand::Errand;
 use crate::errand_boxes::ErrandBox;
-use crate::file_calls::Phase;
+use crate::file_calls::{DueCall, due_call};
 use crate::file_lock::FileLock;
 use crate::guarded_file::GuardedFile;
 use crate::hold::Hold;
-use crate::waiting_room::{Workers, strike_off_written};
+use crate::order::{Choosing, Waiter};
+use crate::waiting_room::{Look, Workers};
 use core::mem::replace_with;
 use mw_actor::Actor;
 use mw_core::{Pass, waiting_change};
 use mw_disk::Disk;
 use mw_loan::{Kept, Receipt};
-use mw_turns::FairGuard;
-use mw_words::MAX_WORKERS;
+use mw_turns::{FairGuard, Heard};
 use std::sync::Wait;
 
-/// How many of the workers that it has served a holder of the lock wakes itself.
-const WOKEN_FIRST: usize = 3;
+/// How many microseconds a worker sleeps at most before it tries the lock again.
+const LONG_SLEEP: u64 = 20_000;
+
+/// How many microseconds a worker waits at most for one that is expected with its seal.
+const SHORT_SLEEP: u64 = 200;
+
+/// How many calls of others a worker makes at most before it goes on with its own request.
+const MOST_FOR_OTHERS: u32 = 128;
+
+/// What a try to make a call of those that wait came to.
+#[derive(Clone, Copy, PartialEq, Eq)]
+enum Served {
+    /// A call was made.
+    One,
+    /// Another worker has the lock.
+    Busy,
+    /// No call may be made yet.
+    Later,
+    /// Nobody waits.
+    Nobody,
+}
+
+/// How a worker waits.
+#[derive(Clone, Copy)]
+struct Stay {
+    /// Which calls it makes.
+    choosing: Choosing,
+    /// Whether it has made a call since it came.
+    has_served: bool,
+    /// Whether it slept to the end although nobody waited: then no other worker knows of its request.
+    is_forgotten: bool,
+}
 
 impl<J: EngineBrand, D: Disk + Drop, H: Hold + Drop> Engine<J, D, H> {
-    /// Makes the call on its tenant's file to which the pass's request has come, or has another thread make it. That
-    /// thread or this one may also make the steps and calls that follow. No contract says that a call is made: `serve`
-    /// calls this again.
-    pub(crate) fn combine(&self, rt: &impl Wait, pass: &mut Pass, actor: &mut Actor)
-        requires own { IsPassOf J.identity pass.old }
-        requires carried { IsCarried pass.old actor.old }
+    /// Makes the call on its tenant's file to which the pass's request has come, or has another thread make it. No
+    /// contract says that it is made: `serve` calls this again.
+    pub(crate) fn combine(&self, rt: &impl Wait, pass: &mut Pass, actor: &mut Actor, due: DueCall)
+        requires here { CarriesRequest J.identity pass.old actor.old }
         requires call { called_at actor.old.point ≢ None }
-        ensures own { IsPassOf J.identity pass.new }
-        ensures worker { IsOfSameWorker pass.old pass.new }
-        ensures carried { IsCarried pass.new actor.new }
-        ensures request { IsSameRequest actor.old actor.new }
-        ensures way { IsOnItsWay actor.old.job actor.old.point → IsOnItsWay actor.new.job actor.new.point }
-        ensures call { (first : Knowledge) → IsInProgress first pass.old.seat.me.0 actor.old → IsInProgress first pass.new.seat.me.0 actor.new }
+        ensures { RequestGoesOn J.identity pass.old actor.old pass.new actor.new }
     {
         let Some(lock) = self.lock_of(actor.tenant()) else {
             self.file(rt, pass, actor);
             return;
         };
-        if let Some(guard) = lock.lock_if_free(rt) {
-            self.serve_with_lock(rt, lock, guard, pass, actor);
+        let waiter = Waiter::new(pass.worker(), due);
+        if let Some(guard) = lock.lock_for(&waiter) {
+            self.make_own(rt, lock, guard, pass, actor, &waiter);
             return;
         }
         // `replace_with` moves one value out of a `&mut`. A pass can't be copied, so the machine is.
         let own = actor.copy();
         *actor = replace_with(pass, own, |pass, actor| {
-            let Errand { pass, actor } = self.send(rt, lock, Errand { pass, actor });
+            let Errand { pass, actor } = self.send(rt, lock, Errand { pass, actor }, waiter);
             (pass, actor)
         });
     }
 
-    /// Leaves a request in its worker's box, and waits until it has gone on.
-    fn send(&self, rt: &impl Wait, lock: &FileLock<J, D>, errand: Errand) -> Errand
-        requires here { IsCarriedHere J.identity errand }
-        requires call { called_at errand.actor.point ≢ None }
-        ensures { GoesOn J.identity errand result }
-    {
-        let worker = errand.pass.worker();
-        let Some(own_box) = self.errands.get(usize::from(worker)) else {
-            return self.go_oneself(rt, errand);
-        };
-        let change = waiting_change(&errand.actor);
-        own_box.begin();
-        match own_box.loan.leave(errand) {
-            Ok(receipt) => {
-                lock.room.enter(rt, worker, change);
-                self.wait(rt, lock, own_box, worker, receipt)
-            }
-            Err(errand) => self.go_oneself(rt, errand),
-        }
-    }
-
-    /// Makes the next call of a request on its file alone, and waits for the lock. It is for a box that isn't at its
-    /// number or isn't empty. Neither happens, but no type says so.
-    fn go_oneself(&self, rt: &impl Wait, errand: Errand) -> Errand
-        requires here { IsCarriedHere J.identity errand }
-        requires call { called_at errand.actor.point ≢ None }
-        ensures { GoesOn J.identity errand result }
-    {
-        let Errand {
-            mut pass,
-            mut actor,
-        } = errand;
-        self.file(rt, &mut pass, &mut actor);
-        Errand { pass, actor }
-    }
-
-    /// Waits until a request that was left in a box has gone on, by another thread or this one, and takes it back.
-    fn wait(
-        &self,
-        rt: &impl Wait,
-        lock: &FileLock<J, D>,
-        own_box: &ErrandBox<J>,
-        worker: u8,
-        receipt: Receipt<Errand>,
-    ) -> Errand
-        requires own { IsReceiptOf own_box.now.loan.table.shared.table_id receipt }
-        ensures { (left : ErrandOf) → IsReceiptFor own_box.now.loan.table.shared.table_id left receipt → GoesOn J.identity left result }
-    {
-        let mut receipt = receipt;
-        for _ in rt.forever() {
-            let heard = own_box.bell.listen();
-            match self.fetch(rt, lock, own_box, worker, receipt) {
-                Ok(errand) => return errand,
-                Err(same) => receipt = same,
-            }
-            own_box.bell.sleep(rt, heard);
-        }
-        unreachable!()
-    }
-
-    /// Takes a request back if another thread has served it, or if the lock is free: then this one does. Else gives the
-    /// receipt back.
-    fn fetch(
-        &self,
-        rt: &impl Wait,
-        lock: &FileLock<J, D>,
-        own_box: &ErrandBox<J>,
-        worker: u8,
-        receipt: Receipt<Errand>,
-    ) -> Result<Errand, Receipt<Errand>>
-        requires own { IsReceiptOf own_box.now.loan.table.shared.table_id receipt }
-        ensures gone_on { (left : ErrandOf) → IsReceiptFor own_box.now.loan.table.shared.table_id left receipt → IfOk result (λ errand. GoesOn J.identity left errand) }
-        ensures kept { (left : ErrandOf) → IsReceiptFor own_box.now.loan.table.shared.table_id left receipt → IfErr result (λ same. IsReceiptFor own_box.now.loan.table.shared.table_id left same) }
-    {
-        if !own_box.is_done() {
-            return self.take_turn(rt, lock, own_box, worker, receipt);
-        }
-        match self.take_served(own_box, receipt) {
-            Ok(errand) => Ok(errand),
-            Err(same) => self.take_turn(rt, lock, own_box, worker, same),
-        }
-    }
-
-    /// Takes a request back if another thread has served it, and wakes the worker that follows. Else gives the receipt
-    /// back.
-    fn take_served(
-        &self,
-        own_box: &ErrandBox<J>,
-        receipt: Receipt<Errand>,
-    ) -> Result<Errand, Receipt<Errand>>
-        requires own { IsReceiptOf own_box.now.loan.table.shared.table_id receipt }
-        ensures gone_on { (left : ErrandOf) → IsReceiptFor own_box.now.loan.table.shared.table_id left receipt → IfOk result (λ errand. GoesOn J.identity left errand) }
-        ensures kept { (left : ErrandOf) → IsReceiptFor own_box.now.loan.table.shared.table_id left receipt → IfErr result (λ same. IsReceiptFor own_box.now.loan.table.shared.table_id left same) }
-    {
-        match own_box.loan.take_back(receipt, Kept::Returned) {
-            Ok(errand) => {
-                self.ring(own_box.follower());
-                Ok(errand)
-            }
-            Err(same) => Err(same),
-        }
-    }
-
-    /// Takes the lock if it is free, takes the request back, and serves it if nobody has. Else gives the receipt back.
-    fn take_turn(
-        &self,
-        rt: &impl Wait,
-        lock: &FileLock<J, D>,
-        own_box: &ErrandBox<J>,
-        worker: u8,
-        receipt: Receipt<Errand>,
-    ) -> Result<Errand, Receipt<Errand>>
-        requires own { IsReceiptOf own_box.now.loan.table.shared.table_id receipt }
-        ensures gone_on { (left : ErrandOf) → IsReceiptFor own_box.now.loan.table.shared.table_id left receipt → IfOk result (λ errand. GoesOn J.identity left errand) }
-        ensures kept { (left : ErrandOf) → IsReceiptFor own_box.now.loan.table.shared.table_id left receipt → IfErr result (λ same. IsReceiptFor own_box.now.loan.table.shared.table_id left same) }
-    {
-        let Some(guard) = lock.try_lock() else {
-            return Err(receipt);
-        };
-        lock.room.leave(rt, worker);
-        match own_box.loan.take_back(receipt, Kept::Waiting) {
-            Ok(errand) => {
-                let Errand {
-                    mut pass,
-                    mut actor,
-                } = errand;
-                self.serve_with_lock(rt, lock, guard, &mut pass, &mut actor);
-                Ok(Errand { pass, actor })
-            }
-            Err(same) => {
-                drop(guard);
-                self.wake_next(rt, lock);
-                self.take_served(own_box, same)
-            }
-        }
-    }
-
-    /// Serves a request and those that wait for the file: makes their calls. Releases the lock, and wakes the next that
-    /// waits and the workers of those that were served.
-    fn serve_with_lock(
+    /// Makes the call of a worker's own request with the file's lock, and releases it. If others are there it then makes calls
+    /// of theirs.
+    fn make_own(
         &self,
         rt: &impl Wait,
         lock: &FileLock<J, D>,
         guard: FairGuard<'_, GuardedFile<J, D>>,
         pass: &mut Pass,
         actor: &mut Actor,
+        waiter: &Waiter,
     )
         requires here { CarriesRequest J.identity pass.old actor.old }
         ensures { RequestGoesOn J.identity pass.old actor.old pass.new actor.new }
     {
         let mut guard = guard;
-        let batch = self.serve_all(rt, lock, &mut guard.value, pass, actor);
+        self.make_with_lock(rt, lock, &mut guard.value, pass, actor, waiter);
         drop(guard);
-        self.wake_next(rt, lock);
-        self.wake_first(&batch);
+        if !lock.room.is_empty() {
+            self.leave(rt, lock, waiter);
+        }
     }
 
-    /// Makes the calls of a request, and of those that wait for the file meanwhile. Returns the workers of these.
-    fn serve_all(
+    /// Makes the call of a worker's own request on this file, and notes it in the file's room.
+    fn make_with_lock(
         &self,
         rt: &impl Wait,
         lock: &FileLock<J, D>,
         file: &mut GuardedFile<J, D>,
         pass: &mut Pass,
         actor: &mut Actor,
-    ) -> Workers
-        requires here { CarriesRequest J.identity pass.old actor.old }
-        ensures { RequestGoesOn J.identity pass.old actor.old pass.new actor.new }
-    {
-        let mut batch = Workers::new();
-        self.prepare_and_seal(rt, lock, file, pass, actor, &mut batch);
-        self.seal_others(rt, lock, file, &mut batch);
-        lock.room.take_changes(rt, &mut file.called);
-        self.make(file, pass, actor, Phase::End);
-        self.end_others(file, &batch);
-        batch
-    }
-
-    /// Prepares and seals a request's change. If it came to a seal, or if the batch is empty, it adds to the batch the
-    /// workers that waited before. A seal has mostly written the records of the first fifteen of their changes. Without
-    /// the second case one client whose changes are refused could keep others waiting.
-    fn prepare_and_seal(
-        &self,
-        rt: &impl Wait,
-        lock: &FileLock<J, D>,
-        file: &mut GuardedFile<J, D>,
-        pass: &mut Pass,
-        actor: &mut Actor,
-        batch: &mut Workers,
+        waiter: &Waiter,
     )
         requires here { CarriesRequest J.identity pass.old actor.old }
         ensures { RequestGoesOn J.identity pass.old actor.old pass.new actor.new }
     {
-        lock.room.take_changes(rt, &mut file.called);
-        self.make(file, pass, actor, Phase::Prepare);
-        let waiting = lock.room.take_changes(rt, &mut file.called);
-        let is_sealed = self.make(file, pass, actor, Phase::Seal);
-        if is_sealed {
-            strike_off_written(&mut file.called);
-        }
-        if is_sealed || batch.is_empty() {
-            lock.room.take_workers(rt, waiting, batch);
+        lock.room.begin(waiter);
+        self.make(file, pass, actor);
+        lock.room.end(rt, waiter, &file.book, &mut file.called);
+    }
+
+    /// Leaves a request in its worker's box, and waits until its call is made.
+    fn send(&self, rt: &impl Wait, lock: &FileLock<J, D>, errand: Errand, waiter: Waiter) -> Errand
+        requires here { IsCarriedHere J.identity errand }
+        ensures { GoesOn J.identity errand result }
+    {
+        let Some(own_box) = self.errands.get(usize::from(waiter.worker)) else {
+            return self.go_oneself(rt, errand);
+        };
+        let change = waiting_change(&errand.actor);
+        own_box.begin();
+        match own_box.loan.leave(errand) {
+            Ok(receipt) => {
+                lock.room.enter(rt, waiter, change);
+                self.wait(rt, lock, own_box, &waiter, receipt)
+            }
+            Err(errand) => self.go_oneself(rt, errand),
         }
     }
 
-    /// Prepares and seals the changes of the workers of the batch, which grows meanwhile.
-    fn seal_others(
-        &self,
-        rt: &impl Wait,
-        lock: &FileLock<J, D>,
-        file: &mut GuardedFile<J, D>,
-        batch: &mut Workers,
-    ) {
-        for next in 0..usize::from(MAX_WORKERS) {
-            let Some(worker) = batch.as_slice().get(next).copied() else {
-                return;
-            };
-            self.seal_other(rt, lock, file, worker, batch);
+    /// Makes the next call of a request on its file alone, and waits for the lock. It is for a box that isn't at its
+    /// number or isn't empty, and for a request of which no other worker knows. None of these happens, but no type says so.
+    fn go_oneself(&self, rt: &impl Wait, errand: Errand) -> Errand
+        requires here { IsCarriedHere J.identity errand }
+        ensures { GoesOn J.identity errand result }
+    {
+        let Errand {
+            mut pass,
+            mut actor,
+        } = errand;
+        if due_call(&actor).is_none() {
+            return Errand { pass, actor };
         }
+        self.file(rt, &mut pass, &mut actor);
+        Errand { pass, actor }
     }
 
-    /// Prepares and seals the change of a worker's request that waits.
-    fn seal_other(
+    /// Waits until the call of a request that was left in a box is made, by another thread or this one, and takes the
+    /// request back.
+    fn wait(
         &self,
         rt: &impl Wait,
         lock: &FileLock<J, D>,
-        file: &mut GuardedFile<J, D>,
+        own_box: &ErrandBox<J>,
+        waiter: &Waiter,
+        receipt: Receipt<Errand>,
+    ) -> Errand
+        requires own { IsReceiptOf own_box.now.loan.table.shared.table_id receipt }
+        ensures { (left : ErrandOf) → IsReceiptFor own_box.now.loan.table.shared.table_id left receipt → GoesOn J.identity left result }
+    {
+        let mut receipt = receipt;
+        let mut stay = Stay {
+            choosing: Choosing::Patient,
+            has_served: false,
+            is_forgotten: false,
+        };
+        for _ in rt.forever() {
+            let heard = own_box.bell.listen();
+            match self.fetch(rt, lock, own_box, waiter, receipt, stay) {
+                Ok(errand) => return errand,
+                Err(same) => receipt = same,
+            }
+            stay = self.serve_or_sleep(rt, lock, own_box, heard, stay, waiter.worker);
+        }
+        unreachable!()
+    }
+
+    /// Takes a request back whose call was made, or that no other worker knows of. Else gives the receipt back.
+    fn fetch(
+        &self,
+        rt: &impl Wait,
+        lock: &FileLock<J, D>,
+        own_box: &ErrandBox<J>,
+        waiter: &Waiter,
+        receipt: Receipt<Errand>,
+        stay: Stay,
+    ) -> Result<Errand, Receipt<Errand>>
+        requires own { IsReceiptOf own_box.now.loan.table.shared.table_id receipt }
+        ensures gone_on { (left : ErrandOf) → IsReceiptFor own_box.now.loan.table.shared.table_id left receipt → IfOk result (λ errand. GoesOn J.identity left errand) }
+        ensures kept { (left : ErrandOf) → IsReceiptFor own_box.now.loan.table.shared.table_id left receipt → IfErr result (λ same. IsReceiptFor own_box.now.loan.table.shared.table_id left same) }
+    {
+        if own_box.is_done() {
+            let taken = own_box.loan.take_back(receipt, Kept::Returned);
+            if taken.is_ok() {
+                self.go(rt, lock, waiter, stay.has_served);
+            }
+            return taken;
+        }
+        if !stay.is_forgotten {
+            return Err(receipt);
+        }
+        match own_box.loan.take_back(receipt, Kept::Waiting) {
+            Ok(errand) => Ok(self.go_oneself(rt, errand)),
+            Err(same) => Err(same),
+        }
+    }
+}
+
+impl<J: EngineBrand, D: Disk + Drop, H: Hold + Drop> Engine<J, D, H> {
+    /// Makes a call of those that wait, if one may be made. Else sleeps, until the worker's bell is rung or a short time is
+    /// over. Tells how the worker waits from then on.
+    fn serve_or_sleep(
+        &self,
+        rt: &impl Wait,
+        lock: &FileLock<J, D>,
+        own_box: &ErrandBox<J>,
+        heard: Heard,
+        stay: Stay,
         worker: u8,
-        batch: &mut Workers,
-    ) {
-        if let Some(own_box) = self.errands.get(usize::from(worker)) {
-            own_box.loan.lend(Kept::Waiting, |errand| {
-                self.prepare_and_seal(rt, lock, file, &mut errand.pass, &mut errand.actor, batch)
-            });
-        }
-    }
-
-    /// Makes the calls that end the changes of the workers of the batch, the last one's first: a worker takes its request
-    /// back only when those that it wakes can do so too.
-    fn end_others(&self, file: &mut GuardedFile<J, D>, batch: &Workers) {
-        let workers = batch.as_slice();
-        for place in (0..workers.len()).rev() {
-            let follower = workers.get(place + WOKEN_FIRST).copied();
-            self.end_other(file, workers[place], follower);
-        }
-    }
-
-    /// Makes the call that ends a worker's change on the file, if that is its next call, and notes that the worker was
-    /// served and whom it wakes. Wakes that one itself if the request isn't in the worker's box. It always is, but no
-    /// type says so.
-    fn end_other(&self, file: &mut GuardedFile<J, D>, worker: u8, follower: Option<u8>) {
-        if let Some(own_box) = self.errands.get(usize::from(worker)) {
-            let is_lent = own_box.loan.lend(Kept::Returned, |errand| {
-                self.make(file, &mut errand.pass, &mut errand.actor, Phase::End);
-            });
-            if is_lent {
-                own_box.end(follower);
-                return;
+    ) -> Stay {
+        let mut next = stay;
+        match self.serve_one(rt, lock, stay.choosing, worker) {
+            Served::One => {
+                next.choosing = Choosing::Patient;
+                next.has_served = true;
+            }
+            Served::Busy => {
+                self.wake_served(rt, lock);
+                own_box.bell.sleep(rt, heard, LONG_SLEEP);
+            }
+            Served::Later => {
+                self.wake_served(rt, lock);
+                if !own_box.bell.sleep(rt, heard, SHORT_SLEEP) {
+                    next.choosing = Choosing::Any;
+                }
+            }
+            Served::Nobody => {
+                self.wake_served(rt, lock);
+                next.is_forgotten = !own_box.bell.sleep(rt, heard, LONG_SLEEP);
             }
         }
-        if let Some(worker) = follower {
-            self.ring(worker);
-        }
+        next
     }
 
-    /// Goes on with a request to its next call on this file, and makes that if it is of this phase. Does nothing if the
-    /// file is another tenant's. Tells whether it came to such a call.
-    fn make(
+    /// Makes the next call of those that wait, if the lock is free and one may be made. If it syncs, workers whose calls were
+    /// made are woken before.
+    fn serve_one(
         &self,
+        rt: &impl Wait,
+        lock: &FileLock<J, D>,
+        choosing: Choosing,
+        worker: u8,
+    ) -> Served {
+        for _ in rt.forever() {
+            let Some(guard) = lock.try_lock() else {
+                return Served::Busy;
+            };
+            let mut guard = guard;
+            if self.make_next(rt, lock, &mut guard.value, choosing, worker) {
+                return Served::One;
+            }
+            drop(guard);
+            // Whoever came meanwhile found the lock held, and sleeps. So this one looks again.
+            match lock.room.look(rt, choosing) {
+                Look::Ready => {}
+                Look::Later => return Served::Later,
+                Look::Nobody => return Served::Nobody,
+            }
+        }
+        unreachable!()
+    }
+
+    /// Makes the next call of those that wait on this file, if one may be made. Tells whether it was chosen.
+    fn make_next(
+        &self,
+        rt: &impl Wait,
+        lock: &FileLock<J, D>,
         file: &mut GuardedFile<J, D>,
-        pass: &mut Pass,
-        actor: &mut Actor,
-        phase: Phase,
-    ) -> bool
+        choosing: Choosing,
+        worker: u8,
+    ) -> bool {
+        let mut woken = Workers::new();
+        let Some(waiter) = lock.room.choose(rt, choosing, &mut file.called, &mut woken) else {
+            return false;
+        };
+        self.ring_all(&woken);
+        lock.room.begin(&waiter);
+        match self.make_for(file, waiter.worker) {
+            Some(own_box) if waiter.worker != worker => {
+                lock.room
+                    .end_for(rt, &waiter, &file.book, &mut file.called, own_box);
+            }
+            Some(own_box) => {
+                lock.room.end(rt, &waiter, &file.book, &mut file.called);
+                own_box.end();
+            }
+            None => lock.room.end(rt, &waiter, &file.book, &mut file.called),
+        }
+        true
+    }
+
+    /// Makes the call of the request that waits in a worker's box. Gives the box, if the request was there.
+    fn make_for(&self, file: &mut GuardedFile<J, D>, worker: u8) -> Option<&ErrandBox<J>> {
+        let own_box = self.errands.get(usize::from(worker))?;
+        let is_lent = own_box.loan.lend(Kept::Waiting, |errand| {
+            self.make(file, &mut errand.pass, &mut errand.actor)
+        });
+        if is_lent { Some(own_box) } else { None }
+    }
+
+    /// Makes the call on this file to which a request has come. Does nothing if it has come to none, or the file is another
+    /// tenant's.
+    fn make(&self, file: &mut GuardedFile<J, D>, pass: &mut Pass, actor: &mut Actor)
         requires here { CarriesRequest J.identity pass.old actor.old }
         ensures { RequestGoesOn J.identity pass.old actor.old pass.new actor.new }
     {
-        if !file.is_of(actor) {
-            return false;
+        let Some(due) = due_call(actor) else {
+            return;
+        };
+        if file.is_of(actor) {
+            file.strike_off(due);
+            file.file(&self.words.core, pass, actor);
         }
-        file.go_on_to(&self.words.core, pass, actor, phase)
+    }
+
+    /// A worker has taken its request back, and goes: it wakes the next of those whose calls were made. If it made calls of
+    /// others meanwhile, it looks once more.
+    fn go(&self, rt: &impl Wait, lock: &FileLock<J, D>, waiter: &Waiter, has_served: bool) {
+        if let Some(next) = lock.room.take_back(rt, waiter.worker) {
+            self.ring(next);
+        }
+        if has_served {
+            self.leave(rt, lock, waiter);
+        }
+    }
+
+    /// A worker whose call was made goes, while others are in the room. It makes those of their calls that need no sync and, if it
+    /// comes back soon, the seals. Else it wakes the one that came first.
+    fn leave(&self, rt: &impl Wait, lock: &FileLock<J, D>, waiter: &Waiter) {
+        let comes_back = waiter.comes_back();
+        let choosing = if comes_back {
+            Choosing::Seals
+        } else {
+            Choosing::WithoutSync
+        };
+        for _ in 0..MOST_FOR_OTHERS {
+            if self.serve_one(rt, lock, choosing, waiter.worker) != Served::One {
+                break;
+            }
+        }
+        self.wake_served(rt, lock);
+        if comes_back {
+            lock.room.owe(waiter.worker);
+        } else {
+            self.wake_next(rt, lock);
+        }
+    }
+
+    /// A worker's request has its reply. If others waited for the worker to come back to the file, it wakes one.
+    pub(crate) fn depart(&self, rt: &impl Wait, worker: u8, tenant: u8) {
+        if let Some(lock) = self.lock_of(tenant)
+            && let Some(next) = lock.room.depart(rt, worker)
+        {
+            self.ring(next);
+        }
     }
 }
 
@@ -373,14 +412,19 @@ impl<J: EngineBrand, D: Disk, H> Engine<J, D, H> {
 
     /// Wakes the worker that came first of those that wait for a file. Whoever releases the file's lock calls this.
     pub(crate) fn wake_next(&self, rt: &impl Wait, lock: &FileLock<J, D>) {
-        if let Some(worker) = lock.room.first(rt) {
+        if let Some(worker) = lock.room.next(rt) {
             self.ring(worker);
         }
     }
 
-    /// Wakes the first of the workers that were served. Each of these wakes another.
-    fn wake_first(&self, workers: &Workers) {
-        for worker in workers.as_slice().iter().take(WOKEN_FIRST) {
+    /// Wakes the first of the workers whose calls were made. Each of these wakes another.
+    fn wake_served(&self, rt: &impl Wait, lock: &FileLock<J, D>) {
+        self.ring_all(&lock.room.woken(rt));
+    }
+
+    /// Wakes some workers.
+    fn ring_all(&self, workers: &Workers) {
+        for worker in workers.as_slice() {
             self.ring(*worker);
         }
     }

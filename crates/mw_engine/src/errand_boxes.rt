@@ -1,28 +1,23 @@
 //! A box for each worker, in which it leaves its request while it waits for a file.
 //!
-//! Used by: `engine`; `start`, which makes the boxes; `combiner`; `end`.
+//! Used by: `engine`; `start`, which makes the boxes; `combiner`; `waiting_room`; `end`.
 use crate::brand::EngineBrand;
 use crate::errand::{Errand, ErrandLasts};
 use mw_loan::LoanBox;
 use mw_turns::Bell;
 use mw_words::MAX_WORKERS;
 use std::alloc::{AllocError, Global};
-use std::sync::atomic::{AtomicBool, AtomicU8, Ordering};
+use std::sync::atomic::{AtomicBool, Ordering};
 
 /// A worker's box, and the bell by which it sleeps.
 #[derive(Drop)]
 pub(crate) struct ErrandBox<J: EngineBrand> {
     pub(crate) loan: LoanBox<Errand, ErrandLasts<J>>,
     pub(crate) bell: Bell,
-    /// Whether another thread has served the request. That thread sets it while it holds the file's lock. It is a hint:
-    /// the box itself tells whether the request can be taken back.
+    /// Whether the request's call was made. Whoever makes it sets this while it holds the file's lock. It is a hint: the
+    /// box itself tells whether the request can be taken back.
     is_done: AtomicBool,
-    /// The worker that this one wakes when it takes its served request back, or [`NOBODY`].
-    follower: AtomicU8,
 }
-
-/// No worker: their numbers are below [`MAX_WORKERS`].
-const NOBODY: u8 = u8::MAX;
 
 impl<J: EngineBrand> ErrandBox<J> {
     /// Makes an empty box.
@@ -35,30 +30,21 @@ impl<J: EngineBrand> ErrandBox<J> {
             loan: LoanBox::new(alloc)?,
             bell: Bell::new(),
             is_done: AtomicBool::new(false),
-            follower: AtomicU8::new(NOBODY),
         })
     }
 
-    /// Whether the request in the box was served.
+    /// Whether the call of the request in the box was made.
     pub(crate) fn is_done(&self) -> bool {
         self.is_done.load(Ordering::SeqCst)
     }
 
-    /// The number of the worker that this one wakes when it takes its served request back. If no worker has that number, it
-    /// wakes nobody.
-    pub(crate) fn follower(&self) -> u8 {
-        self.follower.load(Ordering::SeqCst)
-    }
-
-    /// Notes that the request which is about to be left in the box was not served yet.
+    /// Notes that the call of the request which is about to be left in the box was not made yet.
     pub(crate) fn begin(&self) {
         self.is_done.store(false, Ordering::SeqCst);
     }
 
-    /// Notes that the request in the box was served, and whom its worker wakes then.
-    pub(crate) fn end(&self, follower: Option<u8>) {
-        self.follower
-            .store(follower.unwrap_or(NOBODY), Ordering::SeqCst);
+    /// Notes that the call of the request in the box was made.
+    pub(crate) fn end(&self) {
         self.is_done.store(true, Ordering::SeqCst);
     }
 }

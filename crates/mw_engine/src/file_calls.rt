@@ -2,48 +2,40 @@
 //!
 //! Used by: `serving` and `combiner`, which take the lock. Its contracts use `specs/Brand`, `specs/FileCalls` and
 //! `specs/Passes`: change them together.
-ghost use Rattle.std.specs.Prelude.{◌≡◌, ◌≢◌, ◌↔◌, None, IsTrue};
+ghost use Rattle.std.specs.Prelude.{◌≡◌, ◌≢◌, ◌↔◌, true, is_some, None, IsTrue};
 ghost use Rattle.mw_world.specs.Definition.Calls.{called_at};
-ghost use Rattle.mw_core.specs.FromTable.{IsCarried, IsOfSameWorker, IsSamePass, View as Knowledge};
+ghost use Rattle.mw_core.specs.FromTable.{IsCarried, IsSamePass};
 ghost use Rattle.mw_engine.specs.Brand.{identity_on};
 ghost use Rattle.mw_engine.specs.FileCalls.{FilesOne};
-ghost use Rattle.mw_engine.specs.History.{IsInProgress};
 ghost use Rattle.mw_engine.specs.Passes.{IsOneOf};
-ghost use Rattle.mw_engine.specs.Replies.{IsOnItsWay};
-ghost use Rattle.mw_engine.specs.Steps.{IsSameRequest};
 
 use crate::brand::EngineBrand;
 use crate::guarded_file::GuardedFile;
 use crate::waiting_room::strike_off;
-use mw_actor::Actor;
-use mw_core::{Core, Pass, waiting_change};
+use mw_actor::{Actor, Point};
+use mw_core::{Core, Pass};
 use mw_disk::Disk;
 use mw_look::Call;
 
-/// How many steps a request makes under the lock in one phase, at most. Sixteen words that nobody else changes take some
-/// eighty.
-const STEPS_TO_CALL: u32 = 256;
-
-/// A phase of a change's way through its file.
+/// A call on its tenant's file at which a request is, and the slot of the change that it is for.
 #[derive(Clone, Copy)]
-pub(crate) enum Phase {
-    /// It is prepared.
-    Prepare,
-    /// It is sealed.
-    Seal,
-    /// It is settled or cancelled.
-    End,
+pub(crate) struct DueCall {
+    pub(crate) call: Call,
+    pub(crate) slot: u8,
 }
 
-impl Phase {
-    /// Whether a call is of this phase.
-    fn has(self, call: Call) -> bool {
-        match self {
-            Phase::Prepare => matches!(call, Call::Prepare),
-            Phase::Seal => matches!(call, Call::Seal),
-            Phase::End => matches!(call, Call::Settle | Call::Cancel),
-        }
-    }
+/// The call on its tenant's file at which a request is. None if its next step is another one.
+pub(crate) fn due_call(actor: &Actor) -> Option<DueCall>
+    ensures { is_some result ≡ true → called_at actor.now.point ≢ None }
+{
+    let (call, slot) = match actor.point() {
+        Point::Prepare(own) => (Call::Prepare, own.slot),
+        Point::Seal(task) => (Call::Seal, task.target.slot),
+        Point::Settle(task) => (Call::Settle, task.target.slot),
+        Point::Cancel(task) => (Call::Cancel, task.target.slot),
+        _ => return None,
+    };
+    Some(DueCall { call, slot })
 }
 
 impl<J: EngineBrand, D: Disk> GuardedFile<J, D> {
@@ -76,52 +68,12 @@ impl<J: EngineBrand, D: Disk> GuardedFile<J, D> {
         }
     }
 
-    /// Goes on with a request to its next call on this file, and makes that if it is of this phase. Stops before if the
-    /// request has its reply, or has made [`STEPS_TO_CALL`] steps. Tells whether it came to such a call, which may have
-    /// done nothing or failed.
-    pub(crate) fn go_on_to(
-        &mut self,
-        core: &Core,
-        pass: &mut Pass,
-        actor: &mut Actor,
-        phase: Phase,
-    ) -> bool
-        requires engine { identity_on core.now.shared J.identity.lines ≡ J.identity }
-        requires own { IsOneOf core.now.shared pass.old }
-        requires carried { IsCarried pass.old actor.old }
-        requires whose { self.old.tenant ≡ actor.old.tenant }
-        ensures own { IsOneOf core.now.shared pass.new }
-        ensures worker { IsOfSameWorker pass.old pass.new }
-        ensures carried { IsCarried pass.new actor.new }
-        ensures request { IsSameRequest actor.old actor.new }
-        ensures call { (first : Knowledge) → IsInProgress first pass.old.seat.me.0 actor.old → IsInProgress first pass.new.seat.me.0 actor.new }
-        ensures way { IsOnItsWay actor.old.job actor.old.point → IsOnItsWay actor.new.job actor.new.point }
-    {
-        for _ in 0..STEPS_TO_CALL {
-            if actor.reply().is_some() {
-                return false;
-            }
-            if let Some(call) = core.step(pass, actor) {
-                if !phase.has(call) {
-                    return false;
-                }
-                self.strike_off(actor);
-                self.file(core, pass, actor);
-                return true;
-            }
-        }
-        false
-    }
-
     /// Strikes the change of a request off the list of those that wait, if a prepare of it is next.
-    fn strike_off(&mut self, actor: &Actor)
+    pub(crate) fn strike_off(&mut self, due: DueCall)
         ensures { self.new.tenant ≡ self.old.tenant }
     {
-        if self.called.is_empty() {
-            return;
-        }
-        if let Some(change) = waiting_change(actor) {
-            strike_off(&mut self.called, change.slot);
+        if matches!(due.call, Call::Prepare) && !self.called.is_empty() {
+            strike_off(&mut self.called, due.slot);
         }
     }
 }

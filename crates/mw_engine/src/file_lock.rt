@@ -4,6 +4,7 @@
 //! of the file come from its lock. The room has none. Whoever releases the lock calls `wake_next` then.
 use crate::brand::EngineBrand;
 use crate::guarded_file::GuardedFile;
+use crate::order::Waiter;
 use crate::waiting_room::WaitingRoom;
 use mw_disk::Disk;
 use mw_turns::{FairGuard, FairLock};
@@ -49,12 +50,14 @@ impl<J: EngineBrand, D: Disk> FileLock<J, D> {
         self.file.lock(rt)
     }
 
-    /// Takes the lock if it is free and no worker waits in the room.
-    pub(crate) fn lock_if_free(&self, rt: &impl Wait) -> Option<FairGuard<'_, GuardedFile<J, D>>> {
-        if self.room.first(rt).is_some() {
-            return None;
+    /// Takes the lock for a worker that comes to a call, if its call may be made before others come, and the lock is free or
+    /// gets free within some microseconds.
+    pub(crate) fn lock_for(&self, waiter: &Waiter) -> Option<FairGuard<'_, GuardedFile<J, D>>> {
+        if self.room.may_try(waiter) {
+            self.file.try_lock_for_a_while()
+        } else {
+            None
         }
-        self.file.try_lock()
     }
 
     /// Takes the lock if it is free.

@@ -17,10 +17,6 @@ pub enum Point {
 
 /// Is told of the [`Point`]s that a worker comes to, and may hold the worker there.
 pub trait Hold {
-    /// Whether it may hold a worker at a point other than [`Point::BeforeReply`]. If not, a worker that holds the lock of
-    /// a file also makes steps and calls of other workers' requests, and calls [`Hold::at`] for none of these.
-    fn may_hold(&self) -> bool;
-
     /// The worker of this number is at this point. It goes on when the call returns.
     fn at(&self, worker: u8, point: Point);
 }
@@ -30,9 +26,5 @@ pub trait Hold {
 pub struct NoHold;
 
 impl Hold for NoHold {
-    fn may_hold(&self) -> bool {
-        false
-    }
-
     fn at(&self, _worker: u8, _point: Point) {}
 }

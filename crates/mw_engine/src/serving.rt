@@ -15,6 +15,7 @@ ghost use Rattle.mw_engine.specs.Steps.{IsSameRequest};
 
 use crate::brand::EngineBrand;
 use crate::engine::Engine;
+use crate::file_calls::due_call;
 use crate::hold::{Hold, Point};
 use mw_actor::{Actor, Point as Step};
 use mw_core::Pass;
@@ -44,6 +45,7 @@ impl<J: EngineBrand, D: Disk + Drop, H: Hold + Drop> Engine<J, D, H> {
         for _ in rt.forever() {
             if let Some(reply) = actor.reply() {
                 pass.rest(&actor);
+                self.depart(rt, pass.worker(), tenant);
                 self.hold.at(pass.worker(), Point::BeforeReply);
                 return reply;
             }
@@ -52,8 +54,8 @@ impl<J: EngineBrand, D: Disk + Drop, H: Hold + Drop> Engine<J, D, H> {
         unreachable!()
     }
 
-    /// Makes the next step of a request that has no reply yet, or its call on its tenant's file. If the hold may
-    /// hold nobody before a call, `combine` makes it, and may make later ones too.
+    /// Makes the next step of a request that has no reply yet, or its call on its tenant's file, alone or along with
+    /// those of others.
     fn go_on(&self, rt: &impl Wait, pass: &mut Pass, actor: &mut Actor)
         requires own { IsPassOf J.identity pass.old }
         requires carried { IsCarried pass.old actor.old }
@@ -65,15 +67,14 @@ impl<J: EngineBrand, D: Disk + Drop, H: Hold + Drop> Engine<J, D, H> {
         ensures way { IsOnItsWay actor.old.job actor.old.point → IsOnItsWay actor.new.job actor.new.point }
         ensures carried { IsCarried pass.new actor.new }
     {
+        if let Some(due) = due_call(actor) {
+            self.hold_before(pass, due.call);
+            self.combine(rt, pass, actor, due);
+            return;
+        }
         let was_planting = is_planting(actor);
-        if let Some(call) = self.words.core.step(pass, actor) {
-            self.hold_before(pass, call);
-            if self.hold.may_hold() {
-                self.file(rt, pass, actor);
-            } else {
-                self.combine(rt, pass, actor);
-            }
-        } else if was_planting && has_planted(actor) {
+        self.words.core.step(pass, actor);
+        if was_planting && has_planted(actor) {
             self.hold.at(pass.worker(), Point::Planted);
         }
     }

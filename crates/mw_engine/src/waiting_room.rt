@@ -1,34 +1,61 @@
-//! Who waits for a tenant's file: workers, whose requests the holder of its lock goes on with, and changes, whose
+//! Who waits for a tenant's file: workers, one of whose calls whoever gets the file's lock makes next, and changes, whose
 //! records a call on the file writes along with its own bytes.
 //!
-//! Used by: `file_lock`, `guarded_file`, `start`, `file_calls`, `combiner`. No contract says who is there: a call on a
-//! book takes the changes that it can use, and leaves the rest to their own prepares.
+//! Used by: `file_lock`, `guarded_file`, `start`, `combiner`. No contract says who is there: a call on a book takes the
+//! changes that it can use, and leaves the rest to their own prepares. A worker that nobody serves tries the lock itself.
+use crate::brand::EngineBrand;
+use crate::errand_boxes::ErrandBox;
+use crate::hints::Hints;
+use crate::order::{Choosing, Waiter, next_of};
 use arrayvec::ArrayVec;
-use mw_book::MOST_AHEAD;
+use mw_book::Book;
 use mw_core::Waiting;
+use mw_disk::Disk;
+use mw_look::Call;
 use mw_words::{MAX_WORKERS, copy_of};
 use std::sync::{Mutex, Wait};
 
 /// The most that wait: one for each worker.
 const MOST_WAITING: usize = MAX_WORKERS as usize;
 
+/// How many of the workers whose calls others have made are woken at once. Each of these wakes another.
+const WOKEN_FIRST: usize = 3;
+
 /// Some of the changes that wait for a file.
 pub(crate) type WaitingChanges = ArrayVec<Waiting, MOST_WAITING>;
 
-/// Some of the workers that wait for a file, in the order in which they came.
+/// Some workers.
 pub(crate) type Workers = ArrayVec<u8, MOST_WAITING>;
 
-/// The changes that came since a holder of the lock last called them, and the workers that wait.
+/// Who is in a room.
 #[derive(Drop)]
 struct Waits {
+    /// The changes that came since a holder of the lock last looked.
     changes: WaitingChanges,
-    workers: Workers,
+    /// The workers that wait for a call, in the order in which they came.
+    waiters: ArrayVec<Waiter, MOST_WAITING>,
+    /// The workers whose changes others have sealed. They are woken when these are settled in the file.
+    sealed: Workers,
+    /// The workers whose calls others have made, and who are to be woken.
+    served: Workers,
+}
+
+/// What a worker finds that may make a call for those that wait.
+#[derive(Clone, Copy, PartialEq, Eq)]
+pub(crate) enum Look {
+    /// A call may be made now.
+    Ready,
+    /// None may be made yet.
+    Later,
+    /// Nobody waits.
+    Nobody,
 }
 
 /// The room of a file.
 #[derive(Drop)]
 pub(crate) struct WaitingRoom {
     waits: Mutex<Waits>,
+    hints: Hints,
 }
 
 impl WaitingRoom {
@@ -37,84 +64,295 @@ impl WaitingRoom {
         WaitingRoom {
             waits: Mutex::new(Waits {
                 changes: WaitingChanges::new(),
-                workers: Workers::new(),
+                waiters: ArrayVec::new(),
+                sealed: Workers::new(),
+                served: Workers::new(),
             }),
+            hints: Hints::new(),
         }
     }
 
-    /// Lets a worker wait here, and its change if it has one. If there is no room for the change, its own prepare writes
-    /// its record. If there is none for the worker, nobody rings for it: it then tries the lock ten times a second.
-    pub(crate) fn enter(&self, rt: &impl Wait, worker: u8, change: Option<Waiting>) {
-        let mut waits = self.waits.lock(rt);
-        if !waits.workers.is_full() {
-            waits.workers.push(worker);
+    /// Whether a worker that comes to a call may try the file's lock at once. Else it waits here, so that its call goes
+    /// along with another one's.
+    pub(crate) fn may_try(&self, waiter: &Waiter) -> bool {
+        self.hints.come(waiter.worker);
+        if self.hints.is_syncing() {
+            return false;
         }
+        !waiter.syncs(&self.hints) || self.hints.is_nobody_waiting() && waiter.is_next(&self.hints)
+    }
+
+    /// Lets a worker wait here, and its change if it has one. Tells whether there was room for the worker. If there is
+    /// none for the change, its own prepare writes its record.
+    pub(crate) fn enter(&self, rt: &impl Wait, waiter: Waiter, change: Option<Waiting>) -> bool {
+        let mut waits = self.waits.lock(rt);
+        if waits.waiters.is_full() {
+            return false;
+        }
+        waits.waiters.push(waiter);
         if let Some(change) = change {
             if !waits.changes.is_full() {
                 waits.changes.push(change);
             }
         }
+        self.count(&waits);
+        true
     }
 
-    /// Adds the changes that wait here to a list of those that wait, until it is full, and takes them out of the room.
-    /// Tells how many workers wait here: the list has the changes of all of these.
-    pub(crate) fn take_changes(&self, rt: &impl Wait, called: &mut WaitingChanges) -> usize {
-        let mut waits = self.waits.lock(rt);
-        for waiting in waits.changes.as_slice() {
-            if !called.is_full() {
-                called.push(copied(waiting));
-            }
+    /// Takes the worker out of the room whose call is made next, if one may be made, and adds the changes that wait here
+    /// to a list. If the call syncs, the first workers that were served are to be woken meanwhile, and are added to
+    /// `woken`. The caller has the file's lock.
+    pub(crate) fn choose(
+        &self,
+        rt: &impl Wait,
+        choosing: Choosing,
+        called: &mut WaitingChanges,
+        woken: &mut Workers,
+    ) -> Option<Waiter> {
+        if choosing == Choosing::Any {
+            self.hints.give_up();
         }
-        waits.changes.clear();
-        waits.workers.len()
+        let mut waits = self.waits.lock(rt);
+        let place = next_of(waits.waiters.as_slice(), choosing, &self.hints)?;
+        let waiter = waits.waiters.pop_at(place)?;
+        move_changes(&mut waits.changes, called);
+        if waiter.syncs(&self.hints) {
+            take_first(&mut waits.served, woken);
+        }
+        self.count(&waits);
+        Some(waiter)
     }
 
-    /// Moves so many workers, those that came first, from the room to a list.
-    pub(crate) fn take_workers(&self, rt: &impl Wait, count: usize, called: &mut Workers) {
-        let mut waits = self.waits.lock(rt);
-        for _ in 0..count {
-            if called.is_full() {
-                return;
-            }
-            let Some(worker) = waits.workers.pop_at(0) else {
-                return;
-            };
-            called.push(worker);
+    /// Whether one of the calls that wait may be made now.
+    pub(crate) fn look(&self, rt: &impl Wait, choosing: Choosing) -> Look {
+        if self.hints.is_nobody_waiting() {
+            return Look::Nobody;
+        }
+        let waits = self.waits.lock(rt);
+        match next_of(waits.waiters.as_slice(), choosing, &self.hints) {
+            Some(_) => Look::Ready,
+            None => Look::Later,
         }
     }
 
-    /// Takes a worker out of the room, if it is there.
-    pub(crate) fn leave(&self, rt: &impl Wait, worker: u8) {
-        let mut waits = self.waits.lock(rt);
-        if let Some(index) = waits.workers.iter().position(|one| *one == worker) {
-            waits.workers.pop_at(index);
+    /// A call is about to be made. The caller has the file's lock.
+    pub(crate) fn begin(&self, waiter: &Waiter) {
+        if waiter.syncs(&self.hints) {
+            self.hints.set_syncing(true);
         }
     }
 
-    /// The worker that came first of those that wait here.
-    pub(crate) fn first(&self, rt: &impl Wait) -> Option<u8> {
-        self.waits.lock(rt).workers.as_slice().get(0).copied()
+    /// A worker's own thread made its call on this book. Strikes those off the list of changes that wait whose records the
+    /// book has by now. The caller has the file's lock.
+    pub(crate) fn end<D: Disk>(
+        &self,
+        rt: &impl Wait,
+        waiter: &Waiter,
+        book: &Book<D>,
+        called: &mut WaitingChanges,
+    ) {
+        let has_settled = self.note(waiter);
+        if called.is_empty() && (!has_settled || self.hints.is_nobody_served()) {
+            return;
+        }
+        let mut waits = self.waits.lock(rt);
+        if has_settled {
+            wake_sealed(&mut waits);
+        }
+        strike_off_written(called, book, waits.waiters.as_mut_slice());
+        self.count(&waits);
+    }
+
+    /// The same of a call that another thread made, for a request in a box. The box then tells that the call was made. Its worker
+    /// is woken later, and whoever wakes it finds it in the room.
+    pub(crate) fn end_for<J: EngineBrand, D: Disk>(
+        &self,
+        rt: &impl Wait,
+        waiter: &Waiter,
+        book: &Book<D>,
+        called: &mut WaitingChanges,
+        own_box: &ErrandBox<J>,
+    ) {
+        let has_settled = self.note(waiter);
+        let mut waits = self.waits.lock(rt);
+        if has_settled {
+            wake_sealed(&mut waits);
+        }
+        add_served(&mut waits, waiter);
+        own_box.end();
+        strike_off_written(called, book, waits.waiters.as_mut_slice());
+        self.count(&waits);
+    }
+
+    /// A worker has taken its request back, whose call another one made. Gives a worker that it wakes.
+    pub(crate) fn take_back(&self, rt: &impl Wait, worker: u8) -> Option<u8> {
+        let mut waits = self.waits.lock(rt);
+        remove(&mut waits.served, worker);
+        remove(&mut waits.sealed, worker);
+        let next = waits.served.pop_at(0);
+        self.count(&waits);
+        next
+    }
+
+    /// Gives the first of the workers whose calls were made, to be woken.
+    pub(crate) fn woken(&self, rt: &impl Wait) -> Workers {
+        let mut woken = Workers::new();
+        if self.hints.is_nobody_served() {
+            return woken;
+        }
+        let mut waits = self.waits.lock(rt);
+        take_first(&mut waits.served, &mut woken);
+        self.count(&waits);
+        woken
+    }
+
+    /// A worker goes that comes back to the file soon. If others wait, it wakes none of them yet.
+    pub(crate) fn owe(&self, worker: u8) {
+        if !self.is_empty() {
+            self.hints.owe(worker);
+        }
+    }
+
+    /// A worker's request has its reply. If others waited for it to come back to the file, gives one that is woken.
+    pub(crate) fn depart(&self, rt: &impl Wait, worker: u8) -> Option<u8> {
+        if self.hints.come(worker) {
+            self.next(rt)
+        } else {
+            None
+        }
+    }
+
+    /// A worker to be woken when nobody else is to come: the first of those that wait here, else of those whose changes are
+    /// sealed.
+    pub(crate) fn next(&self, rt: &impl Wait) -> Option<u8> {
+        if self.is_empty() || !self.hints.expects_nobody() {
+            return None;
+        }
+        let waits = self.waits.lock(rt);
+        match waits.waiters.as_slice().get(0) {
+            Some(waiter) => Some(waiter.worker),
+            None => waits.sealed.as_slice().get(0).copied(),
+        }
+    }
+
+    /// Whether nobody is here.
+    pub(crate) fn is_empty(&self) -> bool {
+        self.hints.is_nobody_waiting() && self.hints.is_nobody_served()
+    }
+
+    /// Notes what a call that was made leaves. Tells whether it settled all sealed changes.
+    fn note(&self, waiter: &Waiter) -> bool {
+        let has_settled = matches!(waiter.call, Call::Settle) && waiter.syncs(&self.hints);
+        match waiter.call {
+            Call::Prepare => self.hints.expect(waiter.worker),
+            Call::Seal => self.hints.seal(waiter.slot),
+            Call::Settle | Call::Cancel => {}
+        }
+        if has_settled {
+            self.hints.settle();
+        }
+        self.hints.set_syncing(false);
+        has_settled
+    }
+
+    /// Notes how many are here, for those who don't look.
+    fn count(&self, waits: &Waits) {
+        let served = waits.served.len().saturating_add(waits.sealed.len());
+        self.hints.count(waits.waiters.len(), served);
     }
 }
 
-/// Copies a change that waits.
-fn copied(waiting: &Waiting) -> Waiting {
-    Waiting {
-        slot: waiting.slot,
-        entries: copy_of(&waiting.entries),
+/// Adds a worker whose call another one made to those that are woken: that of a seal once its change is settled in the file,
+/// that of a prepare before those that have only their replies left.
+fn add_served(waits: &mut Waits, waiter: &Waiter) {
+    if waits.served.is_full() || waits.sealed.is_full() {
+        return;
+    }
+    match waiter.call {
+        Call::Seal => waits.sealed.push(waiter.worker),
+        Call::Prepare => waits.served.insert(0, waiter.worker),
+        Call::Settle | Call::Cancel => waits.served.push(waiter.worker),
     }
 }
 
-/// Strikes those off a list of changes that wait whose records a seal of another change has just written: the first ones, as
-/// many as a call writes. If there was no place for a record, the change's own prepare writes it.
-pub(crate) fn strike_off_written(called: &mut WaitingChanges) {
-    let written = called.len().min(MOST_AHEAD);
-    drop(called.drain(..written));
+/// Moves the changes that wait to a list, until it is full.
+fn move_changes(changes: &mut WaitingChanges, called: &mut WaitingChanges) {
+    for change in changes.as_slice() {
+        if !called.is_full() {
+            called.push(Waiting {
+                slot: change.slot,
+                entries: copy_of(&change.entries),
+            });
+        }
+    }
+    changes.clear();
 }
 
-/// Strikes the change of a slot off a list of those that wait, if it is there. The last of the list takes its place.
+/// Strikes those off a list of changes that wait whose records a book has: their prepares need no sync.
+fn strike_off_written<D: Disk>(
+    called: &mut WaitingChanges,
+    book: &Book<D>,
+    waiters: &mut [Waiter],
+) {
+    for place in (0..called.len()).rev() {
+        if let Some(slot) = written_slot(called.as_slice(), place, book) {
+            note_written(waiters, slot);
+            called.pop_at(place);
+        }
+    }
+}
+
+/// The slot of the change at a place of a list, if a book has its record.
+fn written_slot<D: Disk>(called: &[Waiting], place: usize, book: &Book<D>) -> Option<u8> {
+    let change = called.get(place)?;
+    if book.has_written(change.slot, &change.entries) {
+        Some(change.slot)
+    } else {
+        None
+    }
+}
+
+/// Notes that the record of a slot's change is written, for the worker that waits with its prepare.
+fn note_written(waiters: &mut [Waiter], slot: u8) {
+    for waiter in waiters {
+        if waiter.slot == slot && matches!(waiter.call, Call::Prepare) {
+            waiter.is_written = true;
+        }
+    }
+}
+
+/// Strikes the change of a slot off a list of those that wait, if it is there.
 pub(crate) fn strike_off(called: &mut WaitingChanges, slot: u8) {
     if let Some(index) = called.iter().position(|waiting| waiting.slot == slot) {
-        called.swap_pop(index);
+        called.pop_at(index);
+    }
+}
+
+/// Has the workers be woken whose changes others have sealed.
+fn wake_sealed(waits: &mut Waits) {
+    for worker in waits.sealed.as_slice() {
+        if !waits.served.is_full() {
+            waits.served.push(*worker);
+        }
+    }
+    waits.sealed.clear();
+}
+
+/// Moves the first workers to another list.
+fn take_first(served: &mut Workers, woken: &mut Workers) {
+    for _ in 0..WOKEN_FIRST {
+        if woken.is_full() {
+            return;
+        }
+        if let Some(worker) = served.pop_at(0) {
+            woken.push(worker);
+        }
+    }
+}
+
+/// Removes a worker from a list, if it is there.
+fn remove(workers: &mut Workers, worker: u8) {
+    if let Some(index) = workers.iter().position(|one| *one == worker) {
+        workers.pop_at(index);
     }
 }

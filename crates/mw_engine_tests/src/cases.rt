@@ -12,6 +12,7 @@ use crate::disks::{have_words, new_disks};
 use crate::latch::{ByLatch, Latch, LatchedDisk, Place};
 use crate::peers::Peer;
 use crate::races::{Race, is_run};
+use crate::rings::{RING, is_closed};
 use crate::starts::{Started, start};
 use crate::talks::{Story, Talk, are_served, are_told, is_played};
 use crate::twins::{answer_alike, leave_the_same_words, new_plain};
@@ -52,6 +53,8 @@ pub(crate) enum Play<'c> {
     Story(Story<'c>),
     /// They count up words at once.
     Race(Race),
+    /// Eight workers each change a word and the next one's word, all at once. One word after the other is asked for.
+    Ring,
     /// They make requests by turns, all made from this number. The plain store over files of its own must
     /// reply the same, and leave files with the same words.
     Beside(&'c u64),
@@ -70,6 +73,24 @@ pub(crate) struct Case<'c> {
     pub(crate) words: &'c [&'c [u64]],
 }
 
+impl Case<'_> {
+    /// How many workers there are.
+    pub(crate) fn workers(&self) -> u8 {
+        match self.play {
+            Play::Ring => RING,
+            _ => 4,
+        }
+    }
+
+    /// Whether workers gather while a sync is held.
+    fn gathers(&self) -> bool {
+        match &self.play {
+            Play::Story(story) => story.gathers,
+            _ => false,
+        }
+    }
+}
+
 /// Reads the lines of a case's tenants file. The pool has room for their quotas. Gives None if one of them
 /// isn't permitted.
 pub(crate) fn lines_of(case: &Case<'_>) -> Option<ArrayVec<TenantLine, MAX_TENANTS>>
@@ -86,6 +107,7 @@ pub(crate) fn lines_of(case: &Case<'_>) -> Option<ArrayVec<TenantLine, MAX_TENAN
 fn latch_of(case: &Case<'_>) -> Latch {
     match &case.play {
         Play::Story(story) => Latch::new(story.place),
+        Play::Ring => Latch::new(Place::Sync),
         _ => Latch::new(Place::Nowhere),
     }
 }
@@ -93,12 +115,18 @@ fn latch_of(case: &Case<'_>) -> Latch {
 /// Tells whether a case comes out as it says. Gives false also if memory is refused.
 pub(crate) fn is_so<R: Threads + Wait + Sync>(rt: &R, alloc: Global, case: &Case<'_>) -> bool {
     let latch = latch_of(case);
-    let Some(disks) = new_disks(alloc, case, &latch) else {
+    let second = Latch::new(Place::Sync);
+    let gathering = if case.gathers() { Some(&second) } else { None };
+    let Some(disks) = new_disks(alloc, case, gathering.unwrap_or(&latch)) else {
         return false;
     };
-    match start(alloc, case, disks, &latch) {
+    let hold = ByLatch {
+        latch: &latch,
+        gathering,
+    };
+    match start(alloc, case, disks, hold) {
         Some(Started { parts, passes }) => {
-            is_so_of::<Brand, R>(rt, alloc, parts, passes, case, &latch)
+            is_so_of::<Brand, R>(rt, alloc, parts, passes, case, &latch, &second)
         }
         None => false,
     }
@@ -112,6 +140,7 @@ fn is_so_of<'l, J: EngineBrand + Send + Sync, R: Threads + Wait + Sync>(
     passes: Vec<Pass>,
     case: &Case<'_>,
     latch: &Latch,
+    second: &Latch,
 ) -> bool
     requires same { identity_of parts ≡ J.identity }
     requires passes { All (IsNew J.identity) passes.items }
@@ -121,7 +150,7 @@ fn is_so_of<'l, J: EngineBrand + Send + Sync, R: Threads + Wait + Sync>(
     };
     let mut plain = plain_beside(alloc, case, latch);
     let Some((is_done, mut pass)) = done_by_workers(
-        rt, alloc, &engine, passes, case, latch, &mut plain,
+        rt, alloc, &engine, passes, case, latch, second, &mut plain,
     ) else {
         return false;
     };
@@ -140,6 +169,7 @@ fn done_by_workers<J: EngineBrand + Send + Sync, R: Threads + Wait + Sync>(
     passes: Vec<Pass>,
     case: &Case<'_>,
     latch: &Latch,
+    second: &Latch,
     plain: &mut Option<Plain<LatchedDisk<'_>>>,
 ) -> Option<(bool, Pass)>
     requires passes { All (IsNew J.identity) passes.items }
@@ -147,7 +177,10 @@ fn done_by_workers<J: EngineBrand + Send + Sync, R: Threads + Wait + Sync>(
 {
     let mut workers = workers_of(rt, alloc, engine, passes)?;
     let pass = workers.pop()?.into_pass();
-    Some((is_done(rt, alloc, workers, case, latch, plain), pass))
+    Some((
+        is_done(rt, alloc, workers, case, latch, second, plain),
+        pass,
+    ))
 }
 
 /// Makes the plain store that is asked beside the engine. Gives None if the case has none, or memory is
@@ -184,13 +217,15 @@ fn is_done<J: EngineBrand + Send + Sync, R: Threads + Wait + Sync>(
     workers: Vec<Worker<'_, '_, J, R>>,
     case: &Case<'_>,
     latch: &Latch,
+    second: &Latch,
     plain: &mut Option<Plain<LatchedDisk<'_>>>,
 ) -> bool {
     match &case.play {
         Play::Talks(talks) => are_told(alloc, workers, talks),
         Play::Peers(peers) => are_served(alloc, workers, peers),
-        Play::Story(story) => is_played(rt, alloc, workers, story, latch),
+        Play::Story(story) => is_played(rt, alloc, workers, story, latch, second),
         Play::Race(race) => is_run(rt, workers, *race),
+        Play::Ring => is_closed(rt, workers, latch),
         Play::Beside(first) => match plain {
             Some(plain) => answer_alike(workers, plain, **first),
             None => false,

@@ -48,6 +48,7 @@ fn happens<R: Threads + Wait + Sync>(
     let story = Story {
         place,
         before,
+        gathers: false,
         talks: &[meanwhile.held, meanwhile.beside, NEIGHBOUR],
     };
     let case = Case {
@@ -202,6 +203,7 @@ fn second_change_is<R: Threads + Wait + Sync>(
     let story = Story {
         place: Place::AllButOne(Point::BeforeSettle),
         before: 0,
+        gathers: false,
         talks: &[first, beside, third, fourth],
     };
     let case = Case {
@@ -221,4 +223,48 @@ fn second_change_is<R: Threads + Wait + Sync>(
 fn one_settle_for_all_sealed_changes(rt: HostRuntime) {
     assert!(rt; second_change_is(&rt, rt.alloc(), 30, b"OK 4\nYES\nFAULT\n", 2));
     assert!(rt; second_change_is(&rt, rt.alloc(), 31, b"OK 4\nYES\nYES\n", 2));
+}
+
+/// Worker 0 is held at a point. Meanwhile two others come to their seals while a sync of a third one is under way, so they
+/// wait for the file. All three are answered, and so is the third one's next change.
+#[test]
+fn waiting_workers_pass_a_held_one(rt: HostRuntime) {
+    for point in [
+        Point::Planted,
+        Point::BeforeSeal,
+        Point::BeforeSettle,
+        Point::BeforeReply,
+    ] {
+        let story = Story {
+            place: Place::At(point),
+            before: 0,
+            gathers: true,
+            talks: &[
+                Talk {
+                    says: b"TENANT t\nCAS 0:0:1\n",
+                    told: b"OK 4\nYES\n",
+                },
+                Talk {
+                    says: b"TENANT t\nCAS 1:0:1\n",
+                    told: b"OK 4\nYES\n",
+                },
+                Talk {
+                    says: b"TENANT t\nCAS 2:0:1\n",
+                    told: b"OK 4\nYES\n",
+                },
+                Talk {
+                    says: b"TENANT t\nCAS 3:0:1\nCAS 3:1:2\n",
+                    told: b"OK 4\nYES\nYES\n",
+                },
+            ],
+        };
+        let case = Case {
+            tenants: b"t 4 4 t.mw\n",
+            pool: 4,
+            devices: &[Device::Sound],
+            play: Play::Story(story),
+            words: &[&[1, 1, 1, 2]],
+        };
+        assert!(rt; is_so(&rt, rt.alloc(), &case), "{point:?}");
+    }
 }

@@ -22,7 +22,7 @@ pub(crate) enum Place {
     At(Point),
     /// Any worker is at this point.
     Anyone(Point),
-    /// Each worker but worker 1 is at this point for the first time. All of them are stopped.
+    /// Each worker but worker 1 is at this point for the first time. All of them are stopped, one after the other.
     AllButOne(Point),
     /// A worker is about to write to a disk.
     Write,
@@ -46,6 +46,8 @@ pub(crate) struct Latch {
     others: AtomicU64,
     is_open: AtomicBool,
     has_expired: AtomicBool,
+    /// How many have gathered.
+    gathered: AtomicU64,
 }
 
 impl Latch {
@@ -60,6 +62,7 @@ impl Latch {
             others: AtomicU64::new(0),
             is_open: AtomicBool::new(false),
             has_expired: AtomicBool::new(false),
+            gathered: AtomicU64::new(0),
         }
     }
 
@@ -82,14 +85,21 @@ impl Latch {
         matches!(self.place, Place::AllButOne(_))
     }
 
-    /// Tells whether the latch is at a point of a request before its reply. Then no worker makes another one's calls.
-    fn is_before_a_call(&self) -> bool {
-        match self.place {
-            Place::At(point) | Place::Anyone(point) | Place::AllButOne(point) => {
-                point != Point::BeforeReply
-            }
-            Place::Nowhere | Place::Write | Place::Sync => false,
-        }
+    /// Waits until so many have come to the latch. Gives false if they haven't.
+    pub(crate) fn meets(&self, count: u64) -> bool {
+        comes_to(&self.came, count)
+    }
+
+    /// Gathers: one of the others waits until the one that the latch stops has come, and leaves.
+    fn gather(&self) {
+        self.gathered.fetch_add(1, Ordering::SeqCst);
+        self.stops_one();
+        self.leave();
+    }
+
+    /// Waits until so many have gathered. Gives false if they haven't.
+    pub(crate) fn has_gathered(&self, count: u64) -> bool {
+        comes_to(&self.gathered, count)
     }
 
     /// Comes to the latch if this is its place.
@@ -145,17 +155,26 @@ fn comes_true(flag: &AtomicBool) -> bool {
     false
 }
 
-/// Has workers come to a latch at each point of their requests.
+/// Waits until a counter has come to this count. Gives false if the turns are used up before.
+fn comes_to(counter: &AtomicU64, count: u64) -> bool {
+    for _ in 0..MOST_TURNS {
+        if counter.load(Ordering::SeqCst) >= count {
+            return true;
+        }
+        thread::yield_now();
+    }
+    false
+}
+
+/// Has workers come to a latch at each point of their requests. If there is a second latch, workers 1 and 2 gather there
+/// before they seal.
 #[derive(Drop)]
 pub(crate) struct ByLatch<'l> {
     pub(crate) latch: &'l Latch,
+    pub(crate) gathering: Option<&'l Latch>,
 }
 
 impl Hold for ByLatch<'_> {
-    fn may_hold(&self) -> bool {
-        self.latch.is_before_a_call()
-    }
-
     fn at(&self, worker: u8, point: Point) {
         self.latch.meet(Place::Anyone(point));
         if worker == 0 {
@@ -163,6 +182,11 @@ impl Hold for ByLatch<'_> {
         }
         if worker != 1 {
             self.latch.meet(Place::AllButOne(point));
+        }
+        if let Some(gathering) = self.gathering {
+            if point == Point::BeforeSeal && (worker == 1 || worker == 2) {
+                gathering.gather();
+            }
         }
     }
 }

@@ -20,6 +20,8 @@ mod race_tests;
 #[cfg(test)]
 mod races;
 #[cfg(test)]
+mod rings;
+#[cfg(test)]
 mod session_tests;
 #[cfg(test)]
 mod socket_tests;

@@ -37,3 +37,16 @@ fn two_tenants_at_once(rt: HostRuntime) {
     };
     assert!(rt; is_so(&rt, rt.alloc(), &case));
 }
+
+/// Eight workers change a word and the next one's word, while the first sync is held until all have come.
+#[test]
+fn a_ring_of_eight(rt: HostRuntime) {
+    let case = Case {
+        tenants: b"t 8 8 t.mw\n",
+        pool: 8,
+        devices: &[Device::Sound],
+        play: Play::Ring,
+        words: &[&[]],
+    };
+    assert!(rt; is_so(&rt, rt.alloc(), &case));
+}

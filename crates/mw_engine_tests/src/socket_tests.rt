@@ -176,7 +176,11 @@ where
     let Some(disks) = new_disks(alloc, &case, &latch) else {
         return false;
     };
-    match start(alloc, &case, disks, &latch) {
+    let hold = ByLatch {
+        latch: &latch,
+        gathering: None,
+    };
+    match start(alloc, &case, disks, hold) {
         Some(Started { parts, passes }) => {
             happens_to::<Brand, R>(rt, alloc, parts, passes, &case, &latch)
         }

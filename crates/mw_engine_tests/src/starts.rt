@@ -7,7 +7,7 @@ ghost use Rattle.mw_engine.specs.Passes.{IsNew};
 ghost use Rattle.mw_engine.specs.Parts.{identity_of};
 
 use crate::cases::{Case, lines_of};
-use crate::latch::{ByLatch, Latch, LatchedDisk};
+use crate::latch::{ByLatch, LatchedDisk};
 use mw_config::TenantLine;
 use mw_disk::Disk;
 use mw_engine::{EngineParts, Pass};
@@ -78,21 +78,20 @@ pub(crate) struct Started<'l> {
     pub(crate) passes: Vec<Pass>,
 }
 
-/// How many passes an engine has: those of four workers, and one that sees the files in the end.
-const PASSES: u8 = 5;
-
-/// Starts an engine of a case's tenants, whose files are on these disks. Gives None if memory is refused.
+/// Starts an engine of a case's tenants, whose files are on these disks. It has a pass for each of the case's workers, and one
+/// that sees the files in the end. Gives None if memory is refused.
 pub(crate) fn start<'l>(
     alloc: Global,
     case: &Case<'_>,
     disks: Vec<Option<LatchedDisk<'l>>>,
-    latch: &'l Latch,
+    hold: ByLatch<'l>,
 ) -> Option<Started<'l>>
     ensures { IfSome result (λ started. All (IsNew (identity_of started.parts)) started.passes.items) }
 {
     let lines = lines_of(case)?;
     let files = all_opened(alloc, &lines, disks)?;
-    match EngineParts::new(alloc, &lines, files, case.pool, PASSES, ByLatch { latch }) {
+    let passes = case.workers().saturating_add(1);
+    match EngineParts::new(alloc, &lines, files, case.pool, passes, hold) {
         Ok(made) => {
             let (parts, passes) = made;
             Some(Started { parts, passes })

@@ -72,6 +72,9 @@ pub(crate) struct Story<'c> {
     pub(crate) place: Place,
     /// How many come there before it.
     pub(crate) before: u64,
+    /// Whether workers 1 and 2 gather meanwhile with their seals, until a sync of worker 3 is under way. It lasts until both
+    /// go on.
+    pub(crate) gathers: bool,
     /// The talks, each of another worker.
     pub(crate) talks: &'c [Talk],
 }
@@ -81,16 +84,29 @@ pub(crate) struct Story<'c> {
 fn plays<J: EngineBrand, R: Wait>(
     alloc: Global,
     mut worker: Worker<'_, '_, J, R>,
-    talks: &[Talk],
+    story: &Story<'_>,
     latch: &Latch,
+    second: &Latch,
 ) -> bool {
-    if worker.number() == 0 || latch.holds_all_but_one() && worker.number() != 1 {
-        return is_told(alloc, &mut worker, talks);
+    let talks = story.talks;
+    let number = worker.number() as u64;
+    if number == 0 || latch.holds_all_but_one() && number != 1 {
+        // Whoever comes later begins when those before it are stopped.
+        let is_next = latch.meets(number.saturating_sub(1));
+        return is_next && is_told(alloc, &mut worker, talks);
     }
     let has_stopped = latch.stops_one();
+    let is_next = !story.gathers || number != 3 || begins_sync(second);
     let told = is_told(alloc, &mut worker, talks);
     latch.leave();
-    has_stopped && told
+    has_stopped && is_next && told
+}
+
+/// Waits until two workers have gathered. Then the next sync is held.
+fn begins_sync(second: &Latch) -> bool {
+    let have_gathered = second.has_gathered(2);
+    second.set(0, 3);
+    have_gathered
 }
 
 /// Tells whether all workers of a story are told what they must be told, and those that are held were until the others
@@ -101,11 +117,18 @@ pub(crate) fn is_played<J: EngineBrand + Send + Sync, R: Threads + Wait + Sync>(
     workers: Vec<Worker<'_, '_, J, R>>,
     story: &Story<'_>,
     latch: &Latch,
+    second: &Latch,
 ) -> bool {
-    let talks = story.talks;
     latch.set(story.before, workers.len() as u64);
-    match thread::map_vec(rt, workers, &|worker| plays(alloc, worker, talks, latch)) {
-        Ok(told) => !told.as_slice().contains(&false) && latch.has_held(),
+    match thread::map_vec(
+        rt,
+        workers,
+        &|worker| plays(alloc, worker, story, latch, second),
+    ) {
+        Ok(told) => {
+            let have_held = latch.has_held() && (!story.gathers || second.has_held());
+            have_held && !told.as_slice().contains(&false)
+        }
         Err(_) => false,
     }
 }

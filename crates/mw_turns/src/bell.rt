@@ -6,9 +6,6 @@ use std::sync::Wait;
 use std::sync::atomic::{AtomicU64, Ordering};
 use std::time::Duration;
 
-/// How many milliseconds a thread sleeps at most, before it looks again whether there is something to do.
-const LONGEST_SLEEP: u64 = 100;
-
 /// A bell. A thread that sleeps by it wakes when it is rung.
 ///
 /// A thread first listens, then looks whether there is something to do, and only then sleeps. So a ring between the look
@@ -36,10 +33,11 @@ impl Bell {
         Heard(self.rings.load(Ordering::SeqCst))
     }
 
-    /// Sleeps until the bell is rung, for a tenth of a second at most. Doesn't sleep if it was rung since `heard`. It may
-    /// end early for no reason, so the caller looks again.
-    pub fn sleep(&self, rt: &impl Wait, heard: Heard) {
-        self.rings.park_timeout(rt, low_half(heard.0), Duration::from_millis(LONGEST_SLEEP));
+    /// Sleeps until the bell is rung, for so many microseconds at most. Doesn't sleep if it was rung since `heard`. Tells
+    /// whether it was. The sleep may end early for no reason, so the caller looks again.
+    pub fn sleep(&self, rt: &impl Wait, heard: Heard, micros: u64) -> bool {
+        self.rings.park_timeout(rt, low_half(heard.0), Duration::from_micros(micros));
+        self.rings.load(Ordering::SeqCst) != heard.0
     }
 
     /// Rings the bell.

@@ -62,7 +62,7 @@ impl<T> FairLock<T> {
     }
 
     /// Takes the lock if it gets free within some microseconds. Gives up at once if it is starving.
-    fn try_lock_for_a_while(&self) -> Option<FairGuard<'_, T>> {
+    pub fn try_lock_for_a_while(&self) -> Option<FairGuard<'_, T>> {
         for _ in 0..TRIES {
             if self.queue.is_starving() {
                 return None;

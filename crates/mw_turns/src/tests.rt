@@ -12,6 +12,9 @@ use std::time::{Clock, Duration};
 /// More threads than there are words to sleep on, so that some share a word.
 const CROWD: usize = 100;
 
+/// The longest sleep by a bell, in microseconds.
+const LONGEST_SLEEP: u64 = 100_000;
+
 /// How often each of the crowd takes the lock.
 const VISITS: u64 = 200;
 
@@ -173,7 +176,7 @@ impl PingPong {
             if self.turns.load(Ordering::SeqCst) % 2 == (player % 2) as u64 {
                 return;
             }
-            self.bells[player % 2].sleep(rt, heard);
+            self.bells[player % 2].sleep(rt, heard, LONGEST_SLEEP);
         }
     }
 

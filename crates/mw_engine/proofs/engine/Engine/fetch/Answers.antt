@@ -1,11 +1,13 @@
 -- Proves goals of `Engine::fetch` (src/combiner.rt) that the check does not prove by itself. Used by: the proof of that function
 -- alone. It may change freely as long as this crate checks.
+use Rattle.mw_engine.proofs.RequestsGoOn.{goes_further, still_here}
 use Rattle.mw_engine.proofs.engine.Engine.fetch.Goals as goal
 
-pub take_turn-requires-in-Err : goal.take_turn-requires-in-Err
-take_turn-requires-in-Err g c =
+pub go_oneself-requires : goal.go_oneself-requires
+go_oneself-requires g c =
     let own = c.requires.own in
-    record { own = record { left = own.left; is = c.in-Err.ensures.kept own.left own.is } }
+    record { here = still_here g.J.EngineBrand.identity own.left.pass own.left.actor c.in-Ok.errand.pass c.in-Ok.errand.actor (c.in-Ok.ensures.taken own.left own.is) }
 
-pub returns-in-Err-clause-gone_on : goal.returns-in-Err-clause-gone_on
-returns-in-Err-clause-gone_on g c = λ left its. c.take_turn-in-Err.ensures.gone_on left (c.in-Err.ensures.kept left its)
+pub returns-in-Ok-clause-gone_on : goal.returns-in-Ok-clause-gone_on
+returns-in-Ok-clause-gone_on g c =
+    λ left its. goes_further g.J.EngineBrand.identity left.pass left.actor c.in-Ok.errand.pass c.in-Ok.errand.actor c.go_oneself.result.pass c.go_oneself.result.actor (c.in-Ok.ensures.taken left its) c.go_oneself.ensures
