@@ -1,6 +1,7 @@
 //! Tests how the pieces that a connection brings are cut into lines.
 //!
 //! Nothing else uses it: it may change with what it tests.
+use crate::checks::holds;
 use mw_frame::*;
 use mw_words::MAX_LINE;
 
@@ -105,7 +106,7 @@ fn pieces_are_cut_into_lines(rt: HostRuntime) {
     for (row, steps) in &ROWS {
         let mut feed = Feed::new(rt.alloc()).expect(&rt, "memory");
         for (at, step) in steps.iter().enumerate() {
-            assert!(rt; is_taken(&mut feed, *step), "{row}, at {at}");
+            holds(&rt, row, at, is_taken(&mut feed, *step));
         }
     }
 }

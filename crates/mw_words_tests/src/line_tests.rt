@@ -1,6 +1,7 @@
 //! Tests how lines are read, and how replies are written.
 //!
 //! Nothing else uses it: it may change with what it tests.
+use crate::checks::holds;
 use mw_line::*;
 use mw_words::{Entries, Entry, Job, MAX_LINE, Name, Reply};
 use std::process::Abort;
@@ -99,7 +100,7 @@ fn is_read(line: &[u8], asked: Asked) -> bool {
 #[test]
 fn lines_are_read(rt: HostRuntime) {
     for (line, asked) in &READ {
-        assert!(rt; is_read(line.as_bytes(), *asked), "{line}");
+        holds(&rt, line, 0, is_read(line.as_bytes(), *asked));
     }
 }
 
@@ -172,7 +173,7 @@ fn fault_of(line: &[u8]) -> u8 {
 /// Each of these lines has the fault with this number.
 fn have_fault<R: Abort>(rt: &R, number: u8, lines: &str) {
     for line in lines.split('\n') {
-        assert!(rt; fault_of(line.as_bytes()) == number, "{line}");
+        holds(rt, line, 0, fault_of(line.as_bytes()) == number);
     }
 }
 
@@ -191,7 +192,12 @@ fn lines_are_refused(rt: HostRuntime) {
     for (number, lines) in &FAULTS {
         have_fault(&rt, *number, lines);
     }
-    assert!(rt; faults_at_the_end() == [2, 6, 2]);
+    holds(
+        &rt,
+        "long lines",
+        MAX_LINE,
+        faults_at_the_end() == [2, 6, 2],
+    );
 }
 
 /// What is said, and its text.
@@ -217,7 +223,7 @@ static SAYINGS: [(Say, &str); 13] = [
 #[test]
 fn replies_are_written(rt: HostRuntime) {
     for (say, text) in &SAYINGS {
-        assert!(rt; say.text().as_slice() == text.as_bytes(), "{text}");
+        holds(&rt, text, 0, say.text().as_slice() == text.as_bytes());
     }
 }
 
@@ -230,15 +236,20 @@ static LINE_FAULTS: [(LineFault, u8); 5] = [
     (LineFault::ValueRange, 9),
 ];
 
-#[test]
-fn faults_have_numbers(rt: HostRuntime) {
-    for (fault, number) in &LINE_FAULTS {
-        assert!(rt; ErrCode::from(*fault).number() == *number, "{number}");
-    }
-    let others = [
+/// Gives the numbers of the faults that are no fault of a line alone.
+fn other_numbers() -> [u8; 3] {
+    [
         ErrCode::NotBound.number(),
         ErrCode::AlreadyBound.number(),
         ErrCode::NoSuchTenant.number(),
-    ];
-    assert!(rt; others == [3, 4, 5]);
+    ]
+}
+
+#[test]
+fn faults_have_numbers(rt: HostRuntime) {
+    for (fault, number) in &LINE_FAULTS {
+        let found = ErrCode::from(*fault).number();
+        holds(&rt, "a fault", usize::from(*number), found == *number);
+    }
+    holds(&rt, "other faults", 3, other_numbers() == [3, 4, 5]);
 }

@@ -1,6 +1,7 @@
 //! Tests the bits of the shared words, kind by kind.
 //!
 //! Nothing else uses it: it may change with what it tests.
+use crate::checks::holds;
 use mw_words::*;
 
 /// A shared word of one of the kinds.
@@ -181,7 +182,7 @@ static PATTERNS: [(Shared, u64); 25] = [
 #[test]
 fn patterns_of_shared_words(rt: HostRuntime) {
     for (at, (shared, bits)) in PATTERNS.iter().enumerate() {
-        assert!(rt; has_bits(*shared, *bits), "row {at}");
+        holds(&rt, "a row", at, has_bits(*shared, *bits));
     }
 }
 
@@ -224,7 +225,7 @@ static BEYOND: [(&str, Shared); 5] = [
 #[test]
 fn what_is_out_of_range(rt: HostRuntime) {
     for (field, shared) in &BEYOND {
-        assert!(rt; !is_in_range(*shared), "{field}");
+        holds(&rt, field, 0, !is_in_range(*shared));
     }
 }
 
@@ -272,7 +273,7 @@ static NOTHING: [(Kind, u64); 16] = [
 #[test]
 fn bits_of_nothing(rt: HostRuntime) {
     for (at, (kind, bits)) in NOTHING.iter().enumerate() {
-        assert!(rt; is_nothing(*kind, *bits), "row {at}");
+        holds(&rt, "a row", at, is_nothing(*kind, *bits));
     }
 }
 
@@ -281,5 +282,5 @@ fn places(rt: HostRuntime) {
     let first = At::Addr { slot: 1, entry: 0 };
     let is_itself = first == At::Addr { slot: 1, entry: 0 };
     let is_another = first == At::New { slot: 1, entry: 0 } || At::Door(1) == At::Gate(1);
-    assert!(rt; is_itself && !is_another);
+    holds(&rt, "places", 1, is_itself && !is_another);
 }

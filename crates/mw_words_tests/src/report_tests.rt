@@ -3,6 +3,7 @@
 //! Nothing else uses it: it may change with what it tests.
 ghost use Rattle.mw_report.specs.Table.{IsWithinLimits};
 
+use crate::checks::holds;
 use mw_report::*;
 use mw_words::{MAX_PLACES, MAX_POOL, MAX_QUOTA, MAX_WORDS, Name};
 
@@ -52,7 +53,7 @@ fn is_told(tenant: &Tenant, free: u16, wanted: &str) -> bool {
 #[test]
 fn reports_of_one_tenant(rt: HostRuntime) {
     for (tenant, free, wanted) in &ROWS {
-        assert!(rt; is_told(tenant, *free, wanted), "{free} free");
+        holds(&rt, wanted, 1, is_told(tenant, *free, wanted));
     }
 }
 
@@ -62,6 +63,6 @@ fn report_two_tenants(rt: HostRuntime) {
     let first = figures(&("t", 2, 1, 2, 0, true));
     let second = figures(&("u", 4096, 32, 64, 0, true));
     let text = report_text(&[first, second], 33);
-    let wanted = b"t                   2  1  2  0 up\nu                4096 32 64  0 up\nfree 33\n";
-    assert!(rt; text.as_slice() == wanted.as_slice());
+    let wanted = "t                   2  1  2  0 up\nu                4096 32 64  0 up\nfree 33\n";
+    holds(&rt, "a report", 2, text.as_slice() == wanted.as_bytes());
 }

@@ -1,6 +1,7 @@
 //! Tests which changes are well formed, and which texts are names.
 //!
 //! Nothing else uses it: it may change with what it tests.
+use crate::checks::holds;
 use mw_words::*;
 
 fn entry(addr: u16, new: u64) -> Entry {
@@ -57,15 +58,16 @@ fn changes_that_are_well_formed_and_not(rt: HostRuntime) {
         (&[entry(2, 1), entry(2, 1)], false),
     ];
     for (at, (entries, wanted)) in cases.iter().enumerate() {
-        assert!(rt; is_so(entries, *wanted), "row {at}");
+        holds(&rt, "a change", at, is_so(entries, *wanted));
     }
     let (last, past) = (Job::Get(3), Job::Get(4).copy());
-    assert!(rt; last.is_well_formed(4) && !past.is_well_formed(4));
+    let is_right = last.is_well_formed(4) && !past.is_well_formed(4);
+    holds(&rt, "a read", 4, is_right);
 }
 
 #[test]
 fn names(rt: HostRuntime) {
     for (text, wanted) in &NAMES {
-        assert!(rt; is_right(text.as_bytes(), *wanted), "{text}");
+        holds(&rt, text, 0, is_right(text.as_bytes(), *wanted));
     }
 }
