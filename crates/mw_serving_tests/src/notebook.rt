@@ -33,9 +33,12 @@ impl Notebook {
 
     /// Tells whether it was asked for the words at these addresses, in order, and for no more.
     pub fn was_asked_for(&self, addresses: &[u16]) -> bool {
-        let as_many = self.complete && self.notes.len() == addresses.len();
-        let mut pairs = self.notes.iter().zip(addresses);
-        as_many && pairs.all(|(note, address)| note.job == Job::Get(*address))
+        for (note, address) in self.notes.iter().zip(addresses) {
+            if note.job != Job::Get(*address) {
+                return false;
+            }
+        }
+        self.complete && self.notes.len() == addresses.len()
     }
 }
 
