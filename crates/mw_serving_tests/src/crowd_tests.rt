@@ -94,14 +94,16 @@ fn serves_all<R: Threads + Wait + Clock + AllocGlobal + Sync>(
 
 /// Gives how many clients, from the first on, were told what they must be.
 fn served_well<R: Wait>(rt: &R, answers: &[Answer<'_>], heard: &[Mutex<Heard>]) -> usize {
-    let mut well = 0usize;
-    for (answer, heard) in answers.iter().zip(heard) {
-        if !is_as_it_must(answer, *heard.lock(rt)) {
-            return well;
+    for (at, answer) in answers.iter().enumerate() {
+        let is_right = match heard.get(at) {
+            Some(heard) => is_as_it_must(answer, *heard.lock(rt)),
+            None => false,
+        };
+        if !is_right {
+            return at;
         }
-        well = well.saturating_add(1);
     }
-    well
+    answers.len()
 }
 
 /// Tells whether what a client heard is what it must hear.

@@ -33,8 +33,12 @@ impl Notebook {
 
     /// Tells whether it was asked for the words at these addresses, in order, and for no more.
     pub fn was_asked_for(&self, addresses: &[u16]) -> bool {
-        for (note, address) in self.notes.iter().zip(addresses) {
-            if note.job != Job::Get(*address) {
+        for (at, note) in self.notes.iter().enumerate() {
+            let is_right = match (&note.job, addresses.get(at)) {
+                (Job::Get(found), Some(address)) => found == address,
+                _ => false,
+            };
+            if !is_right {
                 return false;
             }
         }
