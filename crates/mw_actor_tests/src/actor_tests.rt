@@ -6,7 +6,6 @@ use crate::script::Step;
 use mw_actor::*;
 use mw_look::{Call, Got, Kind, Told};
 use mw_words::{At, Entries, Entry, Job, Reply, WORN_NUMBER};
-use std::process::Abort;
 
 // The statuses that have no fields.
 const OPEN: u64 = 0x1000_0000_0000_0000;
@@ -35,7 +34,7 @@ const TAKEN: u64 = 0x8001_0000_0000_0007;
 const PLANTED: u64 = 0x4002_0000_0000_0009;
 
 // Slot 0 is taken, so slot 1 is claimed and written.
-static OPENING: [Step; 11] = [
+const OPENING: &[Step] = &[
     Step::Load(At::Door(3), 1),
     Step::Won(Kind::Admit, At::Door(3), 1, 2),
     Step::Load(At::Gate(0), 0x8001_0000_0000_0004),
@@ -50,7 +49,7 @@ static OPENING: [Step; 11] = [
 ];
 
 // A change alone is made: it holds the word, and lets it go.
-static HOLDING: [Step; 11] = [
+const HOLDING: &[Step] = &[
     Step::Load(At::Status(1), OPEN),
     Step::Load(WORD, 5),
     Step::Won(Kind::Row, At::Row(2), 0, 0x0100_0000_0000_0007),
@@ -64,7 +63,7 @@ static HOLDING: [Step; 11] = [
     Step::File(Call::Seal, 1, true),
 ];
 
-static LETTING_GO: [Step; 10] = [
+const LETTING_GO: &[Step] = &[
     Step::Load(At::Status(1), YES),
     Step::Load(WORD, HELD),
     Step::Won(Kind::Release, WORD, HELD, DIRTY),
@@ -78,7 +77,7 @@ static LETTING_GO: [Step; 10] = [
 ];
 
 // The word has another value.
-static REFUSING: [Step; 9] = [
+const REFUSING: &[Step] = &[
     Step::Load(At::Status(1), OPEN),
     Step::Load(WORD, 11),
     Step::Won(Kind::DecideNo, At::Status(1), OPEN, 0x4000_0000_0000_000b),
@@ -91,7 +90,7 @@ static REFUSING: [Step; 9] = [
 ];
 
 // Another change is helped first.
-static HELPING: [Step; 21] = [
+const HELPING: &[Step] = &[
     Step::Load(At::Status(1), OPEN),
     Step::Load(WORD, 0x8000_0000_0000_0004),
     Step::Load(At::Gate(0), 0x8001_0000_0000_0004),
@@ -126,13 +125,13 @@ static HELPING: [Step; 21] = [
 ];
 
 // The file fails.
-static FAILING: [Step; 3] = [
+const FAILING: &[Step] = &[
     Step::Load(At::Status(1), YES_DIRTY),
     Step::File(Call::Seal, 1, false),
     Step::Load(At::Status(1), YES_DIRTY),
 ];
 
-static READING: [Step; 2] = [Step::Load(At::Door(3), 1), Step::Load(WORD, DIRTY)];
+const READING: &[Step] = &[Step::Load(At::Door(3), 1), Step::Load(WORD, DIRTY)];
 
 // Tells whether the actor asks for these steps, in this order, and has no reply before they are made.
 fn follows(actor: &mut Actor, script: &[Step]) -> bool {
@@ -147,14 +146,6 @@ fn follows(actor: &mut Actor, script: &[Step]) -> bool {
     true
 }
 
-// The actor asks for these steps, part after part, and ends with this reply.
-fn ends<R: Abort>(rt: &R, name: &str, actor: &mut Actor, parts: &[&[Step]], reply: Option<Reply>) {
-    for (index, part) in parts.iter().enumerate() {
-        assert!(rt; follows(actor, part), "{name}, part {index}");
-    }
-    assert!(rt; actor.reply() == reply, "{name}");
-}
-
 // Makes a request of worker 2 to change the word from 5 to 8, for tenant 3 with a quota of 4, in a pool of
 // 2 slots.
 fn change_of_one_word() -> Actor {
@@ -167,59 +158,67 @@ fn change_of_one_word() -> Actor {
     Actor::new(2, 3, 4, 2, Job::Cas(entries))
 }
 
+// A change: its name, the steps for which it asks, part after part, and its reply.
+type Row = (&'static str, &'static [&'static [Step]], Option<Reply>);
+
+// Tells whether the actor asks for these steps, part after part, and ends with this reply.
+fn ends(actor: &mut Actor, parts: &[&[Step]], reply: Option<Reply>) -> bool {
+    for part in parts {
+        if !follows(actor, part) {
+            return false;
+        }
+    }
+    actor.reply() == reply
+}
+
+static CHANGES: [Row; 3] = [
+    ("alone", &[OPENING, HOLDING, LETTING_GO], Some(Reply::Yes)),
+    (
+        "another value",
+        &[OPENING, REFUSING],
+        Some(Reply::No(6, 11)),
+    ),
+    ("the file fails", &[OPENING, FAILING], Some(Reply::Fault)),
+];
+
 #[test]
 fn changes_that_end(rt: HostRuntime) {
-    let mut alone = change_of_one_word();
-    let parts: [&[Step]; 3] = [&OPENING, &HOLDING, &LETTING_GO];
-    ends(&rt, "alone", &mut alone, &parts, Some(Reply::Yes));
-    let mut refused = change_of_one_word();
-    let parts: [&[Step]; 2] = [&OPENING, &REFUSING];
-    ends(
-        &rt,
-        "another value",
-        &mut refused,
-        &parts,
-        Some(Reply::No(6, 11)),
-    );
-    let mut failed = change_of_one_word();
-    let parts: [&[Step]; 2] = [&OPENING, &FAILING];
-    ends(
-        &rt,
-        "the file fails",
-        &mut failed,
-        &parts,
-        Some(Reply::Fault),
-    );
+    for (name, parts, reply) in &CHANGES {
+        let mut actor = change_of_one_word();
+        assert!(rt; ends(&mut actor, parts, *reply), "{name}");
+    }
 }
 
 #[test]
 fn another_change_is_helped_first(rt: HostRuntime) {
     let mut actor = change_of_one_word();
-    ends(&rt, "helping", &mut actor, &[&OPENING, &HELPING], None);
+    let helped = ends(&mut actor, &[OPENING, HELPING], None);
     let row = Step::Won(Kind::Row, At::Row(2), 0, 0x0100_0000_0000_0007);
     let (row, _) = row.played();
-    assert!(rt; actor.ask() == row && actor.copy().ask() == row);
+    assert!(rt; helped && actor.ask() == row && actor.copy().ask() == row);
 }
+
+// A door, the next number of a request, and its reply.
+static AT_THE_DOOR: [(u64, u64, Reply); 3] = [
+    (0x8000_0000_0000_0001, 9, Reply::Fault),
+    (4, WORN_NUMBER, Reply::Busy),
+    (3, WORN_NUMBER, Reply::Worn),
+];
 
 #[test]
 fn requests_that_end_at_the_door(rt: HostRuntime) {
-    let cases: [(u64, u64, Reply); 3] = [
-        (0x8000_0000_0000_0001, 9, Reply::Fault),
-        (4, WORN_NUMBER, Reply::Busy),
-        (3, WORN_NUMBER, Reply::Worn),
-    ];
-    for (door, next, reply) in cases {
+    for (door, next, reply) in &AT_THE_DOOR {
         let mut actor = change_of_one_word();
-        let got = Got::Word(door);
+        let (got, next) = (Got::Word(*door), *next);
         actor.tell(Told { got, next });
-        assert!(rt; actor.reply() == Some(reply), "door {door}");
+        assert!(rt; actor.reply() == Some(*reply), "door {door}");
     }
 }
 
 #[test]
 fn a_read_is_handed_through(rt: HostRuntime) {
     let mut actor = Actor::new(2, 3, 4, 2, Job::Get(6));
-    ends(&rt, "a read", &mut actor, &[&READING], Some(Reply::Val(8)));
-    assert!(rt; (actor.worker(), actor.tenant()) == (2, 3));
-    assert!(rt; *actor.job() == Job::Get(6));
+    assert!(rt; ends(&mut actor, &[READING], Some(Reply::Val(8))), "a read");
+    let is_its_own = (actor.worker(), actor.tenant()) == (2, 3);
+    assert!(rt; is_its_own && *actor.job() == Job::Get(6), "whose it is");
 }

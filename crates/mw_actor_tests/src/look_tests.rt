@@ -74,17 +74,17 @@ const NEW_1: At = At::New { slot: 3, entry: 1 };
 const NEW_2: At = At::New { slot: 3, entry: 2 };
 
 // A read that comes to its pin of a held word, one that is told the value 5, and the way back from a held word.
-static TO_THE_PIN: [Step; 4] = [ADMITTED, Step::Load(WORD, HELD), PINNABLE, PINNED];
+const TO_THE_PIN: &[Step] = &[ADMITTED, Step::Load(WORD, HELD), PINNABLE, PINNED];
 
-static FINDS_5: [Step; 2] = [ADMITTED, Step::Load(WORD, PLAIN_5)];
+const FINDS_5: &[Step] = &[ADMITTED, Step::Load(WORD, PLAIN_5)];
 
-static BACK: [Step; 2] = [Step::Load(WORD, HELD), UNPINNED];
+const BACK: &[Step] = &[Step::Load(WORD, HELD), UNPINNED];
 
-static FINDS_DIRTY_9: [Step; 2] = [ADMITTED, Step::Load(WORD, DIRTY_9)];
+const FINDS_DIRTY_9: &[Step] = &[ADMITTED, Step::Load(WORD, DIRTY_9)];
 
-static FINDS_FAULT: [Step; 1] = [Step::Load(DOOR, 0x8000_0000_0000_0001)];
+const FINDS_FAULT: &[Step] = &[Step::Load(DOOR, 0x8000_0000_0000_0001)];
 
-static ENTRY_1_OF_YES: [Step; 5] = [
+const ENTRY_1_OF_YES: &[Step] = &[
     IS_YES,
     Step::Load(ADDR_0, 5),
     Step::Load(ADDR_1, 7),
@@ -92,7 +92,7 @@ static ENTRY_1_OF_YES: [Step; 5] = [
     Step::Load(NEW_1, 41),
 ];
 
-static ENTRY_1_OF_OPEN: [Step; 5] = [
+const ENTRY_1_OF_OPEN: &[Step] = &[
     IS_OPEN,
     Step::Load(ADDR_0, 5),
     Step::Load(ADDR_1, 7),
@@ -100,21 +100,21 @@ static ENTRY_1_OF_OPEN: [Step; 5] = [
     Step::Load(NEW_1, 41),
 ];
 
-static ENTRY_0_OF_YES: [Step; 4] = [
+const ENTRY_0_OF_YES: &[Step] = &[
     IS_YES,
     Step::Load(ADDR_0, 7),
     Step::Load(EXPECTED_0, 40),
     Step::Load(NEW_0, 41),
 ];
 
-static ENTRY_0_OF_OPEN: [Step; 4] = [
+const ENTRY_0_OF_OPEN: &[Step] = &[
     IS_OPEN,
     Step::Load(ADDR_0, 7),
     Step::Load(EXPECTED_0, 40),
     Step::Load(NEW_0, 41),
 ];
 
-static ENTRY_0_OF_DONE_YES: [Step; 4] = [
+const ENTRY_0_OF_DONE_YES: &[Step] = &[
     IS_DONE_YES,
     Step::Load(ADDR_0, 7),
     Step::Load(EXPECTED_0, 40),
@@ -122,7 +122,7 @@ static ENTRY_0_OF_DONE_YES: [Step; 4] = [
 ];
 
 // A read of a planted word, whose row names entry 2 of slot 3.
-static PLANTED_ENTRY_2: [Step; 11] = [
+const PLANTED_ENTRY_2: &[Step] = &[
     ADMITTED,
     Step::Load(WORD, PLANTED),
     Step::Load(At::Row(4), ROW),
@@ -137,52 +137,52 @@ static PLANTED_ENTRY_2: [Step; 11] = [
 ];
 
 // The word changes behind the row, or behind the pin.
-static CHANGED_BEHIND_ROW: [Step; 4] = [
+const CHANGED_BEHIND_ROW: &[Step] = &[
     ADMITTED,
     Step::Load(WORD, PLANTED),
     Step::Load(At::Row(4), ROW),
     Step::Load(WORD, PLAIN_5),
 ];
 
-static BACK_TO_ANOTHER_WORD: [Step; 2] = [Step::Load(WORD, PLAIN_5), UNPINNED];
+const BACK_TO_ANOTHER_WORD: &[Step] = &[Step::Load(WORD, PLAIN_5), UNPINNED];
 
 // Gates that can't be pinned: a free one, one without a pin, one of another number, and one with the most pins.
-static FREE_GATE: [Step; 3] = [ADMITTED, Step::Load(WORD, HELD), Step::Load(GATE, FREE)];
+const FREE_GATE: &[Step] = &[ADMITTED, Step::Load(WORD, HELD), Step::Load(GATE, FREE)];
 
-static GATE_WITHOUT_PIN: [Step; 3] = [
+const GATE_WITHOUT_PIN: &[Step] = &[
     ADMITTED,
     Step::Load(WORD, HELD),
     Step::Load(GATE, 0x8000_0000_0000_0006),
 ];
 
-static GATE_OF_ANOTHER: [Step; 3] = [
+const GATE_OF_ANOTHER: &[Step] = &[
     ADMITTED,
     Step::Load(WORD, HELD),
     Step::Load(GATE, 0x8001_0000_0000_0007),
 ];
 
-static GATE_WITH_MOST_PINS: [Step; 3] = [
+const GATE_WITH_MOST_PINS: &[Step] = &[
     ADMITTED,
     Step::Load(WORD, HELD),
     Step::Load(GATE, 0xffff_0000_0000_0006),
 ];
 
 // A pin that is lost, and then a gate whose number is worn.
-static LOST_PIN: [Step; 4] = [
+const LOST_PIN: &[Step] = &[
     ADMITTED,
     Step::Load(WORD, HELD),
     PINNABLE,
     Step::Lost(Kind::Pin, GATE, ONE_PIN, TWO_PINS),
 ];
 
-static WORN_GATE: [Step; 3] = [
+const WORN_GATE: &[Step] = &[
     ADMITTED,
     Step::Load(WORD, 0x8003_ffff_ffff_ffff),
     Step::Load(GATE, 0x8001_ffff_ffff_ffff),
 ];
 
 // The way back of the last pin, which frees the slot and lowers the door.
-static BACK_WITH_LAST_PIN: [Step; 4] = [
+const BACK_WITH_LAST_PIN: &[Step] = &[
     Step::Load(WORD, HELD),
     Step::Found(Kind::Unpin, GATE, ONE_PIN),
     Step::Won(Kind::Free, GATE, 0, FREE),
@@ -190,7 +190,7 @@ static BACK_WITH_LAST_PIN: [Step; 4] = [
 ];
 
 // A slot without an entry of the word.
-static NO_ENTRY: [Step; 18] = [
+const NO_ENTRY: &[Step] = &[
     IS_OPEN,
     Step::Load(ADDR_0, 8),
     Step::Load(ADDR_1, 8),
@@ -224,91 +224,124 @@ fn plays(look: &mut Look, script: &[Step]) -> bool {
     true
 }
 
-// A read of word 7 of tenant 2 asks for these steps, part after part, and ends with this reply.
-fn ends<R: Abort>(rt: &R, name: &str, parts: &[&[Step]], reply: Reply) {
+// A read: its name, the steps for which it asks, part after part, and its reply.
+type Row = (&'static str, &'static [&'static [Step]], Reply);
+
+// Gives the reply of a read of word 7 of tenant 2, if it asks for these steps, part after part.
+fn reply_after(parts: &[&[Step]]) -> Option<Reply> {
     let mut look = Look::new(2, 7);
-    for (index, part) in parts.iter().enumerate() {
-        assert!(rt; plays(&mut look, part), "{name}, part {index}");
+    for part in parts {
+        if !plays(&mut look, part) {
+            return None;
+        }
     }
-    assert!(rt; look.reply() == Some(reply), "{name}");
+    look.reply()
 }
+
+// Each of these reads ends as its row says.
+fn end<R: Abort>(rt: &R, rows: &[Row]) {
+    for (name, parts, reply) in rows {
+        assert!(rt; reply_after(parts) == Some(*reply), "{name}");
+    }
+}
+
+static READS: [Row; 7] = [
+    ("plain", &[FINDS_5], Reply::Val(5)),
+    ("dirty", &[FINDS_DIRTY_9], Reply::Val(9)),
+    ("failed", &[FINDS_FAULT], Reply::Fault),
+    (
+        "held, sealed",
+        &[TO_THE_PIN, ENTRY_1_OF_YES, BACK],
+        Reply::Val(41),
+    ),
+    (
+        "held, open",
+        &[TO_THE_PIN, ENTRY_1_OF_OPEN, BACK],
+        Reply::Val(40),
+    ),
+    (
+        "a last pin frees the slot",
+        &[TO_THE_PIN, ENTRY_0_OF_YES, BACK_WITH_LAST_PIN],
+        Reply::Val(41),
+    ),
+    ("planted", &[PLANTED_ENTRY_2], Reply::Val(40)),
+];
 
 #[test]
 fn reads_that_end(rt: HostRuntime) {
-    ends(&rt, "plain", &[&FINDS_5], Reply::Val(5));
-    ends(&rt, "dirty", &[&FINDS_DIRTY_9], Reply::Val(9));
-    ends(&rt, "failed", &[&FINDS_FAULT], Reply::Fault);
-    ends(
-        &rt,
-        "held, sealed",
-        &[&TO_THE_PIN, &ENTRY_1_OF_YES, &BACK],
-        Reply::Val(41),
-    );
-    ends(
-        &rt,
-        "held, open",
-        &[&TO_THE_PIN, &ENTRY_1_OF_OPEN, &BACK],
-        Reply::Val(40),
-    );
-    let last: [&[Step]; 3] = [&TO_THE_PIN, &ENTRY_0_OF_YES, &BACK_WITH_LAST_PIN];
-    ends(&rt, "a last pin frees the slot", &last, Reply::Val(41));
-    ends(&rt, "planted", &[&PLANTED_ENTRY_2], Reply::Val(40));
+    end(&rt, &READS);
 }
+
+static TWICE: [Row; 8] = [
+    (
+        "held, done with",
+        &[TO_THE_PIN, ENTRY_0_OF_DONE_YES, BACK, FINDS_5],
+        Reply::Val(5),
+    ),
+    (
+        "a word that changed",
+        &[
+            CHANGED_BEHIND_ROW,
+            TO_THE_PIN,
+            ENTRY_0_OF_OPEN,
+            BACK_TO_ANOTHER_WORD,
+            FINDS_5,
+        ],
+        Reply::Val(5),
+    ),
+    ("a free gate", &[FREE_GATE, FINDS_5], Reply::Val(5)),
+    (
+        "a gate without a pin",
+        &[GATE_WITHOUT_PIN, FINDS_5],
+        Reply::Val(5),
+    ),
+    (
+        "a gate of another",
+        &[GATE_OF_ANOTHER, FINDS_5],
+        Reply::Val(5),
+    ),
+    (
+        "the most pins",
+        &[GATE_WITH_MOST_PINS, FINDS_5],
+        Reply::Val(5),
+    ),
+    ("a lost pin", &[LOST_PIN, WORN_GATE, FINDS_5], Reply::Val(5)),
+    (
+        "no entry of the word",
+        &[TO_THE_PIN, NO_ENTRY, FINDS_5],
+        Reply::Val(5),
+    ),
+];
 
 #[test]
 fn reads_that_begin_again(rt: HostRuntime) {
-    let done: [&[Step]; 4] = [&TO_THE_PIN, &ENTRY_0_OF_DONE_YES, &BACK, &FINDS_5];
-    ends(&rt, "held, done with", &done, Reply::Val(5));
-    let changed: [&[Step]; 5] = [
-        &CHANGED_BEHIND_ROW,
-        &TO_THE_PIN,
-        &ENTRY_0_OF_OPEN,
-        &BACK_TO_ANOTHER_WORD,
-        &FINDS_5,
-    ];
-    ends(&rt, "a word that changed", &changed, Reply::Val(5));
-    ends(&rt, "a free gate", &[&FREE_GATE, &FINDS_5], Reply::Val(5));
-    ends(
-        &rt,
-        "a gate without a pin",
-        &[&GATE_WITHOUT_PIN, &FINDS_5],
-        Reply::Val(5),
-    );
-    ends(
-        &rt,
-        "a gate of another",
-        &[&GATE_OF_ANOTHER, &FINDS_5],
-        Reply::Val(5),
-    );
-    ends(
-        &rt,
-        "the most pins",
-        &[&GATE_WITH_MOST_PINS, &FINDS_5],
-        Reply::Val(5),
-    );
-    ends(
-        &rt,
-        "a lost pin",
-        &[&LOST_PIN, &WORN_GATE, &FINDS_5],
-        Reply::Val(5),
-    );
-    let absent: [&[Step]; 3] = [&TO_THE_PIN, &NO_ENTRY, &FINDS_5];
-    ends(&rt, "no entry of the word", &absent, Reply::Val(5));
+    end(&rt, &TWICE);
+}
+
+// What no step of a read finds at its door.
+static UNFIT: [Got; 4] = [Got::Word(NO_PATTERN), Got::Won, Got::Lost, Got::File(true)];
+
+// Tells whether a read asks for its door, and has no reply, whatever it is told that is unfit.
+fn stays_at_the_door(look: &mut Look) -> bool {
+    for got in &UNFIT {
+        look.tell(Told { got: *got, next: 9 });
+        if look.ask() != Op::Load(DOOR) || look.reply().is_some() {
+            return false;
+        }
+    }
+    true
 }
 
 #[test]
 fn what_does_not_fit_the_step_changes_nothing(rt: HostRuntime) {
     let mut look = Look::new(2, 7);
-    let told: [Got; 4] = [Got::Word(NO_PATTERN), Got::Won, Got::Lost, Got::File(true)];
-    for got in told {
-        look.tell(Told { got, next: 9 });
-        assert!(rt; look.ask() == Op::Load(DOOR) && look.reply().is_none());
-    }
-    assert!(rt; plays(&mut look, &FINDS_5));
-    assert!(rt; look.reply() == Some(Reply::Val(5)));
+    assert!(rt; stays_at_the_door(&mut look) && plays(&mut look, FINDS_5));
+    let before = look.reply();
     look.tell(Told {
         got: Got::Word(1),
         next: 9,
     });
-    assert!(rt; look.reply() == Some(Reply::Val(5)), "it has its reply");
+    let after = look.reply();
+    let wanted = Some(Reply::Val(5));
+    assert!(rt; before == wanted && after == wanted);
 }

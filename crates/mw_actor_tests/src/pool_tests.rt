@@ -4,93 +4,112 @@
 use mw_pool::*;
 use mw_words::{Door, Gate, MAX_PINS, WORN_NUMBER};
 
-fn gate(taken: bool, pins: u16, seq: u64) -> Gate {
-    Gate { taken, pins, seq }
-}
+// Whether a door has a fault, how many slots it counts, a quota, and what is said to a request.
+static DOORS: [(bool, u16, u8, Admission); 6] = [
+    (
+        false,
+        0,
+        1,
+        Admission::To(Door {
+            fault: false,
+            used: 1,
+        }),
+    ),
+    (
+        false,
+        254,
+        255,
+        Admission::To(Door {
+            fault: false,
+            used: 255,
+        }),
+    ),
+    (false, 2, 2, Admission::Busy),
+    (false, 0, 0, Admission::Busy),
+    (true, 0, 1, Admission::Fault),
+    (true, 2, 2, Admission::Fault),
+];
 
 #[test]
 fn a_door_admits_up_to_its_quota(rt: HostRuntime) {
-    let cases: [(bool, u16, u8, Admission); 6] = [
-        (
-            false,
-            0,
-            1,
-            Admission::To(Door {
-                fault: false,
-                used: 1,
-            }),
-        ),
-        (
-            false,
-            254,
-            255,
-            Admission::To(Door {
-                fault: false,
-                used: 255,
-            }),
-        ),
-        (false, 2, 2, Admission::Busy),
-        (false, 0, 0, Admission::Busy),
-        (true, 0, 1, Admission::Fault),
-        (true, 2, 2, Admission::Fault),
-    ];
-    for (fault, used, quota, said) in cases {
+    for (fault, used, quota, said) in &DOORS {
+        let (fault, used) = (*fault, *used);
         assert!(rt;
-            admit(Door { fault, used }, quota) == said,
+            admit(Door { fault, used }, *quota) == *said,
             "{used} of {quota}"
         );
     }
 }
 
+// A gate: whether it is taken, its pins, and its number.
+type Fields = (bool, u16, u64);
+
+fn gate(fields: Fields) -> Gate {
+    let (taken, pins, seq) = fields;
+    Gate { taken, pins, seq }
+}
+
+// Tells whether this gate is found, or none.
+fn is_found(found: Option<Gate>, wanted: Option<Fields>) -> bool {
+    match (found, wanted) {
+        (Some(gate), Some(fields)) => (gate.taken, gate.pins, gate.seq) == fields,
+        (None, None) => true,
+        _ => false,
+    }
+}
+
+// Gates, and those that are claimed and freed from them.
+static CLAIMED: [(Fields, Option<Fields>, Option<Fields>); 6] = [
+    ((false, 0, 7), Some((true, 1, 7)), None),
+    ((false, 0, WORN_NUMBER), None, None),
+    ((true, 0, 7), None, Some((false, 0, 8))),
+    (
+        (true, 0, WORN_NUMBER - 1),
+        None,
+        Some((false, 0, WORN_NUMBER)),
+    ),
+    ((true, 0, WORN_NUMBER), None, None),
+    ((true, 1, 7), None, None),
+];
+
+fn is_claimed_and_freed(from: Gate, claimed: Option<Fields>, freed: Option<Fields>) -> bool {
+    from.is_in_range() && is_found(claim(from), claimed) && is_found(free(from), freed)
+}
+
 #[test]
 fn gates_that_are_claimed_and_freed(rt: HostRuntime) {
-    let cases: [(Gate, Option<Gate>, Option<Gate>); 6] = [
-        (gate(false, 0, 7), Some(gate(true, 1, 7)), None),
-        (gate(false, 0, WORN_NUMBER), None, None),
-        (gate(true, 0, 7), None, Some(gate(false, 0, 8))),
-        (
-            gate(true, 0, WORN_NUMBER - 1),
-            None,
-            Some(gate(false, 0, WORN_NUMBER)),
-        ),
-        (gate(true, 0, WORN_NUMBER), None, None),
-        (gate(true, 1, 7), None, None),
-    ];
-    for (from, claimed, freed) in cases {
-        assert!(rt; from.is_in_range());
-        let Gate { taken, pins, seq } = from;
-        let is_so = claim(from) == claimed && free(from) == freed;
-        assert!(rt; is_so, "taken {taken}, {pins} pins, number {seq}");
+    for (at, (from, claimed, freed)) in CLAIMED.iter().enumerate() {
+        let is_so = is_claimed_and_freed(gate(*from), *claimed, *freed);
+        assert!(rt; is_so, "row {at}");
     }
+}
+
+// Gates, the number under which each is pinned, and the gate then.
+static PINNED: [(Fields, u64, Option<Fields>); 6] = [
+    ((true, 1, 7), 7, Some((true, 2, 7))),
+    ((true, MAX_PINS - 1, 7), 7, Some((true, MAX_PINS, 7))),
+    ((true, MAX_PINS, 7), 7, None),
+    ((true, 1, 7), 8, None),
+    ((true, 0, 7), 7, None),
+    ((false, 0, 7), 7, None),
+];
+
+// Tells whether a gate is pinned so, and an unpin leads back.
+fn is_pinned(from: Gate, seq: u64, wanted: Option<Fields>) -> bool {
+    if !from.is_in_range() {
+        return false;
+    }
+    let found = pin(from, seq);
+    let leads_back = match found {
+        Some(next) => unpin(next) == from,
+        None => true,
+    };
+    leads_back && is_found(found, wanted)
 }
 
 #[test]
 fn gates_that_are_pinned_and_unpinned(rt: HostRuntime) {
-    let cases: [(Gate, u64, Option<Gate>); 6] = [
-        (gate(true, 1, 7), 7, Some(gate(true, 2, 7))),
-        (
-            gate(true, MAX_PINS - 1, 7),
-            7,
-            Some(gate(true, MAX_PINS, 7)),
-        ),
-        (gate(true, MAX_PINS, 7), 7, None),
-        (gate(true, 1, 7), 8, None),
-        (gate(true, 0, 7), 7, None),
-        (gate(false, 0, 7), 7, None),
-    ];
-    for (from, seq, pinned) in cases {
-        assert!(rt; from.is_in_range());
-        let Gate {
-            taken,
-            pins,
-            seq: own,
-        } = from;
-        assert!(rt;
-            pin(from, seq) == pinned,
-            "taken {taken}, {pins} pins, {seq} of {own}"
-        );
-        if let Some(next) = pin(from, seq) {
-            assert!(rt; unpin(next) == from, "back to {pins} pins");
-        }
+    for (at, (from, seq, pinned)) in PINNED.iter().enumerate() {
+        assert!(rt; is_pinned(gate(*from), *seq, *pinned), "row {at}");
     }
 }

@@ -1,12 +1,13 @@
 //! Tests exchanges with HTTP clients: what a client says and is told, also cut into pieces, and with a peer that fails.
 //!
 //! Nothing else uses it: it may change with what it tests.
+use crate::checks::{MEMORY, holds};
 use crate::http_peers::CountedPages;
 use mw_server_pages::{Exchanged, exchange};
 use mw_session::{Duplex, RecordedStream};
 use mw_test_peers::{Failure, Page, Sender};
-use std::alloc::AllocError;
 use std::io::ErrorKind;
+use std::process::Abort;
 use std::sync::Wait;
 
 /// More bytes than are read or written.
@@ -69,7 +70,7 @@ fn is_told<R: Wait>(rt: &R, pages: &mut CountedPages, row: &Row, piece: usize) -
         && pages.dates == dates.saturating_add(date)
 }
 
-static ROWS: [Row; 16] = [
+static ROWS: [Row; 17] = [
     Row {
         says: REQUEST,
         fault: None,
@@ -142,6 +143,13 @@ static ROWS: [Row; 16] = [
         told: b"",
         pages: 0,
     },
+    // After a whole head nothing more is read.
+    Row {
+        says: REQUEST,
+        fault: Some(ErrorKind::ConnectionReset),
+        told: ANSWER,
+        pages: 1,
+    },
     // Slow clients are told so, and broken ones nothing.
     Row {
         says: b"",
@@ -169,46 +177,49 @@ static ROWS: [Row; 16] = [
     },
 ];
 
+/// Tells the same of a client that says it at once, and of one that says it a byte at a time.
+fn is_told_however_cut<R: Wait>(rt: &R, pages: &mut CountedPages, row: &Row) -> bool {
+    is_told(rt, pages, row, ALL) && is_told(rt, pages, row, 1)
+}
+
 #[test]
 fn requests_are_answered_however_cut(rt: HostRuntime) {
     let mut pages = CountedPages::new(rt.alloc());
     for (number, row) in ROWS.iter().enumerate() {
-        for piece in [ALL, 1] {
-            let told = is_told(&rt, &mut pages, row, piece);
-            assert!(rt; told, "row {number} in pieces of {piece}");
-        }
+        let is_told = is_told_however_cut(&rt, &mut pages, row);
+        holds(&rt, "a row", number, is_told);
     }
 }
 
-/// How many bytes a head has besides its beginning that is too long.
+/// How many bytes a head has that is too long.
 const LONG: usize = 9000;
 
 /// Beginnings of heads that are too long, and of their answers.
-static LONG_HEADS: [(&[u8], &[u8]); 2] = [
-    (b"", b"HTTP/1.1 414 URI Too Long\r\n"),
+static LONG_HEADS: [(&str, &str); 2] = [
+    ("", "HTTP/1.1 414 URI Too Long\r\n"),
     (
-        b"GET / HTTP/1.1\r\nHost: a\r\nX: ",
-        b"HTTP/1.1 431 Request Header Fields Too Large\r\n",
+        "GET / HTTP/1.1\r\nHost: a\r\nX: ",
+        "HTTP/1.1 431 Request Header Fields Too Large\r\n",
     ),
 ];
 
+/// Tells whether a head that is too long and begins so is answered, and the answer begins so.
+fn is_refused<R: Abort + Wait + AllocGlobal>(rt: &R, beginning: &str, told: &str) -> bool {
+    let mut head = Vec::from_slice(rt.alloc(), beginning.as_bytes()).expect(rt, MEMORY);
+    head.resize(LONG, b'a').expect(rt, MEMORY);
+    let mut pages = CountedPages::new(rt.alloc());
+    let mut page = Page::new(ALL, ALL, Failure::Error);
+    let sender = Sender::new(&head, ALL, Failure::Nothing);
+    let ended = run(rt, &mut pages, sender, &mut page);
+    let answered = ended == Exchanged::Answered && pages.pages == 0;
+    answered && page.text.starts_with(told.as_bytes())
+}
+
 #[test]
-fn long_heads_are_refused(rt: HostRuntime) -> Result<(), AllocError> {
-    for (number, (beginning, told)) in LONG_HEADS.iter().enumerate() {
-        let mut head = Vec::from_slice(rt.alloc(), beginning)?;
-        head.extend_from_slice(&[b'a'; LONG])?;
-        let mut pages = CountedPages::new(rt.alloc());
-        let mut page = Page::new(ALL, ALL, Failure::Error);
-        let ended = run(
-            &rt,
-            &mut pages,
-            Sender::new(&head, ALL, Failure::Nothing),
-            &mut page,
-        );
-        let refused = ended == Exchanged::Answered && pages.pages == 0;
-        assert!(rt; refused && page.text.starts_with(told), "row {number}");
+fn long_heads_are_refused(rt: HostRuntime) {
+    for (beginning, told) in &LONG_HEADS {
+        holds(&rt, told, LONG, is_refused(&rt, beginning, told));
     }
-    Ok(())
 }
 
 /// Tells whether an answer to a client that takes so many bytes, one at a time, and then fails so, breaks off there.
@@ -223,14 +234,16 @@ fn breaks_off<R: Wait>(rt: &R, pages: &mut CountedPages, room: usize, failure: F
     ended == Exchanged::WriteFault && Some(page.text.as_slice()) == ANSWER.get(..room)
 }
 
+/// Tells the same of a client that answers an error then, and of one that takes nothing.
+fn breaks_off_after<R: Wait>(rt: &R, pages: &mut CountedPages, room: usize) -> bool {
+    breaks_off(rt, pages, room, Failure::Error) && breaks_off(rt, pages, room, Failure::Nothing)
+}
+
 #[test]
 fn an_answer_breaks_off_where_a_write_fails(rt: HostRuntime) {
     let mut pages = CountedPages::new(rt.alloc());
     for room in 0..ANSWER.len() {
-        for failure in [Failure::Error, Failure::Nothing] {
-            let broken = breaks_off(&rt, &mut pages, room, failure);
-            let error = failure.is_error();
-            assert!(rt; broken, "{room} bytes taken, then an error: {error}");
-        }
+        let breaks_off = breaks_off_after(&rt, &mut pages, room);
+        holds(&rt, "bytes taken", room, breaks_off);
     }
 }

@@ -4,6 +4,8 @@
 #![tactic(auto)]
 
 #[cfg(test)]
+mod checks;
+#[cfg(test)]
 mod exchange_tests;
 #[cfg(test)]
 mod http_peers;

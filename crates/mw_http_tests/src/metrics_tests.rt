@@ -1,13 +1,14 @@
 //! Tests counters and the text of all figures.
 //!
 //! Nothing else uses it: it may change with what it tests.
+use crate::checks::{MEMORY, holds};
 use mw_metrics::{
     CloseReason, DeviceCall, ReplyKind, RequestKind, ServerCounters, TenantCounters, TenantMetrics,
     bucket_of, metrics_text,
 };
 use mw_report::TenantFigures;
 use mw_words::Name;
-use std::test::Fail;
+use std::alloc::{AllocError, Global};
 
 /// Lines that a scraper reads after `record_all`.
 static LINES: [&str; 22] = [
@@ -35,8 +36,17 @@ static LINES: [&str; 22] = [
     "mondlexi_device_seconds_count{tenant=\"t\",call=\"sync\"} 1",
 ];
 
+/// Tells whether a text has this line, with a line feed at its end.
 fn has_line(text: &[u8], line: &[u8]) -> bool {
-    text.split(|byte| *byte == b'\n').any(|part| part == line)
+    let mut is_begun = true;
+    for (at, byte) in text.iter().enumerate() {
+        let rest = text.get(at..).unwrap_or(b"");
+        if is_begun && rest.starts_with(line) && rest.get(line.len()) == Some(&b'\n') {
+            return true;
+        }
+        is_begun = *byte == b'\n';
+    }
+    false
 }
 
 fn record_all(tenant: &TenantCounters, server: &ServerCounters) {
@@ -69,8 +79,8 @@ fn figures() -> TenantFigures {
     }
 }
 
-#[test]
-fn figures_are_written(rt: HostRuntime) -> Result<(), Fail> {
+/// Gives the text of what `record_all` records.
+fn text_of_all(alloc: Global) -> Result<Vec<u8>, AllocError> {
     let tenant = TenantCounters::new();
     let server = ServerCounters::new();
     record_all(&tenant, &server);
@@ -78,16 +88,16 @@ fn figures_are_written(rt: HostRuntime) -> Result<(), Fail> {
         figures: figures(),
         counts: tenant.counts(),
     }];
-    let text = metrics_text(
-        rt.alloc(),
-        b"1.\"2\\",
-        &server.figures(61_000_000_005, 30),
-        &tenants,
-    )?;
-    for line in LINES {
-        assert!(rt; has_line(&text, line.as_bytes()), "{line}");
+    let figures = server.figures(61_000_000_005, 30);
+    metrics_text(alloc, b"1.\"2\\", &figures, &tenants)
+}
+
+#[test]
+fn figures_are_written(rt: HostRuntime) {
+    let text = text_of_all(rt.alloc()).expect(&rt, MEMORY);
+    for line in &LINES {
+        holds(&rt, line, 0, has_line(&text, line.as_bytes()));
     }
-    Ok(())
 }
 
 /// Durations, in nanoseconds, and the numbers of their buckets.
@@ -101,7 +111,7 @@ static BUCKETS: [(u64, usize); 5] = [
 
 #[test]
 fn durations_have_buckets(rt: HostRuntime) {
-    for (nanos, bucket) in BUCKETS {
-        assert_eq!(rt; bucket_of(nanos), bucket, "{nanos}");
+    for (nanos, bucket) in &BUCKETS {
+        holds(&rt, "a bucket", *bucket, bucket_of(*nanos) == *bucket);
     }
 }

@@ -1,6 +1,7 @@
 //! Tests what a server shows: its pages by a service, and each text by hand.
 //!
 //! Nothing else uses it: it may change with what it tests.
+use crate::checks::{MEMORY, holds};
 use crate::http_peers::{HandClock, OneFile};
 use mw_http::{ContentType, Route, Status};
 use mw_metrics::Meters;
@@ -11,15 +12,18 @@ use mw_server_pages::{
 };
 use mw_test_peers::Shelf;
 use mw_words::{Entries, Job, Name, Reply};
+use std::process::Abort;
 use std::thread;
 use std::time::Duration;
 
-/// Memory is out.
-const MEMORY: &str = "memory";
-
 /// Tells whether this part is somewhere in the text.
 fn is_in(part: &[u8], text: &[u8]) -> bool {
-    part.is_empty() || text.windows(part.len()).any(|window| window == part)
+    for at in 0..text.len() {
+        if text[at..].starts_with(part) {
+            return true;
+        }
+    }
+    part.is_empty()
 }
 
 /// What the server can do at once.
@@ -196,7 +200,7 @@ fn is_answered(clock: &HandClock, row: &Row) -> bool {
 fn each_place_shows_its_page(rt: HostRuntime) {
     let clock = HandClock::new(rt.alloc());
     for (number, row) in ROWS.iter().enumerate() {
-        assert!(rt; is_answered(&clock, row), "row {number}");
+        holds(&rt, "a row", number, is_answered(&clock, row));
     }
 }
 
@@ -213,32 +217,37 @@ fn tenant(name: &[u8], up: bool) -> TenantFigures {
 fn health_names_those_that_are_down(rt: HostRuntime) {
     let one = [tenant(b"a", true)];
     let three = [tenant(b"a", false), tenant(b"b", true), tenant(b"c", false)];
-    assert!(rt;
-        health_text(&[]).as_slice() == b"ok\n".as_slice(),
-        "no tenants"
-    );
-    assert!(rt;
-        health_text(&one).as_slice() == b"ok\n".as_slice(),
-        "one tenant"
-    );
-    assert!(rt;
-        health_text(&three).as_slice() == b"down a\ndown c\n".as_slice(),
-        "three tenants"
-    );
+    let is_ok = is_text(&health_text(&[]), "ok\n") && is_text(&health_text(&one), "ok\n");
+    let is_told = is_text(&health_text(&three), "down a\ndown c\n");
+    holds(&rt, "no tenant, and one that is up", 0, is_ok);
+    holds(&rt, "three tenants", 3, is_told);
+}
+
+/// Tells whether these bytes are this text.
+fn is_text(bytes: &[u8], text: &str) -> bool {
+    bytes == text.as_bytes()
+}
+
+/// Parts of the page of a tenant whose name has characters that are escaped.
+static ESCAPED: [&str; 4] = [
+    "<p>Version &lt;, up for 1 d 1 h 1 min 1 s.</p>\n",
+    "<p><strong>Down: &lt;a&amp;&quot;&gt;.</strong></p>\n",
+    "<tr class=\"down\"><td>&lt;a&amp;&quot;&gt;</td><td>down</td><td>0</td><td>0 of 0</td><td>",
+    "<p>Free slots of the pool: 7.</p>\n",
+];
+
+/// All of these parts are in a page.
+fn are_in<R: Abort>(rt: &R, parts: &[&str], page: &[u8]) {
+    for part in parts {
+        holds(rt, part, 0, is_in(part.as_bytes(), page));
+    }
 }
 
 #[test]
 fn names_are_escaped(rt: HostRuntime) {
     let tenants = [tenant(b"<a&\">", false)];
     let page = status_page(rt.alloc(), b"<", 90061, &tenants, &[], &[], 7).expect(&rt, MEMORY);
-    for part in [
-        "<p>Version &lt;, up for 1 d 1 h 1 min 1 s.</p>\n",
-        "<p><strong>Down: &lt;a&amp;&quot;&gt;.</strong></p>\n",
-        "<tr class=\"down\"><td>&lt;a&amp;&quot;&gt;</td><td>down</td><td>0</td><td>0 of 0</td><td>",
-        "<p>Free slots of the pool: 7.</p>\n",
-    ] {
-        assert!(rt; is_in(part.as_bytes(), &page), "{part}");
-    }
+    are_in(&rt, &ESCAPED, &page);
 }
 
 /// Gives a curve of two points, from below to the top.
@@ -248,27 +257,31 @@ fn rising() -> Curve {
         most: 12,
         ..Curve::default()
     };
-    for point in [
+    let (first, last) = (
         Point { right: 0, down: 30 },
         Point {
             right: 180,
             down: 0,
         },
-    ] {
-        let _ = curve.points.try_push(point);
-    }
+    );
+    let _ = curve.points.try_push(first);
+    let _ = curve.points.try_push(last);
     curve
 }
 
-#[test]
-fn limits_and_curves_are_drawn(rt: HostRuntime) {
-    let recents = [Recent {
+/// A tenant that is down, and whose curve of changes rises.
+fn recent() -> Recent {
+    Recent {
         name: Name::try_from(b"a".as_slice()).unwrap_or_default(),
         down: Some(61),
         change: rising(),
         ..Recent::default()
-    }];
-    let near = [
+    }
+}
+
+/// A tenant near its quota, and a server without room for another session.
+fn near_limits() -> [NearLimit; 2] {
+    [
         NearLimit {
             kind: LimitKind::Quota,
             tenant: Name::try_from(b"a".as_slice()).unwrap_or_default(),
@@ -281,15 +294,21 @@ fn limits_and_curves_are_drawn(rt: HostRuntime) {
             most: 5,
             ..NearLimit::default()
         },
-    ];
+    ]
+}
+
+/// Parts of the page that shows these.
+static DRAWN: [&str; 3] = [
+    "<p>Near a limit:</p>\n<ul>\n<li>quota of a: 3 of 4</li>\n<li>sessions: 5 of 5</li>\n</ul>\n",
+    "<tr><td>a</td><td>down for 0 d 0 h 1 min 1 s</td><td>0 (most 0) <svg",
+    "<td>3 (most 12) <svg width=\"180\" height=\"30\"><polyline points=\"0,30 180,0 \"/></svg></td><td>",
+];
+
+#[test]
+fn limits_and_curves_are_drawn(rt: HostRuntime) {
+    let (near, recents) = (near_limits(), [recent()]);
     let page = status_page(rt.alloc(), b"1", 0, &[], &near, &recents, 0).expect(&rt, MEMORY);
-    for part in [
-        "<p>Near a limit:</p>\n<ul>\n<li>quota of a: 3 of 4</li>\n<li>sessions: 5 of 5</li>\n</ul>\n",
-        "<tr><td>a</td><td>down for 0 d 0 h 1 min 1 s</td><td>0 (most 0) <svg",
-        "<td>3 (most 12) <svg width=\"180\" height=\"30\"><polyline points=\"0,30 180,0 \"/></svg></td><td>",
-    ] {
-        assert!(rt; is_in(part.as_bytes(), &page), "{part}");
-    }
+    are_in(&rt, &DRAWN, &page);
 }
 
 /// What the status page says of a limit that is far and of one that is near.
@@ -316,7 +335,7 @@ fn curves_show_what_was_counted(rt: HostRuntime) {
     for (number, wanted) in CURVES.iter().enumerate() {
         thread::sleep(&clock, Duration::from_secs(15));
         let page = pages.page(&Route::Page);
-        assert!(rt; is_in(wanted, &page.body), "row {number}");
+        holds(&rt, "a curve", number, is_in(wanted, &page.body));
     }
 }
 
@@ -330,6 +349,6 @@ fn a_limit_is_near_from_three_quarters_on(rt: HostRuntime) {
     for part in [FAR, NEAR] {
         meters.server().record_served();
         let page = pages.page(&Route::Page);
-        assert!(rt; is_in(part.as_bytes(), &page.body), "{part}");
+        holds(&rt, part, 0, is_in(part.as_bytes(), &page.body));
     }
 }

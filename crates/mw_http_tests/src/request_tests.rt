@@ -1,8 +1,9 @@
 //! Tests what is heard from an HTTP client, and the head of an answer.
 //!
 //! Nothing else uses it: it may change with what it tests.
+use crate::checks::{MEMORY, holds};
 use mw_http::{Content, ContentType, Heard, Request, Route, Status, answer_head, hear};
-use std::test::Fail;
+use std::process::Abort;
 
 /// What a client sends, and what is heard.
 static CASES: [(&str, &str); 26] = [
@@ -58,43 +59,63 @@ static CASES: [(&str, &str); 26] = [
     ("GET /\r\n", "Bad Request"),
 ];
 
-fn text_of(heard: &Heard) -> &'static [u8] {
-    match heard {
-        Heard::More => b"more",
-        Heard::Asked(request) => asked(request),
-        Heard::Refused(status) => status.reason(),
+/// Tells whether just this is heard of what a client sends.
+fn is_heard(sent: &[u8], wanted: &str) -> bool {
+    match hear(sent) {
+        Heard::More => wanted == "more",
+        Heard::Asked(request) => wanted == asked(&request),
+        Heard::Refused(status) => wanted.as_bytes() == status.reason(),
     }
 }
 
-fn asked(request: &Request) -> &'static [u8] {
+fn asked(request: &Request) -> &'static str {
     match (&request.route, request.content) {
-        (Route::Page, true) => b"page",
-        (Route::Metrics, true) => b"metrics",
-        (Route::Health, false) => b"head of health",
-        (Route::File(_), true) => b"file",
-        _ => b"another request",
+        (Route::Page, true) => "page",
+        (Route::Metrics, true) => "metrics",
+        (Route::Health, false) => "head of health",
+        (Route::File(_), true) => "file",
+        _ => "another request",
     }
 }
 
 #[test]
 fn requests_are_heard(rt: HostRuntime) {
-    for (sent, heard) in CASES {
-        assert!(rt;
-            text_of(&hear(sent.as_bytes())) == heard.as_bytes(),
-            "{sent}"
-        );
+    for (sent, heard) in &CASES {
+        holds(&rt, sent, 0, is_heard(sent.as_bytes(), heard));
     }
 }
 
-#[test]
-fn long_heads_are_refused(rt: HostRuntime) -> Result<(), Fail> {
-    let long = vec![in rt.alloc(); b'a'; 8192]?;
-    assert!(rt; text_of(&hear(&long)) == b"URI Too Long".as_slice());
-    let mut fields = Vec::from_slice(rt.alloc(), b"GET / HTTP/1.1\r\nHost: a\r\nX: ")?;
-    fields.extend_from_slice(&long)?;
-    assert!(rt; text_of(&hear(&fields)) == b"Request Header Fields Too Large".as_slice());
-    Ok(())
+/// Beginnings of what is too long, how many bytes it has, and what is heard.
+static LONG: [(&str, usize, &str); 2] = [
+    ("", 8192, "URI Too Long"),
+    (
+        "GET / HTTP/1.1\r\nHost: a\r\nX: ",
+        8192 + 28,
+        "Request Header Fields Too Large",
+    ),
+];
+
+/// Makes what begins so, and has so many bytes.
+fn sent_at_length<R: Abort + AllocGlobal>(rt: &R, beginning: &str, count: usize) -> Vec<u8> {
+    let mut sent = Vec::from_slice(rt.alloc(), beginning.as_bytes()).expect(rt, MEMORY);
+    sent.resize(count, b'a').expect(rt, MEMORY);
+    sent
 }
+
+#[test]
+fn long_heads_are_refused(rt: HostRuntime) {
+    for (beginning, count, heard) in &LONG {
+        let sent = sent_at_length(&rt, beginning, *count);
+        holds(&rt, heard, *count, is_heard(&sent, heard));
+    }
+}
+
+/// The heads of a page and of a refusal.
+const PAGE: &str =
+    "HTTP/1.1 200 OK\r\nDate: Thu, 26 Nov 2026 12:00:00 GMT\r\nContent-Type: text/plain; version=0.0.4; charset=utf-8\r\nContent-Length: 12\r\nConnection: close\r\n\r\n";
+
+const REFUSAL: &str =
+    "HTTP/1.1 405 Method Not Allowed\r\nAllow: GET, HEAD\r\nContent-Length: 0\r\nConnection: close\r\n\r\n";
 
 #[test]
 fn heads_are_written(rt: HostRuntime) {
@@ -102,14 +123,13 @@ fn heads_are_written(rt: HostRuntime) {
         kind: ContentType::Metrics,
         length: 12,
     };
-    let found = answer_head(Status::Ok, b"Thu, 26 Nov 2026 12:00:00 GMT", Some(content));
-    assert!(rt;
-        found.as_slice()
-            == b"HTTP/1.1 200 OK\r\nDate: Thu, 26 Nov 2026 12:00:00 GMT\r\nContent-Type: text/plain; version=0.0.4; charset=utf-8\r\nContent-Length: 12\r\nConnection: close\r\n\r\n".as_slice()
-    );
-    let refused = answer_head(Status::MethodNotAllowed, b"", None);
-    assert!(rt;
-        refused.as_slice()
-            == b"HTTP/1.1 405 Method Not Allowed\r\nAllow: GET, HEAD\r\nContent-Length: 0\r\nConnection: close\r\n\r\n".as_slice()
+    let page = answer_head(Status::Ok, b"Thu, 26 Nov 2026 12:00:00 GMT", Some(content));
+    holds(&rt, "a page", 0, page.as_slice() == PAGE.as_bytes());
+    let refusal = answer_head(Status::MethodNotAllowed, b"", None);
+    holds(
+        &rt,
+        "a refusal",
+        0,
+        refusal.as_slice() == REFUSAL.as_bytes(),
     );
 }

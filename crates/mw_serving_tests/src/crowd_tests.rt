@@ -3,6 +3,7 @@
 //! Nothing else uses it: it may change with what it tests.
 ghost use Rattle.std.specs.Prelude.{◌<◌};
 
+use crate::checks::holds;
 use crate::guests::{Answer, Crowd, Heard};
 use crate::serving::{Shop, serve};
 use arrayvec::ArrayVec;
@@ -10,7 +11,6 @@ use mw_connections::{Listener, Patient, RoomWatch};
 use mw_session::Ended;
 use mw_words::MAX_LINE;
 use mw_workers::ServeEnd;
-use std::alloc::AllocError;
 use std::cell::RefCell;
 use std::io;
 use std::io::ErrorKind;
@@ -71,7 +71,7 @@ fn serves_all<R: Threads + Wait + Clock + AllocGlobal + Sync>(
     rt: &R,
     workers: u8,
     wait: Option<u32>,
-) -> Result<usize, AllocError>
+) -> usize
     requires { 0 < workers }
 {
     let heard = [(); 9].map(|_| Mutex::new(Heard::new()));
@@ -86,26 +86,24 @@ fn serves_all<R: Threads + Wait + Clock + AllocGlobal + Sync>(
         connections: 9,
         wait,
     };
-    let (end, crowd) = serve(rt, rt.alloc(), crowd, shop)?;
-    if end == ServeEnd::Memory && crowd.asked == 0 {
-        return Err(AllocError);
+    match serve(rt, rt.alloc(), crowd, shop) {
+        Ok((ServeEnd::Served, crowd)) if crowd.asked == 9 => served_well(rt, &CROWD, &heard),
+        _ => 0,
     }
-    if end != ServeEnd::Served || crowd.asked != 9 {
-        return Ok(0);
-    }
-    Ok(served_well(rt, &CROWD, &heard))
 }
 
 /// Gives how many clients, from the first on, were told what they must be.
 fn served_well<R: Wait>(rt: &R, answers: &[Answer<'_>], heard: &[Mutex<Heard>]) -> usize {
-    let mut well = 0usize;
-    for (answer, heard) in answers.iter().zip(heard) {
-        if !is_as_it_must(answer, *heard.lock(rt)) {
-            return well;
+    for (at, answer) in answers.iter().enumerate() {
+        let is_right = match heard.get(at) {
+            Some(heard) => is_as_it_must(answer, *heard.lock(rt)),
+            None => false,
+        };
+        if !is_right {
+            return at;
         }
-        well = well.saturating_add(1);
     }
-    well
+    answers.len()
 }
 
 /// Tells whether what a client heard is what it must hear.
@@ -117,18 +115,24 @@ fn is_as_it_must(answer: &Answer<'_>, heard: Heard) -> bool {
 }
 
 #[test]
-fn each_client_is_served_once(rt: HostRuntime) -> Result<(), AllocError> {
+fn each_client_is_served_once(rt: HostRuntime) {
     for workers in [1, 3, 12] {
-        for wait in [None, Some(30)] {
-            let well = serves_all(&rt, workers, wait)?;
-            let limited = wait.is_some();
-            assert!(rt;
-                well == 9,
-                "{workers} workers, waiting limited: {limited}, {well} right"
-            );
-        }
+        let for_ever = serves_all(&rt, workers, None);
+        let limited = serves_all(&rt, workers, Some(30));
+        let count = usize::from(workers);
+        holds(
+            &rt,
+            "workers whose clients wait for ever",
+            count,
+            for_ever == 9,
+        );
+        holds(
+            &rt,
+            "workers whose clients wait a while",
+            count,
+            limited == 9,
+        );
     }
-    Ok(())
 }
 
 /// What a listener's clock and watch were told, in order: how many milliseconds to wait, and 0 if there is
@@ -220,6 +224,6 @@ fn waits_so(answers: &[Answer<'_>], wanted: &[u128]) -> bool {
 #[test]
 fn a_listener_waits_longer_each_time(rt: HostRuntime) {
     for (row, (answers, wanted)) in PATIENCE.iter().enumerate() {
-        assert!(rt; waits_so(answers, wanted), "row {row}");
+        holds(&rt, "a row", row, waits_so(answers, wanted));
     }
 }

@@ -3,16 +3,17 @@
 //!
 //! Nothing else uses it: it may change with what it tests.
 use crate::callers::Place;
+use crate::checks::holds;
 use crate::doors::{NO_LIMITS, Tally, open};
 use crate::scenes::{Act, Event, Site, Step};
 use crate::serving::{Count, serve_desk_scene};
 use mw_test_peers::Shelf;
 use mw_workers::{ServeEnd, TURN};
 use std::fs::File;
+use std::io;
 use std::net::{Net, TcpListener, TcpStream};
 use std::rt::Files;
 use std::sync::{Mutex, Wait};
-use std::test::Fail;
 use std::thread::Threads;
 use std::time::Clock;
 
@@ -108,7 +109,7 @@ static ROWS: [Row; 5] = [
 
 /// Plays a row. Gives how many of its steps went as they say, and whether serving ended well and a lack of room was told as
 /// often as it must be.
-fn plays<R>(rt: &R, row: &'static Row) -> Result<(usize, bool), Fail>
+fn plays<R>(rt: &R, row: &'static Row) -> io::Result<(usize, bool)>
 where
     R: Files<File = File>
         + Net<Listener = TcpListener, Stream = TcpStream>
@@ -143,14 +144,9 @@ where
 }
 
 #[test]
-fn administrators_take_turns(rt: HostRuntime) -> Result<(), Fail> {
+fn administrators_take_turns(rt: HostRuntime) {
     for row in &ROWS {
-        let (went, served) = plays(&rt, row)?;
-        let name = row.name;
-        assert!(rt;
-            served && went == row.steps.len(),
-            "{name}: {went} steps, served: {served}"
-        );
+        let (went, served) = plays(&rt, row).unwrap_or((0, false));
+        holds(&rt, row.name, went, served && went == row.steps.len());
     }
-    Ok(())
 }

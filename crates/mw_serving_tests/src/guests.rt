@@ -102,10 +102,11 @@ impl<'a> Write for Ear<'a> {
         if count == 0 && self.full.is_error() {
             return Err(io::Error::from(ErrorKind::Interrupted));
         }
-        if buf[..count] != self.rest[..count] {
+        let (taken, rest) = self.rest.split_at(count);
+        if !buf.starts_with(taken) {
             return Err(io::Error::from(ErrorKind::InvalidData));
         }
-        self.rest = &self.rest[count..];
+        self.rest = rest;
         Ok(count)
     }
 

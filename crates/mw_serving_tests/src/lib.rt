@@ -8,6 +8,8 @@
 #[cfg(test)]
 mod callers;
 #[cfg(test)]
+mod checks;
+#[cfg(test)]
 mod crowd_tests;
 #[cfg(test)]
 mod desk_tests;

@@ -33,9 +33,16 @@ impl Notebook {
 
     /// Tells whether it was asked for the words at these addresses, in order, and for no more.
     pub fn was_asked_for(&self, addresses: &[u16]) -> bool {
-        let as_many = self.complete && self.notes.len() == addresses.len();
-        let mut pairs = self.notes.iter().zip(addresses);
-        as_many && pairs.all(|(note, address)| note.job == Job::Get(*address))
+        for (at, note) in self.notes.iter().enumerate() {
+            let is_right = match (&note.job, addresses.get(at)) {
+                (Job::Get(found), Some(address)) => found == address,
+                _ => false,
+            };
+            if !is_right {
+                return false;
+            }
+        }
+        self.complete && self.notes.len() == addresses.len()
     }
 }
 

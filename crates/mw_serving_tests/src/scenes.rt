@@ -5,7 +5,6 @@
 use crate::callers::{Caller, Habit, Place, come_and_go};
 use crate::doors::Tally;
 use std::alloc::Global;
-use std::io::ErrorKind;
 use std::net::{Net, TcpListener, TcpStream};
 use std::thread::Threads;
 use std::time::{Clock, Duration, Instant};
@@ -118,7 +117,7 @@ pub fn play<R: Net<Listener = TcpListener, Stream = TcpStream> + Threads + Clock
     };
     let mut went = 0usize;
     for step in steps {
-        if !company.goes(rt, site, *step).unwrap_or(false) {
+        if company.goes(rt, site, *step) != Some(true) {
             return went;
         }
         went = went.saturating_add(1);
@@ -127,29 +126,29 @@ pub fn play<R: Net<Listener = TcpListener, Stream = TcpStream> + Threads + Clock
 }
 
 impl Company {
-    /// Takes a step. Gives true if it goes as it says.
+    /// Takes a step. Gives true if it goes as it says, and nothing if it cannot be taken.
     fn goes<R: Net<Listener = TcpListener, Stream = TcpStream> + Threads + Clock + Sync>(
         &mut self,
         rt: &R,
         site: Site<'_>,
         step: Step,
-    ) -> io::Result<bool> {
+    ) -> Option<bool> {
         match step {
             Step::Comes => self.comes(rt, site.place),
-            Step::Does(who, act) => act.goes(rt, site.alloc, self.caller(who)?),
+            Step::Does(who, act) => Some(act.goes(rt, site.alloc, self.caller(who)?)),
             Step::Leaves(who) => self.leaves(who),
             Step::GoesOn(who, habit, other) => self.goes_on(who, habit, other),
             Step::Begins(who) => self.begins(rt, who),
             Step::Lasted(who, least) => self.lasted(rt, who, least),
             Step::Passes(long) => {
                 thread::sleep(rt, Duration::from_millis(long));
-                Ok(true)
+                Some(true)
             }
-            Step::Awaits(event) => Ok(event.comes(rt, site.tally)),
+            Step::Awaits(event) => Some(event.comes(rt, site.tally)),
             Step::ManyChange => many_change(rt, site.alloc, site.place),
             Step::ComesElsewhere => {
                 come_and_go(rt, site.elsewhere, 1);
-                Ok(true)
+                Some(true)
             }
         }
     }
@@ -158,73 +157,64 @@ impl Company {
         &mut self,
         rt: &R,
         place: Place<'_>,
-    ) -> io::Result<bool> {
-        let begun = Instant::now(rt)?;
-        let caller = Some(Caller::new(rt, place)?);
-        self.players.push(Player { caller, begun })?;
-        Ok(true)
+    ) -> Option<bool> {
+        let begun = Instant::now(rt).ok()?;
+        let caller = Some(Caller::new(rt, place).ok()?);
+        Some(self.players.push(Player { caller, begun }).is_ok())
     }
 
-    fn leaves(&mut self, who: usize) -> io::Result<bool> {
-        self.player(who)?.caller = None;
-        Ok(true)
+    fn leaves(&mut self, who: usize) -> Option<bool> {
+        self.players.get_mut(who)?.caller = None;
+        Some(true)
     }
 
-    fn begins<R: Clock>(&mut self, rt: &R, who: usize) -> io::Result<bool> {
-        self.player(who)?.begun = Instant::now(rt)?;
-        Ok(true)
+    fn begins<R: Clock>(&mut self, rt: &R, who: usize) -> Option<bool> {
+        self.players.get_mut(who)?.begun = Instant::now(rt).ok()?;
+        Some(true)
     }
 
-    fn lasted<R: Clock>(&mut self, rt: &R, who: usize, least: u64) -> io::Result<bool> {
-        let lasted = self.player(who)?.begun.elapsed(rt)?;
-        Ok(lasted >= Duration::from_millis(least))
+    fn lasted<R: Clock>(&mut self, rt: &R, who: usize, least: u64) -> Option<bool> {
+        let lasted = self.players.get(who)?.begun.elapsed(rt).ok()?;
+        Some(lasted >= Duration::from_millis(least))
     }
 
-    fn goes_on(&mut self, who: usize, habit: Habit, other: usize) -> io::Result<bool> {
+    fn goes_on(&mut self, who: usize, habit: Habit, other: usize) -> Option<bool> {
         for _ in 0..LONG {
             self.caller(who)?.goes_on(habit);
-            if self.caller(other)?.has_news()? {
-                return Ok(true);
+            if self.caller(other)?.has_news().ok()? {
+                return Some(true);
             }
         }
-        Ok(false)
-    }
-
-    /// Gives the client of this number.
-    fn player(&mut self, who: usize) -> io::Result<&mut Player> {
-        match self.players.get_mut(who) {
-            Some(player) => Ok(player),
-            None => Err(io::Error::from(ErrorKind::NotFound)),
-        }
+        Some(false)
     }
 
     /// Gives the client's end of its connection.
-    fn caller(&mut self, who: usize) -> io::Result<&mut Caller> {
-        match &mut self.player(who)?.caller {
-            Some(caller) => Ok(caller),
-            None => Err(io::Error::from(ErrorKind::NotConnected)),
-        }
+    fn caller(&mut self, who: usize) -> Option<&mut Caller> {
+        self.players.get_mut(who)?.caller.as_mut()
     }
 }
 
 impl Act {
     /// Has a client do this. Gives true if it goes as this says.
-    fn goes<R: Clock>(self, rt: &R, alloc: Global, caller: &mut Caller) -> io::Result<bool> {
+    fn goes<R: Clock>(self, rt: &R, alloc: Global, caller: &mut Caller) -> bool {
         match self {
-            Act::Says(text) => Ok(caller.says(text)),
-            Act::SaysTooMuch(text) => {
-                let more = "x".repeat(alloc, TOO_MUCH)?;
-                let all = format!(in alloc; "{text}{more}")?;
-                Ok(caller.says(all.as_bytes()))
-            }
-            Act::SaysSlowly(text) => Ok(says_slowly(rt, caller, text)),
-            Act::Insists(text) => Ok(caller.insists(text, OFTEN)),
-            Act::Hears(told) => Ok(caller.hears(told)),
-            Act::Asks(text, told) => Ok(caller.asks(text, told)),
-            Act::Ends => Ok(caller.hears_the_end()),
-            Act::IsGone => Ok(caller.hears_no_more()),
+            Act::Says(text) => caller.says(text),
+            Act::SaysTooMuch(text) => says_too_much(alloc, caller, text),
+            Act::SaysSlowly(text) => says_slowly(rt, caller, text),
+            Act::Insists(text) => caller.insists(text, OFTEN),
+            Act::Hears(told) => caller.hears(told),
+            Act::Asks(text, told) => caller.asks(text, told),
+            Act::Ends => caller.hears_the_end(),
+            Act::IsGone => caller.hears_no_more(),
         }
     }
+}
+
+fn says_too_much(alloc: Global, caller: &mut Caller, text: &str) -> bool {
+    let mut all = Vec::new(alloc);
+    let is_begun = all.extend_from_slice(text.as_bytes()).is_ok();
+    let is_made = all.resize(text.len() + TOO_MUCH, b'x').is_ok();
+    is_begun && is_made && caller.says(&all)
 }
 
 fn says_slowly<R: Clock>(rt: &R, caller: &mut Caller, text: &[u8]) -> bool {
@@ -262,14 +252,20 @@ fn many_change<R: Net<Listener = TcpListener, Stream = TcpStream> + Threads + Sy
     rt: &R,
     alloc: Global,
     place: Place<'_>,
-) -> io::Result<bool> {
+) -> Option<bool> {
     let many = thread::map_indices(
         rt,
         alloc,
         MANY,
         &|word| { has_its_word(rt, alloc, place, word) },
-    )?;
-    Ok(many.iter().all(|served| matches!(served, Ok(true))))
+    )
+    .ok()?;
+    for served in &many {
+        if !matches!(served, Ok(true)) {
+            return Some(false);
+        }
+    }
+    Some(true)
 }
 
 /// A client that changes a word of its own from 0 to 20.

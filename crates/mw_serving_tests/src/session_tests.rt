@@ -2,13 +2,13 @@
 //! fails.
 //!
 //! Nothing else uses it: it may change with what it tests.
+use crate::checks::holds;
 use crate::guests::{ALL, Guest, Heard, Script};
 use crate::notebook::Notebook;
 use arrayvec::ArrayVec;
 use mw_connections::Connection;
 use mw_session::{Ended, NoOthers, Service};
 use mw_test_peers::{Clerk, Failure, INPUT, OUTPUT, Shelf, replied};
-use std::alloc::AllocError;
 use std::sync::{Mutex, Wait};
 
 /// Runs a session of this service with a client of this script. Gives how often the client was written to, if it was
@@ -120,13 +120,21 @@ static SESSIONS: [(u16, &str, &str); 11] = [
     ),
 ];
 
+/// Tells whether a peer that says this to a tenant of so many words, at once or a byte at a time, is told just that.
+fn is_told_however_cut<R: Wait + AllocGlobal>(
+    rt: &R,
+    words: u16,
+    says: &[u8],
+    told: &[u8],
+) -> bool {
+    is_told(rt, words, says, ALL, told) && is_told(rt, words, says, 1, told)
+}
+
 #[test]
 fn sessions_however_cut(rt: HostRuntime) {
-    for (words, says, told) in SESSIONS {
-        for piece in [ALL, 1] {
-            let right = is_told(&rt, words, says.as_bytes(), piece, told.as_bytes());
-            assert!(rt; right, "{says} in pieces of {piece}");
-        }
+    for (words, says, told) in &SESSIONS {
+        let right = is_told_however_cut(&rt, *words, says.as_bytes(), told.as_bytes());
+        holds(&rt, says, 0, right);
     }
 }
 
@@ -154,20 +162,19 @@ fn with_long_line(front: &[u8], count: usize, behind: &[u8]) -> ArrayVec<u8, 102
 
 #[test]
 fn long_lines(rt: HostRuntime) {
-    for (front, count, behind, told) in LONG_LINES {
-        let says = with_long_line(front, count, behind);
-        for piece in [ALL, 1] {
-            assert!(rt;
-                is_told(&rt, 2, &says, piece, told),
-                "{count} letters in pieces of {piece}"
-            );
-        }
+    for (front, count, behind, told) in &LONG_LINES {
+        let says = with_long_line(front, *count, behind);
+        let right = is_told_however_cut(&rt, 2, &says, told);
+        holds(&rt, "letters", *count, right);
     }
 }
 
-/// Sessions over the same words, one after the other: what a peer says, what it is told, how many bytes it takes at a time
-/// of that, and how its session ends. A peer that is told less than all goes away then.
-static SHARED: [[(&[u8], &[u8], usize, Ended); 2]; 2] = [
+/// What a peer says, what it is told, how many bytes it takes at a time of that, and how its session ends. A peer that is
+/// told less than all goes away then.
+type Held = (&'static [u8], &'static [u8], usize, Ended);
+
+/// Sessions over the same words, one after the other.
+static SHARED: [[Held; 2]; 2] = [
     [
         (
             b"TENANT t\nCAS 0:0:1 1:0:2\n",
@@ -183,17 +190,22 @@ static SHARED: [[(&[u8], &[u8], usize, Ended); 2]; 2] = [
     ],
 ];
 
+/// Tells whether a session over these words goes as it says.
+fn is_held<R: Wait + AllocGlobal>(rt: &R, shelf: &Mutex<Shelf>, session: Held) -> bool {
+    let (says, told, bite, ends) = session;
+    let script = Script {
+        bite,
+        ..Script::new(says, told, ends)
+    };
+    goes(rt, shelf, &script)
+}
+
 #[test]
 fn sessions_see_the_changes_of_earlier_ones(rt: HostRuntime) {
-    for (row, sessions) in SHARED.iter().enumerate() {
+    for (row, [first, second]) in SHARED.iter().enumerate() {
         let shelf = Mutex::new(Shelf::new(2));
-        for (says, told, bite, ends) in *sessions {
-            let script = Script {
-                bite,
-                ..Script::new(says, told, ends)
-            };
-            assert!(rt; goes(&rt, &shelf, &script), "row {row}");
-        }
+        let are_held = is_held(&rt, &shelf, *first) && is_held(&rt, &shelf, *second);
+        holds(&rt, "a row", row, are_held);
     }
 }
 
@@ -217,11 +229,10 @@ fn breaks_off<R: Wait + AllocGlobal>(rt: &R, taken: u8, failure: Failure) -> boo
 #[test]
 fn writer_sweep(rt: HostRuntime) {
     for taken in 0..13 {
-        for failure in [Failure::Error, Failure::Nothing] {
-            let swept = breaks_off(&rt, taken, failure);
-            let error = failure.is_error();
-            assert!(rt; swept, "{taken} bytes taken, then an error: {error}");
-        }
+        let by_error = breaks_off(&rt, taken, Failure::Error);
+        let by_nothing = breaks_off(&rt, taken, Failure::Nothing);
+        let broke_off = by_error && by_nothing;
+        holds(&rt, "bytes taken", usize::from(taken), broke_off);
     }
 }
 
@@ -247,11 +258,9 @@ fn part_is_told<R: Wait + AllocGlobal>(rt: &R, count: usize, failure: Failure) -
 #[test]
 fn reader_sweep(rt: HostRuntime) {
     for count in 0..24 {
-        for failure in [Failure::Error, Failure::Nothing] {
-            let told = part_is_told(&rt, count, failure);
-            let error = failure.is_error();
-            assert!(rt; told, "{count} bytes said, then an error: {error}");
-        }
+        let by_error = part_is_told(&rt, count, Failure::Error);
+        let by_nothing = part_is_told(&rt, count, Failure::Nothing);
+        holds(&rt, "bytes said", count, by_error && by_nothing);
     }
 }
 
@@ -263,8 +272,9 @@ fn jobs_that_are_asked_for(rt: HostRuntime) {
         b"ERR 3\nOK 2\nBUSY\nERR 6\nBUSY\nBYE\n",
         Ended::Quit,
     );
-    assert!(rt; run(&rt, &mut notebook, &script).is_some());
-    assert!(rt; notebook.was_asked_for(&[1, 0]));
+    let was_told = run(&rt, &mut notebook, &script).is_some();
+    let was_asked = notebook.was_asked_for(&[1, 0]);
+    holds(&rt, "jobs", 2, was_told && was_asked);
 }
 
 /// How many lines a long session has. A line comes at a time. Their replies have over 100,000 bytes.
@@ -274,9 +284,9 @@ const MANY: usize = 20_000;
 const LINE: usize = 6;
 
 #[test]
-fn a_long_session(rt: HostRuntime) -> Result<(), AllocError> {
-    let says = "GET 0\n".repeat(rt.alloc(), MANY)?;
-    let told = "ERR 3\n".repeat(rt.alloc(), MANY)?;
-    assert!(rt; is_told(&rt, 2, says.as_bytes(), LINE, told.as_bytes()));
-    Ok(())
+fn a_long_session(rt: HostRuntime) {
+    let says = "GET 0\n".repeat(rt.alloc(), MANY).expect(&rt, "memory");
+    let told = "ERR 3\n".repeat(rt.alloc(), MANY).expect(&rt, "memory");
+    let right = is_told(&rt, 2, says.as_bytes(), LINE, told.as_bytes());
+    holds(&rt, "lines", MANY, right);
 }

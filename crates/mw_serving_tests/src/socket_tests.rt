@@ -3,26 +3,28 @@
 //!
 //! Nothing else uses it: it may change with what it tests.
 use crate::callers::{Caller, Place};
+use crate::checks::holds;
 use crate::doors::{NO_LIMITS, OWNER_AND_GROUP, Tally, open};
 use crate::local_lookout::Lookout;
 use crate::scene_rows::{BY_LOCAL_SOCKET, OVER_TCP, Row};
 use crate::serving::serve_scene;
 use mw_connections::listen_at;
 use mw_workers::ServeEnd;
+use std::alloc::{AllocError, Global};
 use std::fs::File;
 use std::io::ErrorKind;
 use std::net::{Net, TcpListener, TcpStream};
 use std::os::unix::fs::PermissionsExt;
+use std::process::Abort;
 use std::rt::Files;
 use std::sync::Wait;
-use std::test::Fail;
 use std::thread::Threads;
 use std::time::Clock;
 use std::{env, fs, io, process};
 
 /// Plays a row at this address, which has this path if it is a local socket. Gives how many of its steps went as they
 /// say, and whether serving ended well: not if others may come to the local socket, or somebody else could listen there.
-fn plays<R>(rt: &R, row: &'static Row, address: &str, path: &str) -> Result<(usize, bool), Fail>
+fn plays<R>(rt: &R, row: &'static Row, address: &str, path: &str) -> io::Result<(usize, bool)>
 where
     R: Files<File = File>
         + Net<Listener = TcpListener, Stream = TcpStream>
@@ -46,30 +48,48 @@ where
     Ok((went, kept && end? == ServeEnd::Served))
 }
 
-#[test]
-fn clients_over_tcp(rt: HostRuntime) -> Result<(), Fail> {
-    for row in &OVER_TCP {
-        let (went, served) = plays(&rt, row, "127.0.0.1:0", "")?;
-        let name = row.name;
-        assert!(rt;
-            served && went == row.steps.len(),
-            "{name}: {went} steps, served: {served}"
-        );
+/// Plays these rows at this address, which has this path if it is a local socket. All of their steps go as they say.
+fn play_all<R>(rt: &R, rows: &'static [Row], address: &str, path: &str)
+where
+    R: Files<File = File>
+        + Net<Listener = TcpListener, Stream = TcpStream>
+        + AllocGlobal
+        + Threads
+        + Wait
+        + Clock
+        + Sync
+        + Abort,
+{
+    for row in rows {
+        let (went, served) = plays(rt, row, address, path).unwrap_or((0, false));
+        holds(rt, row.name, went, served && went == row.steps.len());
     }
-    Ok(())
+}
+
+#[test]
+fn clients_over_tcp(rt: HostRuntime) {
+    play_all(&rt, &OVER_TCP, "127.0.0.1:0", "");
 }
 
 /// What follows the folder in the path of a socket.
 const SOCKET: &str = "/s";
 
+/// What a test says if its folder can't be made or removed.
+const FOLDER: &str = "a folder";
+
 /// Makes a new folder for a socket, with this in its name. Gives the socket's path.
-fn new_path(rt: &HostRuntime, name: &str) -> Result<String, Fail> {
+fn new_path(rt: &HostRuntime, name: &str) -> io::Result<String> {
     let id = process::id(rt.process());
     let above = env::temp_dir(rt)?;
     let mut path = format!(in rt.alloc(); "{}/mondlexi-{name}-{id}", above.as_str())?;
     fs::create_dir(rt, path.as_str())?;
     path.push_str(SOCKET)?;
     Ok(path)
+}
+
+/// Gives the address of the local socket with this path.
+fn address_of(alloc: Global, path: &str) -> Result<String, AllocError> {
+    format!(in alloc; "unix:{path}")
 }
 
 /// Removes the folder of the socket with this path.
@@ -97,28 +117,20 @@ where
 }
 
 #[test]
-fn clients_by_a_local_socket(rt: HostRuntime) -> Result<(), Fail> {
-    let path = new_path(&rt, "clients")?;
-    let address = format!(in rt.alloc(); "unix:{path}")?;
-    for row in &BY_LOCAL_SOCKET {
-        let (went, served) = plays(&rt, row, address.as_str(), path.as_str())?;
-        let name = row.name;
-        assert!(rt;
-            served && went == row.steps.len(),
-            "{name}: {went} steps, served: {served}"
-        );
-    }
-    remove_folder(&rt, path.as_str())?;
-    Ok(())
+fn clients_by_a_local_socket(rt: HostRuntime) {
+    let path = new_path(&rt, "clients").expect(&rt, FOLDER);
+    let address = address_of(rt.alloc(), path.as_str()).expect(&rt, FOLDER);
+    play_all(&rt, &BY_LOCAL_SOCKET, address.as_str(), path.as_str());
+    remove_folder(&rt, path.as_str()).expect(&rt, FOLDER);
 }
 
 /// Tells whether nobody could connect to the socket with this path before its mode was set, and its owner and group
 /// can then.
-fn is_closed_at_first<R>(rt: &R, path: &str) -> Result<bool, Fail>
+fn is_closed_at_first<R>(rt: &R, path: &str) -> io::Result<bool>
 where
     R: Files<File = File> + Net<Listener = TcpListener, Stream = TcpStream> + AllocGlobal,
 {
-    let address = format!(in rt.alloc(); "unix:{path}")?;
+    let address = address_of(rt.alloc(), path)?;
     let lookout = Lookout::new(rt);
     let clients = listen_at(&lookout, address.as_str(), OWNER_AND_GROUP, NO_LIMITS)?;
     let closed = lookout.modes_set() == 1 && lookout.connected_before() == 0;
@@ -129,9 +141,9 @@ where
 }
 
 #[test]
-fn nobody_connects_before_the_mode_is_set(rt: HostRuntime) -> Result<(), Fail> {
-    let path = new_path(&rt, "mode")?;
-    assert!(rt; is_closed_at_first(&rt, path.as_str())?);
-    remove_folder(&rt, path.as_str())?;
-    Ok(())
+fn nobody_connects_before_the_mode_is_set(rt: HostRuntime) {
+    let path = new_path(&rt, "mode").expect(&rt, FOLDER);
+    let is_closed = is_closed_at_first(&rt, path.as_str());
+    holds(&rt, "a socket", 0, is_closed.unwrap_or(false));
+    remove_folder(&rt, path.as_str()).expect(&rt, FOLDER);
 }
