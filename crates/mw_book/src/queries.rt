@@ -1,8 +1,8 @@
-//! Tells a book's number of words and places, whether its file has failed, whether a place is free, and whether a change is
-//! prepared ahead.
+//! Tells a book's number of words and places, whether its file has failed, whether a place is free, and whether a
+//! change is prepared ahead.
 //!
-//! mw_engine asks whether a change is prepared ahead. Only tests call the others (mw_file_tests): the server makes calls on
-//! a book, and takes its words when a file opens.
+//! mw_engine asks whether a change is prepared ahead. Only tests call the others (mw_file_tests): the server makes
+//! calls on a book, and takes its words when a file opens.
 ghost use Rattle.std.specs.Prelude.{◌≡◌, ◌&&◌, true, false, nat_lt, is_some};
 ghost use Rattle.mw_world_file.specs.Files.{File, empty_from};
 
@@ -53,8 +53,8 @@ impl<D: Disk> Book<D> {
         }
     }
 
-    /// Tells whether a change of a slot with these entries is prepared ahead. Then its prepare makes no device call. A file that
-    /// didn't open has none.
+    /// Tells whether a change of a slot with these entries is prepared ahead. Then its prepare makes no device call. A
+    /// file that didn't open has none.
     pub fn has_written(&self, slot: u8, entries: &Entries) -> bool
         ensures { result ≡ (is_some self.now.held && ahead.has_written self.now slot entries.now.items) }
     {

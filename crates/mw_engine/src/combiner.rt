@@ -1,27 +1,27 @@
 //! Makes the calls of many requests on one file, one call at a time, so that they share syncs.
 //!
-//! A worker whose request comes to a call on its file tries the file's lock. If others wait for the file, or are expected
-//! there, it leaves the request in its box (`errand_boxes`), enters the file's room, and sleeps. Whoever gets the lock
-//! makes the call of those that wait that is best made next (`order`), its own or another worker's, and no more: the lock
-//! is kept for one call, and for no step and no point of the engine's `Hold`. Then that worker makes calls that are due
-//! and cheap, as a courtesy, wakes others, and goes on with its own request. So a seal's sync writes the records of all
-//! that wait, and a settle settles all sealed changes. This is flat combining (Hendler, Incze, Shavit, Tzafrir, 2010)
-//! of calls, without a combiner that others depend on.
+//! A worker whose request comes to a call on its file tries the file's lock. If others wait for the file, or are
+//! expected there, it leaves the request in its box (`errand_boxes`), enters the file's room, and sleeps. Whoever gets
+//! the lock makes the call of those that wait that is best made next (`order`), its own or another worker's, and no
+//! more: the lock is kept for one call, and for no step and no point of the engine's `Hold`. Then that worker makes
+//! calls that are due and cheap, as a courtesy, wakes others, and goes on with its own request. So a seal's sync writes
+//! the records of all that wait, and a settle settles all sealed changes. This is flat combining (Hendler, Incze,
+//! Shavit, Tzafrir, 2010) of calls, without a combiner that others depend on.
 //!
 //! # Why no worker sleeps for ever
 //!
-//! No sleep is longer than a fiftieth of a second, and then the worker tries the lock itself. Rings only make it faster. A worker
-//! that is stopped holds nothing that others need, but while it has the file's lock or the room's: its request waits, and
-//! theirs go on. Others wait for it once, for a fifth of a millisecond, if its change was prepared and its seal is
-//! expected.
+//! No sleep is longer than a fiftieth of a second, and then the worker tries the lock itself. Rings only make it
+//! faster. A worker that is stopped holds nothing that others need, but while it has the file's lock or the room's: its
+//! request waits, and theirs go on. Others wait for it once, for a fifth of a millisecond, if its change was prepared
+//! and its seal is expected.
 //!
 //! # Who wakes whom
 //!
 //! A worker enters the room, and tries the lock before each sleep. If the lock is held, its holder looks into the room
-//! after the release. It makes calls there, or rings the bell of the one that came first, unless it comes back soon itself.
-//! Of the workers whose calls were made three are rung, and each that takes its request back rings the next: if all
-//! woke at once, the first reply would wait for a processor. A worker whose change another one has sealed sleeps on until
-//! the settle of all.
+//! after the release. It makes calls there, or rings the bell of the one that came first, unless it comes back soon
+//! itself. Of the workers whose calls were made three are rung, and each that takes its request back rings the next: if
+//! all woke at once, the first reply would wait for a processor. A worker whose change another one has sealed sleeps on
+//! until the settle of all.
 //!
 //! Used by: `serving`; `copies` calls `wake_next`. Its contracts use `specs/Errands`: change them together.
 ghost use Rattle.std.specs.Prelude.{◌≢◌, None, IfOk, IfErr};
@@ -106,8 +106,8 @@ impl<J: EngineBrand, D: Disk + Drop, H: Hold + Drop> Engine<J, D, H> {
         });
     }
 
-    /// Makes the call of a worker's own request with the file's lock, and releases it. If others are there it then makes calls
-    /// of theirs.
+    /// Makes the call of a worker's own request with the file's lock, and releases it. If others are there it then
+    /// makes calls of theirs.
     fn make_own(
         &self,
         rt: &impl Wait,
@@ -166,7 +166,8 @@ impl<J: EngineBrand, D: Disk + Drop, H: Hold + Drop> Engine<J, D, H> {
     }
 
     /// Makes the next call of a request on its file alone, and waits for the lock. It is for a box that isn't at its
-    /// number or isn't empty, and for a request of which no other worker knows. None of these happens, but no type says so.
+    /// number or isn't empty, and for a request of which no other worker knows. None of these happens, but no type says
+    /// so.
     fn go_oneself(&self, rt: &impl Wait, errand: Errand) -> Errand
         requires here { IsCarriedHere J.identity errand }
         ensures { GoesOn J.identity errand result }
@@ -244,8 +245,8 @@ impl<J: EngineBrand, D: Disk + Drop, H: Hold + Drop> Engine<J, D, H> {
 }
 
 impl<J: EngineBrand, D: Disk + Drop, H: Hold + Drop> Engine<J, D, H> {
-    /// Makes a call of those that wait, if one may be made. Else sleeps, until the worker's bell is rung or a short time is
-    /// over. Tells how the worker waits from then on.
+    /// Makes a call of those that wait, if one may be made. Else sleeps, until the worker's bell is rung or a short
+    /// time is over. Tells how the worker waits from then on.
     fn serve_or_sleep(
         &self,
         rt: &impl Wait,
@@ -279,8 +280,8 @@ impl<J: EngineBrand, D: Disk + Drop, H: Hold + Drop> Engine<J, D, H> {
         next
     }
 
-    /// Makes the next call of those that wait, if the lock is free and one may be made. If it syncs, workers whose calls were
-    /// made are woken before.
+    /// Makes the next call of those that wait, if the lock is free and one may be made. If it syncs, workers whose
+    /// calls were made are woken before.
     fn serve_one(
         &self,
         rt: &impl Wait,
@@ -345,8 +346,8 @@ impl<J: EngineBrand, D: Disk + Drop, H: Hold + Drop> Engine<J, D, H> {
         if is_lent { Some(own_box) } else { None }
     }
 
-    /// Makes the call on this file to which a request has come. Does nothing if it has come to none, or the file is another
-    /// tenant's.
+    /// Makes the call on this file to which a request has come. Does nothing if it has come to none, or the file is
+    /// another tenant's.
     fn make(&self, file: &mut GuardedFile<J, D>, pass: &mut Pass, actor: &mut Actor)
         requires here { CarriesRequest J.identity pass.old actor.old }
         ensures { RequestGoesOn J.identity pass.old actor.old pass.new actor.new }
@@ -360,8 +361,8 @@ impl<J: EngineBrand, D: Disk + Drop, H: Hold + Drop> Engine<J, D, H> {
         }
     }
 
-    /// A worker has taken its request back, and goes: it wakes the next of those whose calls were made. If it made calls of
-    /// others meanwhile, it looks once more.
+    /// A worker has taken its request back, and goes: it wakes the next of those whose calls were made. If it made
+    /// calls of others meanwhile, it looks once more.
     fn go(&self, rt: &impl Wait, lock: &FileLock<J, D>, waiter: &Waiter, has_served: bool) {
         if let Some(next) = lock.room.take_back(rt, waiter.worker) {
             self.ring(next);
@@ -371,8 +372,8 @@ impl<J: EngineBrand, D: Disk + Drop, H: Hold + Drop> Engine<J, D, H> {
         }
     }
 
-    /// A worker whose call was made goes, while others are in the room. It makes those of their calls that need no sync and, if it
-    /// comes back soon, the seals. Else it wakes the one that came first.
+    /// A worker whose call was made goes, while others are in the room. It makes those of their calls that need no sync
+    /// and, if it comes back soon, the seals. Else it wakes the one that came first.
     fn leave(&self, rt: &impl Wait, lock: &FileLock<J, D>, waiter: &Waiter) {
         let comes_back = waiter.comes_back();
         let choosing = if comes_back {

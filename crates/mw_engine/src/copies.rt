@@ -14,7 +14,7 @@ use std::sync::Wait;
 
 impl<J: EngineBrand, D: Disk + Drop, H: Drop> Engine<J, D, H> {
     /// Copies the bytes of a tenant's file between two calls on it. Waits for the lock of that file, which a thread
-    /// holds for the calls of up to 64 requests. The number must be one of the engine's tenants.
+    /// holds for one call. The number must be one of the engine's tenants.
     ///
     /// On a disk that keeps the model of [`Disk`], the copy is a file of just the words that the file pass tells at
     /// that moment. It has at most 86,848 bytes (`MAX_FILE` of mw_record). Nothing is written, and what the lock

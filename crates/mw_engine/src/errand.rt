@@ -1,4 +1,4 @@
-//! A request that other threads may go on with: its pass and its machine.
+//! A request that is at a call on its tenant's file, which any thread may make: its pass and its machine.
 //!
 //! Used by: `errand_boxes`, `combiner`. `specs/Errands` says how a request comes back: change them together.
 use crate::brand::EngineBrand;

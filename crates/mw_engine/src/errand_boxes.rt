@@ -14,8 +14,8 @@ use std::sync::atomic::{AtomicBool, Ordering};
 pub(crate) struct ErrandBox<J: EngineBrand> {
     pub(crate) loan: LoanBox<Errand, ErrandLasts<J>>,
     pub(crate) bell: Bell,
-    /// Whether the request's call was made. Whoever makes it sets this while it holds the file's lock. It is a hint: the
-    /// box itself tells whether the request can be taken back.
+    /// Whether the request's call was made. Whoever makes it sets this while it holds the file's lock. It is a hint:
+    /// the box itself tells whether the request can be taken back.
     is_done: AtomicBool,
 }
 

@@ -1,7 +1,8 @@
 //! The lock of a tenant's file, with a room for those that wait for it.
 //!
 //! Used by: `engine`; `start`, which makes it; `serving`, `combiner` and `copies`, which take it; `end`. The contracts
-//! of the file come from its lock. The room has none. Whoever releases the lock calls `wake_next` then.
+//! of the file come from its lock. The room has none. Whoever releases the lock then looks into the room, or calls
+//! `wake_next`.
 use crate::brand::EngineBrand;
 use crate::guarded_file::GuardedFile;
 use crate::order::Waiter;
@@ -50,8 +51,8 @@ impl<J: EngineBrand, D: Disk> FileLock<J, D> {
         self.file.lock(rt)
     }
 
-    /// Takes the lock for a worker that comes to a call, if its call may be made before others come, and the lock is free or
-    /// gets free within some microseconds.
+    /// Takes the lock for a worker that comes to a call, if its call may be made before others come, and the lock is
+    /// free or gets free within some microseconds.
     pub(crate) fn lock_for(&self, waiter: &Waiter) -> Option<FairGuard<'_, GuardedFile<J, D>>> {
         if self.room.may_try(waiter) {
             self.file.try_lock_for_a_while()

@@ -1,7 +1,7 @@
 //! What is known of a tenant's file, and of the workers around it, without a look into its room.
 //!
-//! Used by: `waiting_room`, `order`. All of it is a hint, which may be old or wrong. Then a call comes too early or too late, and
-//! costs a sync more or a short sleep. No contract rests on it.
+//! Used by: `waiting_room`, `order`. All of it is a hint, which may be old or wrong. Then a call comes too early or too
+//! late, and costs a sync more or a short sleep. No contract rests on it.
 use std::sync::atomic::{AtomicBool, AtomicU64, AtomicUsize, Ordering};
 
 /// How many slots a word of a set has.
@@ -57,7 +57,7 @@ impl SlotSet {
         self.word(slot).load(Ordering::SeqCst) & bit(slot) != 0
     }
 
-    fn insert(&self, slot: u8) {
+    fn add(&self, slot: u8) {
         self.word(slot).fetch_or(bit(slot), Ordering::SeqCst);
     }
 
@@ -131,7 +131,7 @@ impl Hints {
 
     /// The change of a slot is sealed in the file.
     pub(crate) fn seal(&self, slot: u8) {
-        self.sealed.insert(slot);
+        self.sealed.add(slot);
     }
 
     /// Whether the change of a slot is sealed in the file, and not settled there.

@@ -28,8 +28,9 @@ impl<J: EngineBrand, D: Disk + Drop, H: Hold + Drop> Engine<J, D, H> {
     /// Serves one job of a tenant and gives its reply, one that the job can have. The request is noted with its reply,
     /// at a place that is right and no smaller than what the pass had seen when the request came. It is answered BUSY
     /// or FAULT only if one of its own steps observed the cause. WORN has such a cause, or all attempt numbers of the
-    /// worker are used up. A worker takes two locks: the file's, for calls on it and the steps between these, and for
-    /// moments that of the file's room. Whoever holds the file's may also serve others' requests.
+    /// worker are used up. A worker takes two locks: the file's, for one call on it at a time, and for moments that of
+    /// the file's room. It makes its request's steps itself, with neither. Whoever has the file's may make the calls of
+    /// others.
     pub fn serve(&self, rt: &impl Wait, pass: &mut Pass, tenant: u8, job: &Job) -> Reply
         requires own { IsPassOf J.identity pass.old }
         requires formed { IsFor J.identity.lines tenant job.now }
@@ -89,8 +90,7 @@ impl<J: EngineBrand, D: Disk + Drop, H: Hold + Drop> Engine<J, D, H> {
     }
 
     /// Makes the call on its tenant's file to which the pass's request has come. Waits for the lock of that file. No
-    /// other thread makes the call. Used by tests that make each step, if the hold may hold a worker, and where `combine`
-    /// can't use a box.
+    /// other thread makes the call. Used by tests that make each step, and where `combine` can't use a box.
     pub fn file(&self, rt: &impl Wait, pass: &mut Pass, actor: &mut Actor)
         requires own { IsPassOf J.identity pass.old }
         requires carried { IsCarried pass.old actor.old }

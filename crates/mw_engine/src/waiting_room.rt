@@ -1,8 +1,9 @@
-//! Who waits for a tenant's file: workers, one of whose calls whoever gets the file's lock makes next, and changes, whose
-//! records a call on the file writes along with its own bytes.
+//! Who waits for a tenant's file: workers, one of whose calls whoever gets the file's lock makes next, and changes,
+//! whose records a call on the file writes along with its own bytes.
 //!
 //! Used by: `file_lock`, `guarded_file`, `start`, `combiner`. No contract says who is there: a call on a book takes the
-//! changes that it can use, and leaves the rest to their own prepares. A worker that nobody serves tries the lock itself.
+//! changes that it can use, and leaves the rest to their own prepares. A worker that nobody serves tries the lock
+//! itself.
 use crate::brand::EngineBrand;
 use crate::errand_boxes::ErrandBox;
 use crate::hints::Hints;
@@ -99,8 +100,9 @@ impl WaitingRoom {
         true
     }
 
-    /// Takes the worker out of the room whose call is made next, if one may be made, and adds the changes that wait here
-    /// to a list. If the call syncs, the first workers that were served are to be woken meanwhile, and are added to
+    /// Takes the worker out of the room whose call is made next, if one may be made, and adds the changes that wait
+    /// here to a list. If the call syncs, the first workers that were served are to be woken meanwhile, and are added
+    /// to
     /// `woken`. The caller has the file's lock.
     pub(crate) fn choose(
         &self,
@@ -142,8 +144,8 @@ impl WaitingRoom {
         }
     }
 
-    /// A worker's own thread made its call on this book. Strikes those off the list of changes that wait whose records the
-    /// book has by now. The caller has the file's lock.
+    /// A worker's own thread made its call on this book. Strikes those off the list of changes that wait whose records
+    /// the book has by now. The caller has the file's lock.
     pub(crate) fn end<D: Disk>(
         &self,
         rt: &impl Wait,
@@ -163,8 +165,8 @@ impl WaitingRoom {
         self.count(&waits);
     }
 
-    /// The same of a call that another thread made, for a request in a box. The box then tells that the call was made. Its worker
-    /// is woken later, and whoever wakes it finds it in the room.
+    /// The same of a call that another thread made, for a request in a box. The box then tells that the call was made.
+    /// Its worker is woken later, and whoever wakes it finds it in the room.
     pub(crate) fn end_for<J: EngineBrand, D: Disk>(
         &self,
         rt: &impl Wait,
@@ -222,8 +224,8 @@ impl WaitingRoom {
         }
     }
 
-    /// A worker to be woken when nobody else is to come: the first of those that wait here, else of those whose changes are
-    /// sealed.
+    /// A worker to be woken when nobody else is to come: the first of those that wait here, else of those whose changes
+    /// are sealed.
     pub(crate) fn next(&self, rt: &impl Wait) -> Option<u8> {
         if self.is_empty() || !self.hints.expects_nobody() {
             return None;
@@ -262,8 +264,8 @@ impl WaitingRoom {
     }
 }
 
-/// Adds a worker whose call another one made to those that are woken: that of a seal once its change is settled in the file,
-/// that of a prepare before those that have only their replies left.
+/// Adds a worker whose call another one made to those that are woken: that of a seal once its change is settled in the
+/// file, that of a prepare before those that have only their replies left.
 fn add_served(waits: &mut Waits, waiter: &Waiter) {
     if waits.served.is_full() || waits.sealed.is_full() {
         return;

@@ -160,8 +160,8 @@ fn is_so_of<'l, J: EngineBrand + Send + Sync, R: Threads + Wait + Sync>(
     }
 }
 
-/// Makes workers of these passes, and has all but the last do what the case says. Gives whether they do, and the pass of
-/// the last one. Gives None if memory is refused.
+/// Makes workers of these passes, and has all but the last do what the case says. Gives whether they do, and the pass
+/// of the last one. Gives None if memory is refused.
 fn done_by_workers<J: EngineBrand + Send + Sync, R: Threads + Wait + Sync>(
     rt: &R,
     alloc: Global,

@@ -225,8 +225,8 @@ fn one_settle_for_all_sealed_changes(rt: HostRuntime) {
     assert!(rt; second_change_is(&rt, rt.alloc(), 31, b"OK 4\nYES\nYES\n", 2));
 }
 
-/// Worker 0 is held at a point. Meanwhile two others come to their seals while a sync of a third one is under way, so they
-/// wait for the file. All three are answered, and so is the third one's next change.
+/// Worker 0 is held at a point. Meanwhile two others come to their seals while a sync of a third one is under way, so
+/// they wait for the file. All three are answered, and so is the third one's next change.
 #[test]
 fn waiting_workers_pass_a_held_one(rt: HostRuntime) {
     for point in [

@@ -166,8 +166,8 @@ fn comes_to(counter: &AtomicU64, count: u64) -> bool {
     false
 }
 
-/// Has workers come to a latch at each point of their requests. If there is a second latch, workers 1 and 2 gather there
-/// before they seal.
+/// Has workers come to a latch at each point of their requests. If there is a second latch, workers 1 and 2 gather
+/// there before they seal.
 #[derive(Drop)]
 pub(crate) struct ByLatch<'l> {
     pub(crate) latch: &'l Latch,

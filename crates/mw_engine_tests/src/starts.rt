@@ -78,8 +78,8 @@ pub(crate) struct Started<'l> {
     pub(crate) passes: Vec<Pass>,
 }
 
-/// Starts an engine of a case's tenants, whose files are on these disks. It has a pass for each of the case's workers, and one
-/// that sees the files in the end. Gives None if memory is refused.
+/// Starts an engine of a case's tenants, whose files are on these disks. It has a pass for each of the case's workers,
+/// and one that sees the files in the end. Gives None if memory is refused.
 pub(crate) fn start<'l>(
     alloc: Global,
     case: &Case<'_>,

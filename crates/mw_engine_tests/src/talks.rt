@@ -72,8 +72,8 @@ pub(crate) struct Story<'c> {
     pub(crate) place: Place,
     /// How many come there before it.
     pub(crate) before: u64,
-    /// Whether workers 1 and 2 gather meanwhile with their seals, until a sync of worker 3 is under way. It lasts until both
-    /// go on.
+    /// Whether workers 1 and 2 gather meanwhile with their seals, until a sync of worker 3 is under way. It lasts until
+    /// both go on.
     pub(crate) gathers: bool,
     /// The talks, each of another worker.
     pub(crate) talks: &'c [Talk],

@@ -8,8 +8,8 @@ use std::time::Duration;
 
 /// A bell. A thread that sleeps by it wakes when it is rung.
 ///
-/// A thread first listens, then looks whether there is something to do, and only then sleeps. So a ring between the look
-/// and the sleep prevents the sleep.
+/// A thread first listens, then looks whether there is something to do, and only then sleeps. So a ring between the
+/// look and the sleep prevents the sleep.
 #[derive(Drop)]
 pub struct Bell {
     /// How often it was rung.
@@ -33,10 +33,11 @@ impl Bell {
         Heard(self.rings.load(Ordering::SeqCst))
     }
 
-    /// Sleeps until the bell is rung, for so many microseconds at most. Doesn't sleep if it was rung since `heard`. Tells
-    /// whether it was. The sleep may end early for no reason, so the caller looks again.
+    /// Sleeps until the bell is rung, for so many microseconds at most. Doesn't sleep if it was rung since `heard`.
+    /// Tells whether it was. The sleep may end early for no reason, so the caller looks again.
     pub fn sleep(&self, rt: &impl Wait, heard: Heard, micros: u64) -> bool {
-        self.rings.park_timeout(rt, low_half(heard.0), Duration::from_micros(micros));
+        self.rings
+            .park_timeout(rt, low_half(heard.0), Duration::from_micros(micros));
         self.rings.load(Ordering::SeqCst) != heard.0
     }
 

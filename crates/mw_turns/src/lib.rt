@@ -15,8 +15,8 @@
 //!
 //! A [`Bell`] wakes a thread that waits outside the queue. It is what others call an event count.
 //!
-//! Used by: mw_engine, for the files of the tenants. In `mwserve` requests wait by a bell, and only copies of a file queue.
-//! Requests also queue if the engine's `Hold` may hold a worker.
+//! Used by: mw_engine, for the files of the tenants. Requests wait by a bell, and copies of a file queue.
+//! `Engine::file` queues too: tests call it, and `serve` if no other worker can make its call.
 #![tactic(auto)]
 
 mod bell;
