@@ -52,20 +52,8 @@ pub struct Counts {
     pub refused: u64,
 }
 
-/// What a line asked for.
-#[derive(Clone, Copy)]
-enum Asked {
-    /// The value of a word.
-    Read,
-    /// A change that expects each word to have been changed so many times.
-    Change(u64),
-}
-
-impl Default for Asked {
-    fn default() -> Asked {
-        Asked::Read
-    }
-}
+/// What a line asked for: a change that expects each word to have been changed so many times. None: the value of a word.
+type Asked = Option<u64>;
 
 /// A client at work, with what it knows.
 #[derive(Drop)]
@@ -123,26 +111,35 @@ impl Asker {
     ///
     /// Why it can't go on. What was counted stays counted.
     pub fn round<K: Clock>(&mut self, clock: &K) -> Result<(), Stop> {
-        let Some(asked) = self.put_lines() else {
-            return Err(Stop::Here);
-        };
+        self.is_busy = false;
+        let asked = self.put_lines()?;
+        let begun = self.send(clock)?;
+        for line in &asked {
+            self.hear(clock, begun, *line)?;
+        }
+        Ok(())
+    }
+
+    /// Sends the lines of a round, and gives the time before.
+    fn send<K: Clock>(&mut self, clock: &K) -> Result<Instant, Stop> {
         let Ok(begun) = Instant::now(clock) else {
             return Err(Stop::Here);
         };
-        self.is_busy = false;
-        if self.client.writer.write_all(&self.lines).is_err() {
+        match self.client.writer.write_all(&self.lines) {
+            Ok(()) => Ok(begun),
+            Err(_) => Err(Stop::Lost),
+        }
+    }
+
+    /// Reads the reply to a line, and counts it.
+    fn hear<K: Clock>(&mut self, clock: &K, begun: Instant, asked: Asked) -> Result<(), Stop> {
+        let Some(said) = next_reply(&mut self.client.reader) else {
             return Err(Stop::Lost);
+        };
+        match begun.elapsed(clock) {
+            Ok(taken) => self.note(asked, said, nanos_of(taken.as_nanos())),
+            Err(_) => Err(Stop::Here),
         }
-        for line in asked.iter() {
-            let Some(said) = next_reply(&mut self.client.reader) else {
-                return Err(Stop::Lost);
-            };
-            let Ok(taken) = begun.elapsed(clock) else {
-                return Err(Stop::Here);
-            };
-            self.note(*line, said, nanos_of(taken.as_nanos()))?;
-        }
-        Ok(())
     }
 
     /// Waits if the server was busy in the last round, as a client of mw_client does: twice as long each time.
@@ -159,24 +156,23 @@ impl Asker {
         self.pauses = Some(pauses);
     }
 
-    /// Makes the lines of a round, and gives what they ask for. Gives None if memory was refused, or no
-    /// tenant can have an address.
-    fn put_lines(&mut self) -> Option<ArrayVec<Asked, MAX_PIPELINE>> {
+    /// Makes the lines of a round, and gives what they ask for.
+    fn put_lines(&mut self) -> Result<ArrayVec<Asked, MAX_PIPELINE>, Stop> {
         self.lines.clear();
         let mut asked = ArrayVec::new();
         let mut expected = self.changed;
         for _ in 0..self.task.pipeline {
             if self.dice.next_u64() % 100 < self.task.reads {
                 put_job(&mut self.lines, Job::Get(self.task.first))?;
-                let _ = asked.try_push(Asked::Read);
+                let _ = asked.try_push(None);
             } else {
                 let entries = self.entries(expected);
                 put_job(&mut self.lines, Job::Cas(entries))?;
-                let _ = asked.try_push(Asked::Change(expected));
+                let _ = asked.try_push(Some(expected));
                 expected = expected.saturating_add(1);
             }
         }
-        Some(asked)
+        Ok(asked)
     }
 
     /// Gives the change that adds 1 to each word, if each has been changed so many times.
@@ -201,24 +197,24 @@ impl Asker {
     fn note(&mut self, asked: Asked, said: Say, nanos: u64) -> Result<(), Stop> {
         self.replies.all.note(nanos);
         match (asked, said) {
-            (Asked::Read, Say::Store(Reply::Val(_))) => {
+            (None, Say::Store(Reply::Val(_))) => {
                 self.replies.reads.note(nanos);
                 self.counts.read = self.counts.read.saturating_add(1);
                 Ok(())
             }
-            (Asked::Change(expected), Say::Store(Reply::Yes)) => {
+            (Some(expected), Say::Store(Reply::Yes)) => {
                 self.replies.yes.note(nanos);
                 self.counts.made = self.counts.made.saturating_add(1);
                 self.changed = expected.saturating_add(1);
                 Ok(())
             }
-            (Asked::Change(_), Say::Store(Reply::No(addr, value))) => {
+            (Some(_), Say::Store(Reply::No(addr, value))) => {
                 self.replies.no.note(nanos);
                 self.counts.refused = self.counts.refused.saturating_add(1);
                 self.changed = self.changed_by(addr, value);
                 Ok(())
             }
-            (Asked::Change(_), Say::Store(Reply::Busy)) => {
+            (Some(_), Say::Store(Reply::Busy)) => {
                 self.replies.busy.note(nanos);
                 self.is_busy = true;
                 self.counts.refused = self.counts.refused.saturating_add(1);
@@ -249,15 +245,14 @@ impl Counts {
     }
 }
 
-/// Appends the line of a job to the others. Gives None if memory was refused, or no tenant may ask for it.
-fn put_job(lines: &mut Vec<u8>, job: Job) -> Option<()> {
+/// Appends the line of a job to the others. Stops if memory was refused, or no tenant may ask for it.
+fn put_job(lines: &mut Vec<u8>, job: Job) -> Result<(), Stop> {
     if !job.is_well_formed(usize::from(MAX_WORDS)) {
-        return None;
+        return Err(Stop::Here);
     }
-    let text = request_text(&Request::Job(job));
-    match lines.extend_from_slice(&text) {
-        Ok(()) => Some(()),
-        Err(_) => None,
+    match lines.extend_from_slice(&request_text(&Request::Job(job))) {
+        Ok(()) => Ok(()),
+        Err(_) => Err(Stop::Here),
     }
 }
 

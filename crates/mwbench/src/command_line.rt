@@ -67,66 +67,96 @@ fn number_of(matches: &ArgMatches<'_>, name: &str) -> u16 {
     matches.get_one::<u16>(name).unwrap_or(0)
 }
 
+/// What follows an option on the command line.
+#[derive(Clone, Copy)]
+enum Follows {
+    /// Nothing.
+    Nothing,
+    /// A text. The option must be there.
+    Text(&'static str),
+    /// A number from the first to the second. The option must be there.
+    Number(&'static str, u64, u64),
+    /// The same, with the number that it is if the option isn't there.
+    Default(&'static str, u64, u64, &'static str),
+}
+
+/// An option, and what the help tells of it.
+type Opt = (&'static str, Follows, &'static str);
+
+/// The options, in the order of the help.
+static OPTIONS: [Opt; 9] = [
+    (
+        "connect",
+        Follows::Text("ADDR"),
+        "where the server listens: HOST:PORT or unix:PATH",
+    ),
+    (
+        "tenant",
+        Follows::Text("NAME"),
+        "the tenant whose words are changed; nobody else may change them meanwhile",
+    ),
+    (
+        "clients",
+        Follows::Number("N", 1, MAX_CLIENTS),
+        "how many clients there are, 1 to 64",
+    ),
+    (
+        "words",
+        Follows::Number("K", 1, MAX_ENTRIES as u64),
+        "how many words each change has, 1 to 16",
+    ),
+    (
+        "seconds",
+        Follows::Number("S", 1, MAX_SECONDS),
+        "for how many seconds they work, 1 to 60000",
+    ),
+    (
+        "shared",
+        Follows::Nothing,
+        "all clients change the same words, and not each its own",
+    ),
+    (
+        "reads",
+        Follows::Default("PERCENT", 0, 100, "0"),
+        "how many of a hundred requests are reads, 0 to 100",
+    ),
+    (
+        "pipeline",
+        Follows::Default("D", 1, MAX_PIPELINE as u64, "1"),
+        "how many lines a client sends before it reads their replies, 1 to 64",
+    ),
+    (
+        "json",
+        Follows::Nothing,
+        "write the figures as one JSON object in one line, and no line a second",
+    ),
+];
+
 fn command<'a>(alloc: Global) -> Result<Command<'a>, AllocError> {
-    let command = Command::new(alloc, "mwbench")
+    let mut command = Command::new(alloc, "mwbench")
         .version(VERSION)
         .about("Loads a server and measures how long its replies take.");
-    add_switches(alloc, add_sizes(alloc, add_places(alloc, command)?)?)
+    for (name, follows, help) in OPTIONS {
+        let arg = Arg::new(alloc, name).long(name).help(help);
+        command = command.arg(with_value(arg, follows))?;
+    }
+    Ok(command)
 }
 
-/// Adds the options that say whose words are changed.
-fn add_places<'a>(alloc: Global, command: Command<'a>) -> Result<Command<'a>, AllocError> {
-    let connect = text(alloc, "connect", "ADDR")
-        .required(true)
-        .help("where the server listens: HOST:PORT or unix:PATH");
-    let tenant = text(alloc, "tenant", "NAME").required(true).help(
-        "the tenant whose words are changed; nobody else may change them meanwhile",
-    );
-    command.arg(connect)?.arg(tenant)
+/// Says what follows an option.
+fn with_value(arg: Arg<'_>, follows: Follows) -> Arg<'_> {
+    match follows {
+        Follows::Nothing => arg.action(ArgAction::SetTrue),
+        Follows::Text(name) => arg.value_name(name).required(true),
+        Follows::Number(name, least, most) => with_number(arg, name, least, most).required(true),
+        Follows::Default(name, least, most, default) => {
+            with_number(arg, name, least, most).default_value(default)
+        }
+    }
 }
 
-/// Adds the options that say how much is done.
-fn add_sizes<'a>(alloc: Global, command: Command<'a>) -> Result<Command<'a>, AllocError> {
-    let clients = number(alloc, "clients", "N", 1, MAX_CLIENTS)
-        .required(true)
-        .help("how many clients there are, 1 to 64");
-    let words = number(alloc, "words", "K", 1, MAX_ENTRIES as u64)
-        .required(true)
-        .help("how many words each change has, 1 to 16");
-    let seconds = number(alloc, "seconds", "S", 1, MAX_SECONDS)
-        .required(true)
-        .help("for how many seconds they work, 1 to 60000");
-    command.arg(clients)?.arg(words)?.arg(seconds)
-}
-
-/// Adds the options that say what each client asks for.
-fn add_switches<'a>(alloc: Global, command: Command<'a>) -> Result<Command<'a>, AllocError> {
-    let shared = Arg::new(alloc, "shared")
-        .long("shared")
-        .action(ArgAction::SetTrue)
-        .help("all clients change the same words, and not each its own");
-    let reads = number(alloc, "reads", "PERCENT", 0, 100)
-        .default_value("0")
-        .help("how many of a hundred requests are reads, 0 to 100");
-    let pipeline = number(alloc, "pipeline", "D", 1, MAX_PIPELINE as u64)
-        .default_value("1")
-        .help("how many lines a client sends before it reads their replies, 1 to 64");
-    let json = Arg::new(alloc, "json")
-        .long("json")
-        .action(ArgAction::SetTrue)
-        .help("write the figures as one JSON object in one line, and no line a second");
-    command.arg(shared)?.arg(reads)?.arg(pipeline)?.arg(json)
-}
-
-/// Makes an option with a text.
-fn text<'a>(alloc: Global, name: &'a str, value: &'a str) -> Arg<'a> {
-    Arg::new(alloc, name)
-        .long(name)
-        .value_name(value)
-        .action(ArgAction::Set)
-}
-
-/// Makes an option with a number from `least` to `most`.
-fn number<'a>(alloc: Global, name: &'a str, value: &'a str, least: u64, most: u64) -> Arg<'a> {
-    text(alloc, name, value).value_parser(ValueParser::unsigned(least, most))
+/// Says that a number from `least` to `most` follows an option.
+fn with_number<'a>(arg: Arg<'a>, name: &'a str, least: u64, most: u64) -> Arg<'a> {
+    arg.value_name(name)
+        .value_parser(ValueParser::unsigned(least, most))
 }

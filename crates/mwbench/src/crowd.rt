@@ -4,6 +4,7 @@
 use crate::client::{Asker, Counts, Stop, Task};
 use crate::command_line::Settings;
 use crate::replies::Replies;
+use crate::report::write_filled;
 use std::io::Write;
 use std::sync::atomic::{AtomicBool, AtomicU64, Ordering};
 use std::sync::{Mutex, Wait};
@@ -79,19 +80,24 @@ pub struct Tally {
     pub done: Vec<Done>,
 }
 
+impl Tally {
+    /// Adds what a client has done, and why it stopped before its time, if it did.
+    fn add(&mut self, asker: &Asker, stop: Option<Stop>) {
+        self.replies.add(&asker.replies);
+        // There is room for all clients. If there were none, this client would be missing at the end.
+        let _ = self.done.push(Done {
+            task: asker.task,
+            counts: asker.counts,
+            stop,
+        });
+    }
+}
+
 /// Works until it is told to end or can't go on, and then adds to the tally what it did.
 fn work<R: Wait + Clock>(rt: &R, asker: Asker, board: &Board, tally: &Mutex<Tally>) {
     let mut asker = asker;
     let stop = work_on(rt, &mut asker, board);
-    let mut tally = tally.lock(rt);
-    let all = &mut *tally;
-    all.replies.add(&asker.replies);
-    // There is room for all clients. If there were none, this client would be missing at the end.
-    let _ = all.done.push(Done {
-        task: asker.task,
-        counts: asker.counts,
-        stop,
-    });
+    tally.lock(rt).add(&asker, stop);
 }
 
 fn work_on<R: Wait + Clock>(rt: &R, asker: &mut Asker, board: &Board) -> Option<Stop> {
@@ -126,9 +132,8 @@ pub fn work_all<R: Threads + Wait + Clock + Sync, O: Write>(
 ) -> io::Result<()> {
     thread::scope(thread::scope_env(), rt, |scope| -> io::Result<()> {
         for asker in askers {
-            if scope.spawn(move || work(rt, asker, board, tally)).is_err() {
-                break;
-            }
+            // A client that has no thread is missing at the end.
+            let _ = scope.spawn(move || work(rt, asker, board, tally));
         }
         let told = tell_seconds(rt, board, settings, out);
         board.end();
@@ -161,8 +166,6 @@ fn tell_second<O: Write>(second: u64, before: Counts, now: Counts, out: &mut O) 
     let made = now.made.saturating_sub(before.made);
     let read = now.read.saturating_sub(before.read);
     let refused = now.refused.saturating_sub(before.refused);
-    writeln!(
-        out,
-        "second {second}: {made} changes, {read} reads, {refused} refusals"
-    )
+    let text = "second #: # changes, # reads, # refusals\n";
+    write_filled(text, &[second, made, read, refused], out)
 }

@@ -28,10 +28,8 @@ impl Latencies {
     ///
     /// Memory was refused.
     pub fn new(alloc: Global) -> Result<Latencies, AllocError> {
-        let mut counts = Vec::with_capacity(alloc, BUCKETS)?;
-        counts.resize(BUCKETS, 0)?;
         Ok(Latencies {
-            counts,
+            counts: vec![in alloc; 0; BUCKETS]?,
             total: 0,
             sum: 0,
             slowest: 0,
@@ -40,9 +38,7 @@ impl Latencies {
 
     /// Counts one reply that took so many nanoseconds.
     pub fn note(&mut self, nanos: u64) {
-        if let Some(count) = self.counts.get_mut(bucket(nanos)) {
-            *count = count.saturating_add(1);
-        }
+        self.add_at(bucket(nanos), 1);
         self.total = self.total.saturating_add(1);
         self.sum = self.sum.saturating_add(nanos);
         self.slowest = self.slowest.max(nanos);
@@ -50,32 +46,39 @@ impl Latencies {
 
     /// Adds all that the other has counted.
     pub fn add(&mut self, other: &Latencies) {
-        for (count, more) in self.counts.iter_mut().zip(other.counts.iter()) {
-            *count = count.saturating_add(*more);
+        for (place, more) in other.counts.iter().enumerate() {
+            self.add_at(place, *more);
         }
         self.total = self.total.saturating_add(other.total);
         self.sum = self.sum.saturating_add(other.sum);
         self.slowest = self.slowest.max(other.slowest);
     }
 
-    /// Gives how many replies were counted.
-    pub fn total(&self) -> u64 {
-        self.total
+    /// Adds so many to the count at a place.
+    fn add_at(&mut self, place: usize, more: u64) {
+        if let Some(count) = self.counts.get_mut(place) {
+            *count = count.saturating_add(more);
+        }
     }
 
-    /// Gives how many nanoseconds a reply took in the mean, rounded down; 0 if there was no reply. The sum of all
-    /// times is counted up to `u64::MAX`, which is 584 years.
-    pub fn mean(&self) -> u64 {
-        self.sum / self.total.max(1)
-    }
-
-    /// Gives how many nanoseconds the slowest reply took.
-    pub fn slowest(&self) -> u64 {
-        self.slowest
+    /// Gives how many replies were counted, and seven times in microseconds, rounded down: the mean, those within which
+    /// 50, 90, 95, 99 and 99.9 % of the replies came, and that of the slowest. The times are 0 if there was no reply.
+    /// For the mean the sum of all times is counted up to `u64::MAX` nanoseconds, which is 584 years.
+    pub fn figures(&self) -> [u64; 8] {
+        [
+            self.total,
+            self.sum / self.total.max(1) / 1000,
+            self.within(500) / 1000,
+            self.within(900) / 1000,
+            self.within(950) / 1000,
+            self.within(990) / 1000,
+            self.within(999) / 1000,
+            self.slowest / 1000,
+        ]
     }
 
     /// Gives within how many nanoseconds so many of a thousand replies came; 0 if there was no reply.
-    pub fn within(&self, of_a_thousand: u64) -> u64 {
+    fn within(&self, of_a_thousand: u64) -> u64 {
         let rank = u128::from(self.total) * u128::from(of_a_thousand);
         let mut seen: u64 = 0;
         for (place, count) in self.counts.iter().enumerate() {

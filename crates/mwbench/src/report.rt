@@ -1,34 +1,49 @@
 //! Writes what a load found: how many replies of each kind came, and how long they took.
 //!
-//! Used by: `run`. docs/BENCH tells what is written: change both together.
+//! Used by: `crowd`, `run`. docs/BENCH tells what is written: change both together.
 use crate::crowd::Tally;
-use crate::latencies::Latencies;
 use std::io::{self, Write};
 
-/// What was done in a run.
-#[derive(Clone, Copy)]
-struct Rates {
-    /// Changes a second that were made.
-    changes: u64,
-    /// Words a second that were read.
-    reads: u64,
-    /// Changes in the whole run that were answered `NO` or `BUSY`.
-    refusals: u64,
+/// What is written of one kind of reply, after its name, with the figures that `Latencies` gives.
+const KIND: &str =
+    " #: mean # us, p50 # us, p90 # us, p95 # us, p99 # us, p99.9 # us, slowest # us\n";
+
+/// What is written of all replies together.
+const ALL: &str = "changes a second #\nreads a second #\nrefusals #\n\
+    p50 # us\np90 # us\np99 # us\np99.9 # us\nslowest # us\n";
+
+/// How the JSON object begins.
+const RATES_MEMBERS: &str = "{\"changes_a_second\": #, \"reads_a_second\": #, \"refusals\": #";
+
+/// The value of the object's member for one kind of reply.
+const KIND_OBJECT: &str = "\": {\"count\": #, \"mean_us\": #, \"p50_us\": #, \"p90_us\": #, \
+    \"p95_us\": #, \"p99_us\": #, \"p99_9_us\": #, \"slowest_us\": #}";
+
+/// Writes a text with these figures in the places of its `#`, in their order.
+///
+/// # Errors
+///
+/// `out` failed, perhaps in the midst of the text.
+pub fn write_filled<O: Write>(text: &str, figures: &[u64], out: &mut O) -> io::Result<()> {
+    let mut rest = text;
+    for figure in figures {
+        let (before, after) = rest.split_once('#').unwrap_or((rest, ""));
+        write!(out, "{before}{figure}")?;
+        rest = after;
+    }
+    out.write_all(rest.as_bytes())
 }
 
-/// Gives what was done in so many seconds; each sum is at most `u64::MAX`.
-fn rates_of(tally: &Tally, seconds: u64) -> Rates {
+/// Gives what was done in so many seconds: changes a second that were made, words a second that were read, and changes
+/// in the whole time that were answered `NO` or `BUSY`. Each sum is at most `u64::MAX`.
+fn rates_of(tally: &Tally, seconds: u64) -> [u64; 3] {
     let (mut made, mut read, mut refused): (u64, u64, u64) = (0, 0, 0);
     for one in &tally.done {
         made = made.saturating_add(one.counts.made);
         read = read.saturating_add(one.counts.read);
         refused = refused.saturating_add(one.counts.refused);
     }
-    Rates {
-        changes: made / seconds.max(1),
-        reads: read / seconds.max(1),
-        refusals: refused,
-    }
+    [made / seconds.max(1), read / seconds.max(1), refused]
 }
 
 /// Writes what was done in so many seconds, in lines: one for each kind of reply, then eight of all together.
@@ -38,36 +53,20 @@ fn rates_of(tally: &Tally, seconds: u64) -> Rates {
 /// `out` failed, perhaps in the midst of a line.
 pub fn report<O: Write>(tally: &Tally, seconds: u64, out: &mut O) -> io::Result<()> {
     let replies = &tally.replies;
-    report_kind("YES", &replies.yes, out)?;
-    report_kind("NO", &replies.no, out)?;
-    report_kind("BUSY", &replies.busy, out)?;
-    report_kind("VAL", &replies.reads, out)?;
-    let rates = rates_of(tally, seconds);
-    writeln!(out, "changes a second {}", rates.changes)?;
-    writeln!(out, "reads a second {}", rates.reads)?;
-    writeln!(out, "refusals {}", rates.refusals)?;
-    report_times(&replies.all, out)
-}
-
-/// Writes the line of one kind of reply: how many came, and within how many microseconds.
-fn report_kind<O: Write>(name: &str, latencies: &Latencies, out: &mut O) -> io::Result<()> {
-    let micros = |of_a_thousand: u64| latencies.within(of_a_thousand) / 1000;
-    let mean = latencies.mean() / 1000;
-    write!(out, "{name} {}: mean {mean} us, ", latencies.total())?;
-    write!(out, "p50 {} us, p90 {} us, ", micros(500), micros(900))?;
-    write!(out, "p95 {} us, p99 {} us, ", micros(950), micros(990))?;
-    let slowest = latencies.slowest() / 1000;
-    writeln!(out, "p99.9 {} us, slowest {slowest} us", micros(999))
-}
-
-/// Writes within how many microseconds so many of the replies came.
-fn report_times<O: Write>(latencies: &Latencies, out: &mut O) -> io::Result<()> {
-    let micros = |of_a_thousand: u64| latencies.within(of_a_thousand) / 1000;
-    writeln!(out, "p50 {} us", micros(500))?;
-    writeln!(out, "p90 {} us", micros(900))?;
-    writeln!(out, "p99 {} us", micros(990))?;
-    writeln!(out, "p99.9 {} us", micros(999))?;
-    writeln!(out, "slowest {} us", latencies.slowest() / 1000)
+    let kinds = [
+        ("YES", &replies.yes),
+        ("NO", &replies.no),
+        ("BUSY", &replies.busy),
+        ("VAL", &replies.reads),
+    ];
+    for (name, latencies) in kinds {
+        out.write_all(name.as_bytes())?;
+        write_filled(KIND, &latencies.figures(), out)?;
+    }
+    let [changes, reads, refusals] = rates_of(tally, seconds);
+    let [_, _, p50, p90, _, p99, p99_9, slowest] = replies.all.figures();
+    let figures = [changes, reads, refusals, p50, p90, p99, p99_9, slowest];
+    write_filled(ALL, &figures, out)
 }
 
 /// Writes the same as one JSON object (RFC 8259), in one line. Each number is whole; times are in microseconds.
@@ -76,33 +75,18 @@ fn report_times<O: Write>(latencies: &Latencies, out: &mut O) -> io::Result<()> 
 ///
 /// `out` failed, perhaps in the midst of the line.
 pub fn report_json<O: Write>(tally: &Tally, seconds: u64, out: &mut O) -> io::Result<()> {
-    let rates = rates_of(tally, seconds);
-    write!(out, "{{\"changes_a_second\": {}, ", rates.changes)?;
-    write!(out, "\"reads_a_second\": {}, ", rates.reads)?;
-    write!(out, "\"refusals\": {}, ", rates.refusals)?;
+    write_filled(RATES_MEMBERS, &rates_of(tally, seconds), out)?;
     let replies = &tally.replies;
-    write_object("yes", &replies.yes, ", ", out)?;
-    write_object("no", &replies.no, ", ", out)?;
-    write_object("busy", &replies.busy, ", ", out)?;
-    write_object("val", &replies.reads, ", ", out)?;
-    write_object("all", &replies.all, "}\n", out)
-}
-
-/// Writes the member of one kind of reply, and what comes after it.
-fn write_object<O: Write>(
-    name: &str,
-    latencies: &Latencies,
-    after: &str,
-    out: &mut O,
-) -> io::Result<()> {
-    let micros = |of_a_thousand: u64| latencies.within(of_a_thousand) / 1000;
-    write!(out, "\"{name}\": {{\"count\": {}, ", latencies.total())?;
-    write!(out, "\"mean_us\": {}, ", latencies.mean() / 1000)?;
-    write!(out, "\"p50_us\": {}, ", micros(500))?;
-    write!(out, "\"p90_us\": {}, ", micros(900))?;
-    write!(out, "\"p95_us\": {}, ", micros(950))?;
-    write!(out, "\"p99_us\": {}, ", micros(990))?;
-    write!(out, "\"p99_9_us\": {}, ", micros(999))?;
-    write!(out, "\"slowest_us\": {}}}", latencies.slowest() / 1000)?;
-    write!(out, "{after}")
+    let kinds = [
+        (", \"yes", &replies.yes),
+        (", \"no", &replies.no),
+        (", \"busy", &replies.busy),
+        (", \"val", &replies.reads),
+        (", \"all", &replies.all),
+    ];
+    for (name, latencies) in kinds {
+        out.write_all(name.as_bytes())?;
+        write_filled(KIND_OBJECT, &latencies.figures(), out)?;
+    }
+    out.write_all(b"}\n")
 }

@@ -124,18 +124,9 @@ fn words_needed(settings: &Settings) -> u16 {
 fn begin<R: Net<Stream = TcpStream> + AllocGlobal>(
     rt: &R,
     settings: &Settings,
-) -> Result<SocketClient, LoadFault> {
-    let patience = Duration::from_secs(PATIENCE);
-    match connect(
-        rt,
-        rt.alloc(),
-        &settings.address,
-        &settings.tenant,
-        patience,
-    ) {
-        Ok(client) => Ok(client),
-        Err(failure) => Err(LoadFault::Client(failure)),
-    }
+) -> Result<SocketClient, Failure> {
+    let (address, patience) = (settings.address.as_str(), Duration::from_secs(PATIENCE));
+    connect(rt, rt.alloc(), address, &settings.tenant, patience)
 }
 
 /// Reads the first words, one by one.
@@ -150,10 +141,7 @@ fn look<R: Net<Stream = TcpStream> + AllocGlobal>(
     }
     let mut values = Vec::with_capacity(rt.alloc(), usize::from(count))?;
     for address in 0..count {
-        match client.get(address) {
-            Ok(value) => keep(&mut values, value)?,
-            Err(failure) => return Err(LoadFault::Client(failure)),
-        }
+        keep(&mut values, client.get(address)?)?;
     }
     Ok(values)
 }
@@ -246,6 +234,12 @@ fn stop_text(stop: Stop) -> &'static str {
         Stop::Worn => "the server has to be started again",
         Stop::Refused => "the server refused a line",
         Stop::Here => "memory",
+    }
+}
+
+impl From<Failure> for LoadFault {
+    fn from(failure: Failure) -> Self {
+        LoadFault::Client(failure)
     }
 }
 
