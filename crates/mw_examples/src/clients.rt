@@ -88,8 +88,17 @@ impl Caller {
         Ok(Caller { stream })
     }
 
+    /// Says what is before the `|` of a talk. Gives true if just what is behind it comes. Without a `|` it says nothing,
+    /// and gives true if the server closes the connection and says no more.
+    pub(crate) fn talks(&mut self, talk: &str) -> bool {
+        match talk.split_once('|') {
+            Some((text, answer)) => self.asks(text.as_bytes(), answer.as_bytes()),
+            None => self.hears_the_end(),
+        }
+    }
+
     /// Says `text`. Gives true if just `answer` comes.
-    pub(crate) fn asks(&mut self, text: &[u8], answer: &[u8]) -> bool {
+    fn asks(&mut self, text: &[u8], answer: &[u8]) -> bool {
         let mut heard = [0; 64];
         match heard.get_mut(..answer.len()) {
             Some(room) => {

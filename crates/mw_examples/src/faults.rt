@@ -29,7 +29,7 @@ gives 0 OK 2;VAL 0;|",
 mwinit DIR/t.mw 2 1
 write tenants t 2 1 DIR/t.mw;
 mwserve --tenants DIR/tenants --listen 127.0.0.2:0 --connections 3 --verbose
-ends 0|mwserve: no room for connections;127.0.0.2:0: Resource temporarily unavailable (os error 11);",
+ends 0 |mwserve: no room for connections;127.0.0.2:0: Resource temporarily unavailable (os error 11);",
     },
 ];
 

@@ -4,7 +4,7 @@
 //! - `mwinit ARGS` and `mwserve ARGS` run a program. `serve OPTIONS` has `mwserve` serve the script of the folder to the
 //!   tenants of its tenants file.
 //! - `gives STATUS OUT|ERR` is what the program gave that ran last. `begins STATUS OUT|ERR` says this too, but of its other
-//!   output only how it begins, and `ends STATUS|ERR` says nothing of its standard output.
+//!   output only how it begins, and `ends STATUS |ERR` says nothing of its standard output.
 //! - `room BYTES` lets the standard output of the next program fail after so many bytes. `watch NAME` lets it look, each
 //!   time that the program writes, whether this file is locked; `locked` says that it was, each time.
 //! - `hold NAME` locks a file until `release`.
@@ -23,7 +23,7 @@ use crate::outputs::{LockWatch, Output, Watch};
 use crate::stage::{Outcome, Scene, Stage};
 use mw_init::init;
 use mw_programs::{SeesPaths, serve};
-use std::alloc::Global;
+use std::alloc::{AllocError, Global};
 use std::fs::{self, File};
 use std::net::{Net, TcpListener, TcpStream};
 use std::rt::Files;
@@ -35,6 +35,9 @@ use std::{env, io, process};
 
 /// The most connections that a server takes which ends after some.
 const CONNECTIONS: usize = 3;
+
+/// The places of a case's fields in a story.
+const PLACES: [&str; 4] = ["$1", "$2", "$3", "$4"];
 
 /// A story, and the name of the folder that it is played in.
 #[derive(Clone, Copy)]
@@ -89,20 +92,20 @@ where
 {
     for case in cases.split('\n') {
         let title = format!(in rt.alloc(); "{name}, {case}")?;
-        let lines = filled(rt, lines, case)?;
+        let lines = filled(rt.alloc(), lines, case)?;
         play_story(rt, host, name, title.as_str(), lines.as_str())?;
     }
     Ok(())
 }
 
 /// Gives a story with the fields of a case in their places.
-fn filled<R: AllocGlobal>(rt: &R, lines: &str, case: &str) -> io::Result<String> {
-    let mut text = String::from_str(rt.alloc(), lines)?;
-    let mut number = 0u8;
-    for field in case.split('|') {
-        number = number.saturating_add(1);
-        let place = format!(in rt.alloc(); "${number}")?;
-        text = text.replace(rt.alloc(), place.as_str(), field)?;
+fn filled(alloc: Global, lines: &str, case: &str) -> Result<String, AllocError> {
+    let mut text = String::from_str(alloc, lines)?;
+    let mut rest = case;
+    for place in PLACES {
+        let (field, more) = rest.split_once('|').unwrap_or((rest, ""));
+        text = text.replace(alloc, place, field)?;
+        rest = more;
     }
     Ok(text)
 }

@@ -23,7 +23,7 @@ ask 0 CAS 0:0:1;QUIT;|YES;BYE;
 over 0
 alone TENANT t;GET 0;QUIT;|OK 2;VAL 1;BYE;
 stop
-ends 0|
+ends 0 |
 write script TENANT t;GET 0;
 serve
 gives 0 OK 2;VAL 1;|",
@@ -43,7 +43,7 @@ ask 1 ADMIN;REPORT;QUIT;|OK ADMIN;t                   2  1  2  0 up;free 256;BYE
 over 1
 over 0
 stop
-ends 0|",
+ends 0 |",
     },
     // A copy of the file is taken between two changes, over HTTP. The next sessions look at the file and at its copy.
     Story {
@@ -58,7 +58,7 @@ fetch copy.mw
 ask 0 CAS 0:1:2;QUIT;|YES;BYE;
 over 0
 stop
-ends 0|
+ends 0 |
 write script TENANT t;GET 0;
 serve
 gives 0 OK 2;VAL 2;|
@@ -84,7 +84,7 @@ mwinit DIR/t.mw 2 1
 gives 1 |mwinit: cannot make;mwinit: the file: File exists (os error 17);
 alone TENANT t;CAS 0:0:9;QUIT;|OK 2;YES;BYE;
 stop
-ends 0|
+ends 0 |
 serve
 gives 0 OK 2;NO 0 9;|",
     },
@@ -111,7 +111,7 @@ remove v.mw
 wait 4
 ask 1 TENANT w;CAS 0:0:1;QUIT;|OK 2;YES;BYE;
 stop
-ends 0|tenant x: disk;tenant t: replaced;tenant u: replaced;tenant v: replaced;",
+ends 0 |tenant x: disk;tenant t: replaced;tenant u: replaced;tenant v: replaced;",
     },
     // A strict server gives up replaced files. It tells this of each, and of a change that it answers FAULT.
     Story {
@@ -136,7 +136,7 @@ remove v.mw
 wait 8
 ask 1 TENANT w;CAS 0:0:1;QUIT;|OK 2;YES;BYE;
 stop
-ends 0|tenant t: replaced;DIR/t.mw;tenant t: failed;DIR/t.mw: Stale file handle (os error 116);tenant u: replaced;DIR/u.mw;tenant v: replaced;DIR/v.mw;",
+ends 0 |tenant t: replaced;DIR/t.mw;tenant t: failed;DIR/t.mw: Stale file handle (os error 116);tenant u: replaced;DIR/u.mw;tenant v: replaced;DIR/v.mw;",
     },
     // Each tenant whose file fails while it is served has one note, with its own path. The files of t and u have been
     // opened once before they can't be written to. The next sessions find nothing of what was answered FAULT.
@@ -158,7 +158,7 @@ alone TENANT t;CAS 0:0:1;CAS 0:0:1;QUIT;|OK 2;FAULT;FAULT;BYE;
 alone TENANT u;CAS 1:0:1;GET 0;QUIT;|OK 2;FAULT;FAULT;BYE;
 alone TENANT s;CAS 0:0:1;GET 0;QUIT;|OK 2;YES;VAL 1;BYE;
 stop
-ends 0|tenant t: failed;DIR/t.read-only: Bad file descriptor (os error 9);tenant u: failed;DIR/u.read-only: Bad file descriptor (os error 9);
+ends 0 |tenant t: failed;DIR/t.read-only: Bad file descriptor (os error 9);tenant u: failed;DIR/u.read-only: Bad file descriptor (os error 9);
 rename t.read-only t.mw
 rename u.read-only u.mw
 write tenants s 2 1 DIR/s.mw;t 2 1 DIR/t.mw;u 2 1 DIR/u.mw;
@@ -182,7 +182,7 @@ meanwhile --listen 127.0.0.1:0 --admin 127.0.0.2:0 --workers 1 --connections 1 -
 wait 2
 alone TENANT t;GET 0;QUIT;|OK 2;VAL 0;BYE;
 stop
-ends 0|mwserve: no room for connections;127.0.0.2:0: Resource temporarily unavailable (os error 11);",
+ends 0 |mwserve: no room for connections;127.0.0.2:0: Resource temporarily unavailable (os error 11);",
     },
     // The server is told to listen where somebody else does, for clients or for the administrator.
     Story {
@@ -198,7 +198,7 @@ gives 1 |mwserve: cannot listen;127.0.0.1:<PORT>: Address already in use (os err
 mwserve --tenants DIR/tenants --verbose --connections 1 --listen 127.0.0.1:0 --admin 127.0.0.1:<PORT>
 gives 1 |mwserve: cannot listen;127.0.0.1:<PORT>: Address already in use (os error 98);
 stop
-ends 0|",
+ends 0 |",
     },
 ];
 

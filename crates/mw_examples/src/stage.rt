@@ -28,18 +28,19 @@ impl Outcome {
 
     /// Gives true if it is what a line of a story says.
     pub(crate) fn suits(&self, alloc: Global, verb: &str, text: &str) -> Result<bool, AllocError> {
-        let (status, out, err) = (self.status, self.out.as_str(), self.err.as_str());
-        match verb {
-            "gives" => Ok(format!(in alloc; "{status} {out}|{err}")?.as_str() == text),
-            "begins" => Ok(
-                format!(in alloc; "{status} {out}|{err}")?
-                    .as_str()
-                    .starts_with(text),
-            ),
-            "ends" => Ok(format!(in alloc; "{status}|{err}")?.as_str() == text),
-            "locked" => Ok(self.was_locked),
-            _ => Ok(false),
-        }
+        let (status, err) = (self.status, self.err.as_str());
+        let out = if verb == "ends" {
+            ""
+        } else {
+            self.out.as_str()
+        };
+        let told = format!(in alloc; "{status} {out}|{err}")?;
+        Ok(match verb {
+            "gives" | "ends" => told.as_str() == text,
+            "begins" => told.as_str().starts_with(text),
+            "locked" => self.was_locked,
+            _ => false,
+        })
     }
 }
 

@@ -31,40 +31,47 @@ where
     R: Files<File = File> + AllocGlobal + Net<Listener = TcpListener, Stream = TcpStream> + Clock,
 {
     match verb {
-        "call" => {
-            let port = if rest == "admin" {
-                &stage.told.admin
-            } else {
-                &stage.told.ready
-            };
-            let port = wait_for(rt, port, 1)?;
-            stage.callers.push(Caller::new(rt, port)?)?;
-            Ok(true)
-        }
+        "call" => call(rt, stage, rest),
         "ask" | "over" => ask(stage, rest),
         "alone" => ask_alone(rt, stage, rest),
         "fetch" => fetch(rt, stage, rest),
-        "wait" => {
-            let lines = rest.parse().unwrap_or(u16::MAX);
-            wait_for(rt, &stage.told.lines, lines)?;
-            Ok(true)
-        }
+        "wait" => wait(rt, stage, rest),
         _ => {
             let text = stage.spelled(rest)?;
-            Ok(stage.ran.suits(rt.alloc(), verb, text.as_str())?)
+            Ok(stage.ran.suits(stage.scene.alloc, verb, text.as_str())?)
         }
     }
+}
+
+/// Plays `call`.
+fn call<R>(rt: &R, stage: &mut Stage<'_>, rest: &str) -> io::Result<bool>
+where
+    R: Net<Listener = TcpListener, Stream = TcpStream> + Clock,
+{
+    let port = if rest == "admin" {
+        &stage.told.admin
+    } else {
+        &stage.told.ready
+    };
+    let caller = Caller::new(rt, wait_for(rt, port, 1)?)?;
+    stage.callers.push(caller)?;
+    Ok(true)
+}
+
+/// Plays `wait`.
+fn wait<R: Clock>(rt: &R, stage: &Stage<'_>, rest: &str) -> io::Result<bool> {
+    let lines = rest.parse().unwrap_or(u16::MAX);
+    wait_for(rt, &stage.told.lines, lines)?;
+    Ok(true)
 }
 
 /// Plays `ask`, or `over` if there is no more than the client's number.
 fn ask(stage: &mut Stage<'_>, rest: &str) -> io::Result<bool> {
     let (number, talk) = rest.split_once(' ').unwrap_or((rest, ""));
     let talk = stage.spelled(talk)?;
-    let caller = stage.callers.get_mut(number.parse().unwrap_or(usize::MAX));
-    match (caller, talk.split_once('|')) {
-        (Some(caller), Some((text, answer))) => Ok(caller.asks(text.as_bytes(), answer.as_bytes())),
-        (Some(caller), None) => Ok(caller.hears_the_end()),
-        (None, _) => Ok(false),
+    match stage.callers.get_mut(number.parse().unwrap_or(usize::MAX)) {
+        Some(caller) => Ok(caller.talks(talk.as_str())),
+        None => Ok(false),
     }
 }
 
@@ -74,9 +81,8 @@ where
     R: Net<Listener = TcpListener, Stream = TcpStream> + Clock,
 {
     let talk = stage.spelled(rest)?;
-    let (text, answer) = talk.split_once('|').unwrap_or((talk.as_str(), ""));
     let mut caller = Caller::new(rt, wait_for(rt, &stage.told.ready, 1)?)?;
-    Ok(caller.asks(text.as_bytes(), answer.as_bytes()) && caller.hears_the_end())
+    Ok(caller.talks(talk.as_str()) && caller.hears_the_end())
 }
 
 /// Plays `fetch`: gives true if the answer has status 200 and a content.
@@ -84,8 +90,7 @@ fn fetch<R>(rt: &R, stage: &Stage<'_>, name: &str) -> io::Result<bool>
 where
     R: Files<File = File> + AllocGlobal + Net<Listener = TcpListener, Stream = TcpStream> + Clock,
 {
-    let mut caller = Caller::new(rt, wait_for(rt, &stage.told.http, 1)?)?;
-    let answer = caller.hears_all(rt.alloc(), FILE_REQUEST)?;
+    let answer = file_answer(rt, stage)?;
     match content_of(&answer) {
         Some(content) => {
             fs::write(rt, stage.path(name)?.as_str(), content)?;
@@ -93,6 +98,15 @@ where
         }
         None => Ok(false),
     }
+}
+
+/// Asks the server's pages for the file of the tenant t, and gives all that they answer.
+fn file_answer<R>(rt: &R, stage: &Stage<'_>) -> io::Result<Vec<u8>>
+where
+    R: Net<Listener = TcpListener, Stream = TcpStream> + Clock,
+{
+    let mut caller = Caller::new(rt, wait_for(rt, &stage.told.http, 1)?)?;
+    caller.hears_all(stage.scene.alloc, FILE_REQUEST)
 }
 
 /// Gives the content of an answer with status 200, if it is one.
