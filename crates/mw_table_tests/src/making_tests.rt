@@ -13,7 +13,6 @@ use mw_core::{FileOpening, Pass, Shared};
 use mw_table::RunBefore;
 use mw_words::{At, Door};
 use std::alloc::{AllocError, Global};
-use std::test::Fail;
 
 /// Gives what the passes of a new world's table find at its door and at its gate, before they meet. Gives
 /// None if there isn't an idle pass and a place for a request for each worker, or if memory is refused.
@@ -35,13 +34,12 @@ fn found_in_a_new_world(alloc: Global) -> Option<[u64; 2]> {
 }
 
 #[test]
-fn a_new_world_in_a_table(rt: HostRuntime) -> Result<(), Fail> {
+fn a_new_world_in_a_table(rt: HostRuntime) {
     let door = Door {
         used: 0,
         fault: false,
     };
     assert!(rt; found_in_a_new_world(rt.alloc()) == Some([door.pack(), 0]));
-    Ok(())
 }
 
 /// What the tenants' files gave: the first has the word 7, the other didn't open.
@@ -106,7 +104,7 @@ fn found_at_a_start(alloc: Global) -> Option<[u64; 4]> {
 }
 
 #[test]
-fn a_fresh_table(rt: HostRuntime) -> Result<(), Fail> {
+fn a_fresh_table(rt: HostRuntime) {
     let sound = Door {
         used: 0,
         fault: false,
@@ -116,5 +114,4 @@ fn a_fresh_table(rt: HostRuntime) -> Result<(), Fail> {
         fault: true,
     };
     assert!(rt; found_at_a_start(rt.alloc()) == Some([sound.pack(), failed.pack(), 7, 0]));
-    Ok(())
 }

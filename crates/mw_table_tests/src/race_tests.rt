@@ -18,7 +18,6 @@ use mw_simulator::World;
 use mw_table::RunBefore;
 use mw_words::{At, Door, Gate, Job, Reply, Status, Word};
 use std::alloc::Global;
-use std::test::Fail;
 use std::thread::{Threads, join};
 
 /// A worker's pass, with the request that it carries.
@@ -190,11 +189,10 @@ fn pin_race_ends<R: Threads + Sync>(rt: &R, alloc: Global) -> Option<bool> {
 }
 
 #[test]
-fn pin_race(rt: HostRuntime) -> Result<(), Fail> {
+fn pin_race(rt: HostRuntime) {
     for _ in 0..1000 {
         assert!(rt; pin_race_ends(&rt, rt.alloc()) == Some(true));
     }
-    Ok(())
 }
 
 /// Makes a world of two words and three slots. Worker 0 is about to attempt to hold word 0 for a change of
@@ -359,9 +357,8 @@ fn plant_race_ends<R: Threads + Sync>(rt: &R, alloc: Global) -> Option<bool> {
 }
 
 #[test]
-fn plant_race(rt: HostRuntime) -> Result<(), Fail> {
+fn plant_race(rt: HostRuntime) {
     for _ in 0..1000 {
         assert!(rt; plant_race_ends(&rt, rt.alloc()) == Some(true));
     }
-    Ok(())
 }

@@ -16,7 +16,6 @@ use mw_look::{Kind, Op, Point as LookPoint};
 use mw_simulator::World;
 use mw_words::{At, Job, Reply};
 use std::alloc::Global;
-use std::test::Fail;
 
 /// Makes a world of one word and one slot. Worker 0 has planted an attempt to hold the word for a change,
 /// and is about to hold it. Worker 1 reads the word, has found the attempt and its row, and is about to
@@ -109,7 +108,6 @@ fn told_at_last(alloc: Global) -> Option<Reply> {
 }
 
 #[test]
-fn a_read_begins_again(rt: HostRuntime) -> Result<(), Fail> {
+fn a_read_begins_again(rt: HostRuntime) {
     assert!(rt; told_at_last(rt.alloc()) == Some(Reply::Val(0)));
-    Ok(())
 }
