@@ -1,25 +1,19 @@
-//! Connections of clients that stay for one request and its answer: the listener that gives them, and their stream.
+//! The listener for clients that stay for one request and its answer.
 //!
 //! mw_programs listens for them, and mw_server_pages serves them. Two limits of time run from the moment when the client comes,
-//! one for all reads and one for all writes, whatever the client sends meanwhile. How much of a limit is left is calculated in
-//! `time_limits.rt`. Nothing is proved of sockets. [`FAREWELL`] may have another number.
-ghost use Rattle.std.specs.Prelude.{None};
-ghost use Rattle.std.specs.Io.{ReadsAtMost, WritesAtMost};
+//! one for all reads and one for all writes, whatever the client sends meanwhile. `timed_stream.rt` keeps them. Nothing is proved
+//! of sockets.
 
-use crate::listening_socket::ListeningSocket;
+use crate::listening_socket::{Closer, ListeningSocket};
 use crate::peer::StreamListener;
-use crate::sockets::{Closer, open_door};
-use crate::time_limits::left_of;
-use mw_session::{Others, PeerStream, RecordedStream};
+use crate::sockets::open_door;
+use crate::timed_stream::{Span, TimedStream};
+use mw_session::RecordedStream;
 use std::fs::File;
-use std::io::{self, ErrorKind, Read, Write};
-use std::net::{Net, Shutdown, TcpListener, TcpStream};
+use std::io;
+use std::net::{Net, TcpListener, TcpStream};
 use std::rt::Files;
-use std::sync::Wait;
 use std::time::{Clock, Duration, Instant};
-
-/// How long a client that was answered is still read before its connection is closed, in seconds.
-const FAREWELL: u64 = 1;
 
 /// How long a client may take, in seconds of at least 1.
 #[derive(Clone, Copy)]
@@ -36,23 +30,6 @@ pub struct BriefListener<'a, K> {
     door: ListeningSocket,
     clock: &'a K,
     limits: BriefLimits,
-}
-
-/// The stream of such a client. A call fails if its limit is over, or the clock can't be read.
-#[derive(Drop)]
-pub struct BriefStream<'a, K> {
-    stream: TcpStream,
-    clock: &'a K,
-    /// For reads, and for writes.
-    reading: Span,
-    writing: Span,
-}
-
-/// A time of so long from a moment on.
-#[derive(Clone, Copy)]
-struct Span {
-    begun: Instant,
-    long: Duration,
 }
 
 /// Listens at an address, as [`crate::listen_at`] does, for clients that stay for one request.
@@ -84,7 +61,7 @@ impl<K> BriefListener<'_, K> {
     ///
     /// The system has no room for it.
     pub fn closer(&self) -> io::Result<Closer> {
-        Ok(Closer(self.door.handle()?))
+        self.door.closer()
     }
 
     /// Gives the port at which clients over TCP find the listener, and None for a local socket.
@@ -98,112 +75,27 @@ impl<K> BriefListener<'_, K> {
 }
 
 impl<'a, K: Clock + Sync> StreamListener for BriefListener<'a, K> {
-    type Stream = BriefStream<'a, K>;
+    type Stream = TimedStream<'a, K>;
 
     ghost accepts = { λ _ _ _. Unit {0} };
 
-    fn accept(&mut self) -> io::Result<RecordedStream<BriefStream<'a, K>>> {
+    fn accept(&mut self) -> io::Result<RecordedStream<TimedStream<'a, K>>> {
         let stream = self.door.next()?;
         let begun = Instant::now(self.clock)?;
-        Ok(RecordedStream::new(BriefStream {
+        let (request, whole) = (self.limits.request, self.limits.whole);
+        Ok(RecordedStream::new(TimedStream::brief(
             stream,
-            clock: self.clock,
-            reading: Span::of(begun, self.limits.request),
-            writing: Span::of(begun, self.limits.whole),
-        }))
+            self.clock,
+            span_of(begun, request),
+            span_of(begun, whole),
+        )))
     }
 }
 
-impl Span {
-    /// Makes a time of so many seconds from this moment on.
-    fn of(begun: Instant, seconds: u32) -> Span {
-        Span {
-            begun,
-            long: Duration::from_secs(u64::from(seconds)),
-        }
-    }
-
-    /// Gives what is left of it.
-    ///
-    /// # Errors
-    ///
-    /// It is over, or the clock can't be read.
-    fn left<K: Clock>(self, clock: &K) -> io::Result<Option<Duration>> {
-        let now = Instant::now(clock)?;
-        let left = left_of(Some(self.long), self.begun, now);
-        if left == Some(Duration::ZERO) {
-            return Err(io::Error::from(ErrorKind::TimedOut));
-        }
-        Ok(left)
-    }
-}
-
-impl<K: Clock> BriefStream<'_, K> {
-    /// Reads once, and waits at most for what is left of the limit.
-    fn read_once(&mut self, piece: &mut [u8]) -> io::Result<usize>
-        ensures { ReadsAtMost result piece.new }
-    {
-        match self.reading.left(self.clock) {
-            Ok(left) => self.stream.set_read_timeout(left)?,
-            Err(fault) => return Err(fault),
-        }
-        self.stream.read(piece)
-    }
-
-    /// Writes once, and waits at most for what is left of the limit.
-    fn write_once(&mut self, text: &[u8]) -> io::Result<usize>
-        ensures { WritesAtMost result text.now }
-    {
-        match self.writing.left(self.clock) {
-            Ok(left) => self.stream.set_write_timeout(left)?,
-            Err(fault) => return Err(fault),
-        }
-        self.stream.write(text)
-    }
-}
-
-/// Tells whether a call gave nothing because its wait was over or a signal came. The limit tells whether it is made again.
-fn is_no_end(fault: &io::Error) -> bool {
-    matches!(fault.kind(), ErrorKind::WouldBlock | ErrorKind::Interrupted)
-}
-
-impl<K: Clock> PeerStream for BriefStream<'_, K> {
-    ghost remaining = { λ _. None };
-
-    ghost contents = { λ _. None };
-
-    fn read<R: Wait, O: Others>(
-        &mut self,
-        rt: &R,
-        _others: &O,
-        piece: &mut [u8],
-    ) -> io::Result<usize> {
-        for _ in rt.forever() {
-            match self.read_once(piece) {
-                Err(fault) if is_no_end(&fault) => {}
-                answer => return answer,
-            }
-        }
-        unreachable!()
-    }
-
-    fn write<R: Wait, O: Others>(&mut self, rt: &R, _others: &O, text: &[u8]) -> io::Result<usize> {
-        for _ in rt.forever() {
-            match self.write_once(text) {
-                Err(fault) if is_no_end(&fault) => {}
-                answer => return answer,
-            }
-        }
-        unreachable!()
-    }
-
-    fn end_writing(&mut self) -> io::Result<()> {
-        let begun = Instant::now(self.clock)?;
-        self.stream.shutdown(Shutdown::Write)?;
-        self.reading = Span {
-            begun,
-            long: Duration::from_secs(FAREWELL),
-        };
-        Ok(())
+/// Makes a time of so many seconds from this moment on.
+fn span_of(begun: Instant, seconds: u32) -> Span {
+    Span {
+        begun,
+        long: Duration::from_secs(u64::from(seconds)),
     }
 }

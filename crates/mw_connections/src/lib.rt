@@ -36,9 +36,11 @@ mod sockets;
 mod time_limits;
 mod timed_stream;
 
-pub use brief::{BriefLimits, BriefListener, BriefStream, listen_briefly};
+pub use brief::{BriefLimits, BriefListener, listen_briefly};
+pub use listening_socket::Closer;
 pub use metered::{MeteredConnection, MeteredListener};
 pub use patience::{FIRST_PAUSE, LONGEST_PAUSE, Patient, RoomWatch};
 pub use peer::{Connection, Listener, StreamListener};
-pub use sockets::{Client, ClientListener, Closer, listen_at, port_of, say_goodbye};
+pub use sockets::{Client, ClientListener, listen_at, port_of, say_goodbye};
 pub use time_limits::TimeLimits;
+pub use timed_stream::TimedStream;

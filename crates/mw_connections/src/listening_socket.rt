@@ -3,7 +3,7 @@
 //! Used by `sockets.rt` and `local.rt`. It has no contracts: nothing is proved of sockets. So it may change freely as
 //! long as this crate checks. [`BACKLOG`] may have another number; docs/PROTOCOL and docs/OPERATING tell it.
 use std::io::{self, ErrorKind};
-use std::net::{TcpListener, TcpStream};
+use std::net::{Shutdown, TcpListener, TcpStream};
 use std::os::fd::{AsRawFd, OwnedFd};
 use std::os::unix::net::UnixListener;
 
@@ -15,12 +15,24 @@ const BACKLOG: i32 = 4096;
 ///
 /// # Errors
 ///
-/// The system refuses. The socket is as it was.
-pub(crate) fn listen<S: AsRawFd>(socket: &S) -> io::Result<()> {
-    if libc::net::listen(socket.as_raw_fd(), BACKLOG) != 0 {
-        return Err(io::Error::from(ErrorKind::Other));
+/// The system refuses. The socket is closed.
+pub(crate) fn listening<S: AsRawFd + Drop>(socket: S) -> io::Result<S> {
+    if libc::net::listen(socket.as_raw_fd(), BACKLOG) == 0 {
+        Ok(socket)
+    } else {
+        Err(io::Error::from(ErrorKind::Other))
     }
-    Ok(())
+}
+
+/// Ends the wait for clients, from another thread.
+#[derive(Drop)]
+pub struct Closer(TcpStream);
+
+impl Closer {
+    /// Makes the system give no more clients: an accept that waits, and each later one, fails at once.
+    pub fn close(&self) {
+        let _ = self.0.shutdown(Shutdown::Both);
+    }
 }
 
 /// A listening socket of either kind.
@@ -65,16 +77,16 @@ impl ListeningSocket {
         }
     }
 
-    /// Gives a second handle to the listening socket, by which it can be shut down.
+    /// Gives what ends the wait for clients: a second handle to the socket, by which it can be shut down.
     ///
     /// # Errors
     ///
     /// The system has no room for it.
-    pub(crate) fn handle(&self) -> io::Result<TcpStream> {
+    pub(crate) fn closer(&self) -> io::Result<Closer> {
         let socket = match self {
             ListeningSocket::Tcp(listener) => OwnedFd::from(listener.try_clone()?),
             ListeningSocket::Local(listener) => OwnedFd::from(listener.try_clone()?),
         };
-        Ok(TcpStream::from(socket))
+        Ok(Closer(TcpStream::from(socket)))
     }
 }

@@ -2,7 +2,7 @@
 //!
 //! Called by `listen_at` in `sockets.rt`. docs/OPERATING tells users what it does to a socket file: change both
 //! together.
-use crate::listening_socket::listen;
+use crate::listening_socket::listening;
 use std::fs::{self, File, Permissions};
 use std::io::{self, ErrorKind};
 use std::net::Net;
@@ -38,8 +38,7 @@ pub(crate) fn listen_local<R: Files<File = File> + Net>(
     rt.bind_unix(socket.as_fd(), &address)?;
     // Nobody can connect before it listens, so nobody comes whom the mode keeps out.
     fs::set_permissions(rt, path, Permissions::from_mode(mode))?;
-    listen(&socket)?;
-    Ok(UnixListener::from(socket))
+    Ok(UnixListener::from(listening(socket)?))
 }
 
 /// Gives the folder of a path.

@@ -5,7 +5,7 @@
 ghost use Rattle.std.specs.Prelude.{◌≡◌, None};
 ghost use Rattle.mw_session.specs.KnownStreams.{reads_of, writes_of};
 
-use crate::listening_socket::{ListeningSocket, listen};
+use crate::listening_socket::{Closer, ListeningSocket, listening};
 use crate::local::listen_local;
 use crate::peer::{Connection, Listener};
 use crate::time_limits::{TimeLimits, WaitLimits};
@@ -15,7 +15,7 @@ use mw_session::{Ended, NoOthers, Others, PeerStream, RecordedStream, Service, S
 use std::alloc::Global;
 use std::fs::File;
 use std::io::{self, ErrorKind};
-use std::net::{Net, Shutdown, TcpListener, TcpStream};
+use std::net::{Net, TcpListener, TcpStream};
 use std::rt::Files;
 use std::sync::Wait;
 use std::time::Clock;
@@ -83,22 +83,8 @@ where
 {
     match address.strip_prefix(LOCAL) {
         Some(path) => Ok(ListeningSocket::Local(listen_local(rt, path, mode)?)),
-        None => Ok(ListeningSocket::Tcp(listen_tcp(rt, address)?)),
+        None => Ok(ListeningSocket::Tcp(listening(TcpListener::bind(rt, address)?)?)),
     }
-}
-
-/// Listens over TCP, and lets as many clients wait as at a local socket.
-///
-/// # Errors
-///
-/// The text is no address, or nobody can listen there.
-fn listen_tcp<R: Net<Listener = TcpListener, Stream = TcpStream>>(
-    rt: &R,
-    address: &str,
-) -> io::Result<TcpListener> {
-    let listener = TcpListener::bind(rt, address)?;
-    listen(&listener)?;
-    Ok(listener)
 }
 
 /// Gives the port at which clients over TCP find the listener, and None for a local socket.
@@ -109,10 +95,6 @@ fn listen_tcp<R: Net<Listener = TcpListener, Stream = TcpStream>>(
 pub fn port_of<K>(clients: &ClientListener<'_, K>) -> io::Result<Option<u16>> {
     clients.door.port()
 }
-
-/// Ends the wait for clients, from another thread.
-#[derive(Drop)]
-pub struct Closer(pub(crate) TcpStream);
 
 impl<'a, K> ClientListener<'a, K> {
     /// Has these counters count the bytes of all clients that it gives from now on.
@@ -127,14 +109,7 @@ impl<'a, K> ClientListener<'a, K> {
     ///
     /// The system has no room for it.
     pub fn closer(&self) -> io::Result<Closer> {
-        Ok(Closer(self.door.handle()?))
-    }
-}
-
-impl Closer {
-    /// Makes the system give no more clients: an accept that waits, and each later one, fails at once.
-    pub fn close(&self) {
-        let _ = self.0.shutdown(Shutdown::Both);
+        self.door.closer()
     }
 }
 

@@ -88,6 +88,13 @@ impl TimeLimits {
 }
 
 impl WaitLimits {
+    /// No limits.
+    pub(crate) const NONE: WaitLimits = WaitLimits {
+        silence: None,
+        line: None,
+        turn: None,
+    };
+
     /// Gives how long one write may wait before it looks at the clock. The system tells how much was taken only when the
     /// write ends, so a reply's time starts so late at most. None: nothing is limited.
     pub(crate) fn write_wait(&self) -> Option<Duration>

@@ -1,12 +1,12 @@
-//! The stream of a client's socket, for one session, within the limits of its waits.
+//! The stream of a client's socket, within the limits of its waits.
 //!
-//! `sockets.rt` makes one for each client. How long a call may wait is calculated in `time_limits.rt`. Nothing is proved
-//! of sockets, so this may change freely as long as this crate checks and its tests pass. [`FAREWELL`] may have another
-//! number; docs/PROTOCOL and docs/OPERATING tell it.
+//! `sockets.rt` makes one for each client's session, and `brief.rt` one for each client that stays for one request. How long a
+//! call may wait is calculated in `time_limits.rt`. Nothing is proved of sockets, so this may change freely as long as this crate
+//! checks and its tests pass. [`FAREWELL`] may have another number; docs/PROTOCOL and docs/OPERATING tell it.
 ghost use Rattle.std.specs.Prelude.{None};
 ghost use Rattle.std.specs.Io.{ReadsAtMost, WritesAtMost};
 
-use crate::time_limits::{Times, WaitLimits, lesser};
+use crate::time_limits::{Times, WaitLimits, left_of, lesser};
 use mw_metrics::ServerCounters;
 use mw_session::{Others, PeerStream};
 use std::io::{self, ErrorKind, Read, Write};
@@ -14,19 +14,19 @@ use std::net::{Shutdown, TcpStream};
 use std::sync::Wait;
 use std::time::{Clock, Duration, Instant};
 
-/// How long a client whose session has ended is read at most before its connection is closed, in seconds.
+/// How long a client that was told all is still read before its connection is closed, in seconds.
 const FAREWELL: u64 = 1;
 
-/// A client's socket, what limits its waits, and what counts its bytes. A call fails if a limit is over, or the clock can't be read.
+/// A client's socket, what limits its waits, and what counts its bytes. A call fails if a limit is over, or the clock can't be
+/// read. When its writing has ended it is read for [`FAREWELL`] at most.
 #[derive(Drop)]
-pub(crate) struct TimedStream<'a, K> {
+pub struct TimedStream<'a, K> {
     stream: TcpStream,
     clock: &'a K,
     /// The limits of a session whose worker nobody waits for.
     limits: WaitLimits,
     reading: Pace,
     writing: Pace,
-    farewell: Option<Farewell>,
     /// What counts the bytes, if they are counted.
     counters: Option<&'a ServerCounters>,
 }
@@ -36,16 +36,57 @@ pub(crate) struct TimedStream<'a, K> {
 struct Pace {
     times: Times,
     set: Option<Duration>,
+    /// The time for all calls of this direction, if that is limited. Then nothing else limits them.
+    all: Option<Span>,
 }
 
-/// When the writing ended, and how long the client is still read.
+/// A time of so long from a moment on.
 #[derive(Clone, Copy)]
-struct Farewell {
-    begun: Instant,
-    left: Duration,
+pub(crate) struct Span {
+    pub(crate) begun: Instant,
+    pub(crate) long: Duration,
 }
 
-impl<'a, K: Clock> TimedStream<'a, K> {
+impl Pace {
+    /// Gives the pace of a direction in which nothing was sent. The socket has the limit `set`.
+    fn new(set: Option<Duration>, all: Option<Span>) -> Pace {
+        Pace {
+            times: Times::new(),
+            set,
+            all,
+        }
+    }
+
+    /// Tells whether a call that begins now has to ask a clock. If not, it may wait for a whole silence.
+    fn needs_clock(&self, limits: &WaitLimits) -> bool {
+        self.all.is_some() || self.times.need_clock(limits)
+    }
+
+    /// Gives how long a call that began at `called` may still wait at `now`, by whether others wait for the worker. None: it
+    /// may wait for ever.
+    ///
+    /// # Errors
+    ///
+    /// A limit is over.
+    fn wait_left(
+        &self,
+        limits: &WaitLimits,
+        called: Instant,
+        now: Instant,
+        others: bool,
+    ) -> io::Result<Option<Duration>> {
+        let left = match self.all {
+            Some(all) => left_of(Some(all.long), all.begun, now),
+            None => self.times.wait_left(limits, called, now, others),
+        };
+        if left == Some(Duration::ZERO) {
+            return Err(io::Error::from(ErrorKind::TimedOut));
+        }
+        Ok(left)
+    }
+}
+
+impl<'a, K> TimedStream<'a, K> {
     /// Makes the stream of a session that begins. The socket has these limits: a read waits for a whole silence, and a
     /// write as [`WaitLimits::write_wait`] says.
     pub(crate) fn new(
@@ -58,16 +99,22 @@ impl<'a, K: Clock> TimedStream<'a, K> {
             stream,
             clock,
             limits,
-            reading: Pace {
-                times: Times::new(),
-                set: limits.silence,
-            },
-            writing: Pace {
-                times: Times::new(),
-                set: limits.write_wait(),
-            },
-            farewell: None,
+            reading: Pace::new(limits.silence, None),
+            writing: Pace::new(limits.write_wait(), None),
             counters,
+        }
+    }
+
+    /// Makes the stream of a client that stays for one request. All reads have one of these times, and all writes the other.
+    /// The socket has no limits yet.
+    pub(crate) fn brief(stream: TcpStream, clock: &'a K, request: Span, whole: Span) -> Self {
+        TimedStream {
+            stream,
+            clock,
+            limits: WaitLimits::NONE,
+            reading: Pace::new(None, Some(request)),
+            writing: Pace::new(None, Some(whole)),
+            counters: None,
         }
     }
 
@@ -105,6 +152,19 @@ impl<'a, K: Clock> TimedStream<'a, K> {
         self.stream.read(piece)
     }
 
+    /// Writes once, and waits at most for so long.
+    fn write_within(&mut self, wait: Option<Duration>, text: &[u8]) -> io::Result<usize>
+        ensures { WritesAtMost result text.now }
+    {
+        if wait != self.writing.set {
+            self.stream.set_write_timeout(wait)?;
+            self.writing.set = wait;
+        }
+        self.stream.write(text)
+    }
+}
+
+impl<K: Clock> TimedStream<'_, K> {
     /// Reads until a limit is over, which the clock tells.
     fn read_by_clock<R: Wait, O: Others>(
         &mut self,
@@ -120,13 +180,7 @@ impl<'a, K: Clock> TimedStream<'a, K> {
         let mut now = called;
         self.reading.times = self.reading.times.started(called);
         for _ in rt.forever() {
-            let wait = self
-                .reading
-                .times
-                .wait_left(limits, called, now, others.wait());
-            if wait == Some(Duration::ZERO) {
-                return Err(io::Error::from(ErrorKind::TimedOut));
-            }
+            let wait = self.reading.wait_left(limits, called, now, others.wait())?;
             match self.read_within(wait, piece) {
                 Err(fault) if is_no_end(&fault) => now = Instant::now(clock)?,
                 answer => return answer,
@@ -153,35 +207,6 @@ impl<'a, K: Clock> TimedStream<'a, K> {
         }
     }
 
-    /// Reads once for what is left of the farewell.
-    fn read_at_farewell(&mut self, farewell: Farewell, piece: &mut [u8]) -> io::Result<usize>
-        ensures { ReadsAtMost result piece.new }
-    {
-        if farewell.left.is_zero() {
-            return Err(io::Error::from(ErrorKind::TimedOut));
-        }
-        self.stream.set_read_timeout(Some(farewell.left))?;
-        let answer = self.stream.read(piece);
-        if let Ok(count) = answer {
-            self.count_received(count);
-            if count > 0 {
-                self.farewell = Some(farewell.later(self.clock));
-            }
-        }
-        answer
-    }
-
-    /// Writes once, and waits at most for so long.
-    fn write_within(&mut self, wait: Option<Duration>, text: &[u8]) -> io::Result<usize>
-        ensures { WritesAtMost result text.now }
-    {
-        if wait != self.writing.set {
-            self.stream.set_write_timeout(wait)?;
-            self.writing.set = wait;
-        }
-        self.stream.write(text)
-    }
-
     /// Writes until a limit is over, which the clock tells.
     fn write_by_clock<R: Wait, O: Others>(
         &mut self,
@@ -197,13 +222,7 @@ impl<'a, K: Clock> TimedStream<'a, K> {
         let mut now = called;
         self.writing.times = self.writing.times.started(called);
         for _ in rt.forever() {
-            let wait = self
-                .writing
-                .times
-                .wait_left(limits, called, now, others.wait());
-            if wait == Some(Duration::ZERO) {
-                return Err(io::Error::from(ErrorKind::TimedOut));
-            }
+            let wait = self.writing.wait_left(limits, called, now, others.wait())?;
             match self.write_within(lesser(wait, limits.write_wait()), text) {
                 Err(fault) if is_no_end(&fault) => now = Instant::now(clock)?,
                 answer => return answer,
@@ -229,20 +248,6 @@ impl<'a, K: Clock> TimedStream<'a, K> {
     }
 }
 
-impl Farewell {
-    /// Gives what is left of it now: nothing if the clock can't be read.
-    fn later<K: Clock>(self, clock: &K) -> Farewell {
-        let left = match self.begun.elapsed(clock) {
-            Ok(passed) => Duration::from_secs(FAREWELL).saturating_sub(passed),
-            Err(_) => Duration::ZERO,
-        };
-        Farewell {
-            begun: self.begun,
-            left,
-        }
-    }
-}
-
 /// Tells whether a call gave nothing because its time was over or a signal came, and may be made again.
 fn is_no_end(fault: &io::Error) -> bool {
     matches!(fault.kind(), ErrorKind::WouldBlock | ErrorKind::Interrupted)
@@ -259,11 +264,8 @@ impl<K: Clock> PeerStream for TimedStream<'_, K> {
         others: &O,
         piece: &mut [u8],
     ) -> io::Result<usize> {
-        if let Some(farewell) = self.farewell {
-            return self.read_at_farewell(farewell, piece);
-        }
         let limits = self.limits_beside(others);
-        let answer = if self.reading.times.need_clock(&limits) {
+        let answer = if self.reading.needs_clock(&limits) {
             self.read_by_clock(rt, others, &limits, piece)
         } else {
             self.read_at_first(rt, others, &limits, piece)
@@ -277,7 +279,7 @@ impl<K: Clock> PeerStream for TimedStream<'_, K> {
 
     fn write<R: Wait, O: Others>(&mut self, rt: &R, others: &O, text: &[u8]) -> io::Result<usize> {
         let limits = self.limits_beside(others);
-        let answer = if self.writing.times.need_clock(&limits) {
+        let answer = if self.writing.needs_clock(&limits) {
             self.write_by_clock(rt, others, &limits, text)
         } else {
             self.write_at_first(rt, others, &limits, text)
@@ -292,9 +294,9 @@ impl<K: Clock> PeerStream for TimedStream<'_, K> {
     fn end_writing(&mut self) -> io::Result<()> {
         let begun = Instant::now(self.clock)?;
         self.stream.shutdown(Shutdown::Write)?;
-        self.farewell = Some(Farewell {
+        self.reading.all = Some(Span {
             begun,
-            left: Duration::from_secs(FAREWELL),
+            long: Duration::from_secs(FAREWELL),
         });
         Ok(())
     }

@@ -92,7 +92,10 @@ impl Samples {
                 Some(down.unwrap_or(now))
             };
         }
-        let last = self.samples.last().map_or(0, |sample| sample.at);
+        let last = match self.samples.last() {
+            Some(sample) => sample.at,
+            None => 0,
+        };
         if now.saturating_sub(last) >= BETWEEN {
             self.keep(Sample {
                 at: now,
@@ -122,10 +125,13 @@ impl Samples {
 
     /// Gives how the tenant of this number did of late.
     fn recent(&self, now: u64, number: usize, tenant: &TenantFigures) -> Recent {
-        let since = self.down.get(number).copied().flatten();
+        let down = match self.down.get(number) {
+            Some(Some(since)) => Some(now.saturating_sub(*since)),
+            _ => None,
+        };
         Recent {
             name: Name::try_from(tenant.name.as_slice()).unwrap_or_default(),
-            down: since.map(|since| now.saturating_sub(since)),
+            down,
             changes: self.curve(now, number, Figure::Changes),
             change: self.curve(now, number, Figure::Change),
             sync: self.curve(now, number, Figure::Sync),
@@ -135,9 +141,13 @@ impl Samples {
     /// Gives a curve of the tenant of this number.
     fn curve(&self, now: u64, tenant: usize, figure: Figure) -> Curve {
         let values = self.values(now, tenant, figure);
+        let last = match values.last() {
+            Some(value) => value.figure,
+            None => 0,
+        };
         let most = most_of(&values);
         Curve {
-            last: values.last().map_or(0, |value| value.figure),
+            last,
             most,
             points: points(now, &values, most),
         }
