@@ -22,16 +22,10 @@ use crate::files::play_file;
 use crate::outputs::{LockWatch, Output, Watch};
 use crate::stage::{Outcome, Scene, Stage};
 use mw_init::init;
-use mw_programs::{SeesPaths, serve};
+use mw_programs::{Machine, serve};
 use std::alloc::Global;
-use std::fs::{self, File};
-use std::net::{Net, TcpListener, TcpStream};
-use std::rt::Files;
-use std::sync::Wait;
 use std::test::Fail;
-use std::thread::Threads;
-use std::time::Clock;
-use std::{env, io, process};
+use std::{env, fs, io, process};
 
 /// The most connections that a server takes which ends after some.
 const CONNECTIONS: usize = 3;
@@ -49,17 +43,7 @@ pub(crate) struct Story {
 ///
 /// Something else comes of a story, or a call of the system fails: the error has the story, its case and its line. Then the
 /// folder stays.
-pub(crate) fn play<R>(rt: &R, host: &HostRuntime, stories: &[Story]) -> Result<(), Fail>
-where
-    R: Files<File = File>
-        + AllocGlobal
-        + Net<Listener = TcpListener, Stream = TcpStream>
-        + Threads
-        + Wait
-        + Clock
-        + Sync
-        + SeesPaths,
-{
+pub(crate) fn play<R: Machine>(rt: &R, host: &HostRuntime, stories: &[Story]) -> Result<(), Fail> {
     for story in stories {
         match story.lines.split_once("\nfor each of\n") {
             Some((lines, cases)) => play_cases(rt, host, story.name, lines, cases)?,
@@ -70,23 +54,13 @@ where
 }
 
 /// Plays a story for each line of a table.
-fn play_cases<R>(
+fn play_cases<R: Machine>(
     rt: &R,
     host: &HostRuntime,
     name: &str,
     lines: &str,
     cases: &str,
-) -> Result<(), Fail>
-where
-    R: Files<File = File>
-        + AllocGlobal
-        + Net<Listener = TcpListener, Stream = TcpStream>
-        + Threads
-        + Wait
-        + Clock
-        + Sync
-        + SeesPaths,
-{
+) -> Result<(), Fail> {
     for case in cases.split('\n') {
         let title = format!(in rt.alloc(); "{name}, {case}")?;
         let lines = filled(rt, lines, case)?;
@@ -117,23 +91,13 @@ fn new_folder(rt: &HostRuntime, name: &str) -> Result<String, Fail> {
 }
 
 /// Plays a story with this title in a new folder of this name, and removes the folder.
-fn play_story<R>(
+fn play_story<R: Machine>(
     rt: &R,
     host: &HostRuntime,
     name: &str,
     title: &str,
     lines: &str,
-) -> Result<(), Fail>
-where
-    R: Files<File = File>
-        + AllocGlobal
-        + Net<Listener = TcpListener, Stream = TcpStream>
-        + Threads
-        + Wait
-        + Clock
-        + Sync
-        + SeesPaths,
-{
+) -> Result<(), Fail> {
     let folder = new_folder(host, name)?;
     let scene = Scene {
         alloc: rt.alloc(),
@@ -179,39 +143,19 @@ pub(crate) struct Begun {
 }
 
 /// Plays a story with a server in a new folder, up to the server.
-pub(crate) fn begin<R>(rt: &R, host: &HostRuntime, story: &Story) -> Result<Begun, Fail>
-where
-    R: Files<File = File>
-        + AllocGlobal
-        + Net<Listener = TcpListener, Stream = TcpStream>
-        + Threads
-        + Wait
-        + Clock
-        + Sync
-        + SeesPaths,
-{
+pub(crate) fn begin<R: Machine>(rt: &R, host: &HostRuntime, story: &Story) -> Result<Begun, Fail> {
     let folder = new_folder(host, story.name)?;
     let args = play_before(rt, host, story, folder.as_str())?;
     Ok(Begun { folder, args })
 }
 
 /// Plays what is done before the server. Gives its command line.
-fn play_before<R>(
+fn play_before<R: Machine>(
     rt: &R,
     host: &HostRuntime,
     story: &Story,
     folder: &str,
-) -> Result<Vec<String>, Fail>
-where
-    R: Files<File = File>
-        + AllocGlobal
-        + Net<Listener = TcpListener, Stream = TcpStream>
-        + Threads
-        + Wait
-        + Clock
-        + Sync
-        + SeesPaths,
-{
+) -> Result<Vec<String>, Fail> {
     let parts = parts_of(story.lines);
     let told = Told::new();
     let mut stage = Stage::new(scene_of(rt.alloc(), host, story.name, folder), &told);
@@ -222,23 +166,13 @@ where
 }
 
 /// Plays what is done after the server has ended, which gave this, and removes the folder.
-pub(crate) fn end<R>(
+pub(crate) fn end<R: Machine>(
     rt: &R,
     host: &HostRuntime,
     story: &Story,
     folder: &str,
     served: Outcome,
-) -> Result<(), Fail>
-where
-    R: Files<File = File>
-        + AllocGlobal
-        + Net<Listener = TcpListener, Stream = TcpStream>
-        + Threads
-        + Wait
-        + Clock
-        + Sync
-        + SeesPaths,
-{
+) -> Result<(), Fail> {
     let told = Told::new();
     let mut stage = Stage::new(scene_of(rt.alloc(), host, story.name, folder), &told);
     stage.ran = served;
@@ -263,17 +197,11 @@ fn scene_of<'a>(
 }
 
 /// Runs `mwserve`, which tells its ports and its notes here.
-pub(crate) fn serve_telling<R>(rt: &R, args: &[String], told: &Told) -> io::Result<Outcome>
-where
-    R: Files<File = File>
-        + AllocGlobal
-        + Net<Listener = TcpListener, Stream = TcpStream>
-        + Threads
-        + Wait
-        + Clock
-        + Sync
-        + SeesPaths,
-{
+pub(crate) fn serve_telling<R: Machine>(
+    rt: &R,
+    args: &[String],
+    told: &Told,
+) -> io::Result<Outcome> {
     let out = Output::new(rt.alloc(), usize::MAX, Watch::Ports(told));
     let err = Output::new(rt.alloc(), usize::MAX, Watch::Lines(told));
     run_to(rt, args, out, err)
@@ -281,23 +209,13 @@ where
 
 /// Plays lines beside a server that tells its ports here, once it is ready. Whatever comes of them, the server gets its
 /// connections.
-pub(crate) fn play_beside<R>(
+pub(crate) fn play_beside<R: Machine>(
     rt: &R,
     host: &HostRuntime,
     story: &Story,
     folder: &str,
     told: &Told,
-) -> Result<(), Fail>
-where
-    R: Files<File = File>
-        + AllocGlobal
-        + Net<Listener = TcpListener, Stream = TcpStream>
-        + Threads
-        + Wait
-        + Clock
-        + Sync
-        + SeesPaths,
-{
+) -> Result<(), Fail> {
     let port = match wait_for(rt, &told.ready, 1) {
         Ok(port) => port,
         Err(error) => {
@@ -314,17 +232,7 @@ where
 }
 
 /// Plays lines, none of which is `meanwhile`.
-fn play_lines<R>(rt: &R, stage: &mut Stage<'_>, lines: &str) -> Result<(), Fail>
-where
-    R: Files<File = File>
-        + AllocGlobal
-        + Net<Listener = TcpListener, Stream = TcpStream>
-        + Threads
-        + Wait
-        + Clock
-        + Sync
-        + SeesPaths,
-{
+fn play_lines<R: Machine>(rt: &R, stage: &mut Stage<'_>, lines: &str) -> Result<(), Fail> {
     for line in lines.split('\n') {
         match play_line(rt, stage, line) {
             Ok(true) => {}
@@ -339,17 +247,7 @@ where
 }
 
 /// Plays a line. Gives true if what it says has happened.
-fn play_line<R>(rt: &R, stage: &mut Stage<'_>, line: &str) -> io::Result<bool>
-where
-    R: Files<File = File>
-        + AllocGlobal
-        + Net<Listener = TcpListener, Stream = TcpStream>
-        + Threads
-        + Wait
-        + Clock
-        + Sync
-        + SeesPaths,
-{
+fn play_line<R: Machine>(rt: &R, stage: &mut Stage<'_>, line: &str) -> io::Result<bool> {
     let (verb, rest) = line.split_once(' ').unwrap_or((line, ""));
     match verb {
         "mwinit" | "mwserve" => run(rt, stage, line)?,
@@ -370,17 +268,7 @@ where
 }
 
 /// Runs a program with a command line. What was said of the next program's output is done then.
-fn run<R>(rt: &R, stage: &mut Stage<'_>, line: &str) -> io::Result<()>
-where
-    R: Files<File = File>
-        + AllocGlobal
-        + Net<Listener = TcpListener, Stream = TcpStream>
-        + Threads
-        + Wait
-        + Clock
-        + Sync
-        + SeesPaths,
-{
+fn run<R: Machine>(rt: &R, stage: &mut Stage<'_>, line: &str) -> io::Result<()> {
     let args = stage.command_line(line)?;
     stage.ran = run_watched(rt, stage, &args)?;
     stage.room = usize::MAX;
@@ -389,17 +277,7 @@ where
 }
 
 /// Runs a program with an output as the story said.
-fn run_watched<R>(rt: &R, stage: &Stage<'_>, args: &[String]) -> io::Result<Outcome>
-where
-    R: Files<File = File>
-        + AllocGlobal
-        + Net<Listener = TcpListener, Stream = TcpStream>
-        + Threads
-        + Wait
-        + Clock
-        + Sync
-        + SeesPaths,
-{
+fn run_watched<R: Machine>(rt: &R, stage: &Stage<'_>, args: &[String]) -> io::Result<Outcome> {
     let lock = LockWatch::new(stage.scene.host, stage.watched.as_str());
     let out = Output::new(rt.alloc(), stage.room, Watch::Lock(&lock));
     let err = Output::new(rt.alloc(), usize::MAX, Watch::Nothing);
@@ -409,17 +287,12 @@ where
 }
 
 /// Runs the program that a command line names, with these outputs.
-fn run_to<R>(rt: &R, args: &[String], out: Output<'_>, err: Output<'_>) -> io::Result<Outcome>
-where
-    R: Files<File = File>
-        + AllocGlobal
-        + Net<Listener = TcpListener, Stream = TcpStream>
-        + Threads
-        + Wait
-        + Clock
-        + Sync
-        + SeesPaths,
-{
+fn run_to<R: Machine>(
+    rt: &R,
+    args: &[String],
+    out: Output<'_>,
+    err: Output<'_>,
+) -> io::Result<Outcome> {
     let (mut out, mut err) = (out, err);
     let status = match args.first() {
         Some(word) if word.as_str() == "mwinit" => init(rt, args, &mut out, &mut err),

@@ -1,111 +1,133 @@
-//! A tenant's file, which keeps the last error that a call on it gave, for a note.
+//! A tenant's file, of whose calls it is kept what they told: errors, which file it is, and how long they took.
 //!
-//! Used by: `opening`, which makes one of each opened file; mw_programs. It may change as long as each call gives what
-//! the file's call gave.
-ghost use Rattle.std.specs.Prelude.{◌≡◌, ◌<◌};
-ghost use Rattle.mw_words.specs.declared.limits.TheConstants.{MAX_TENANTS};
+//! Used by: `tenant_disks`, which makes one of each opened file; mw_programs. It may change as long as each call gives what the
+//! file's call gave, or an error if the file was given up.
+ghost use Rattle.std.specs.Prelude.{◌≡◌};
 
-use mw_words::MAX_TENANTS;
+use crate::file_state::{FileState, SeenFile};
+use mw_metrics::{DeviceCall, Stopwatch, TenantCounters};
 use std::fs::{Metadata, OpenFile};
 use std::io::{self, ErrorKind};
 use std::os::unix::fs::FileExt;
-use std::sync::atomic::{AtomicI32, Ordering};
+use std::time::Clock;
 
-/// The last error that the system told of a file: its number, or 0 if it told none.
+/// A file that keeps in a state what the system tells of it: its last error, which file it is, and how long it must be. Each call
+/// is one call of the file below, and gives what that gave. If the file was given up, the call fails, and none is made below.
+///
+/// If there are counters, its reads, writes and syncs are timed and counted. Without them no clock is read.
 #[derive(Drop)]
-pub struct LastError(AtomicI32);
+pub struct WatchedFile<'a, F, K> {
+    file: F,
+    clock: &'a K,
+    state: &'a FileState,
+    counters: Option<&'a TenantCounters>,
+}
 
-impl LastError {
-    /// Makes one for a file of which the system told no error.
-    pub fn new() -> Self {
-        LastError(AtomicI32::new(0))
-    }
-
-    /// Gives the last error, if there was one.
-    pub fn error(&self) -> Option<io::Error> {
-        match self.0.load(Ordering::SeqCst) {
-            0 => None,
-            code => Some(io::Error::from_raw_os_error(code)),
+impl<'a, F, K: Clock> WatchedFile<'a, F, K> {
+    /// Makes a file that keeps in `state` what is told of it. These counters count its calls, by this clock.
+    pub fn new(
+        file: F,
+        clock: &'a K,
+        state: &'a FileState,
+        counters: Option<&'a TenantCounters>,
+    ) -> Self {
+        WatchedFile {
+            file,
+            clock,
+            state,
+            counters,
         }
     }
 
-    // Keeps the error of an outcome. An interrupted call is made again, so its error isn't kept.
-    fn keep<T: Drop>(&self, outcome: io::Result<T>) -> io::Result<T>
+    /// Starts to time a call, if it will be counted.
+    ///
+    /// # Errors
+    ///
+    /// The file was given up: no call may be made.
+    fn start(&self) -> io::Result<Option<Stopwatch>> {
+        self.state.may_be_called()?;
+        match self.counters {
+            Some(_) => Ok(Some(Stopwatch::start(self.clock))),
+            None => Ok(None),
+        }
+    }
+
+    /// Counts a call that was started then, and ended so, and keeps its error. A call that was interrupted has not failed: it is
+    /// made again.
+    fn end<T: Drop>(
+        &self,
+        call: DeviceCall,
+        started: Option<Stopwatch>,
+        outcome: io::Result<T>,
+    ) -> io::Result<T>
         ensures { result ≡ outcome }
     {
-        if let Err(error) = &outcome {
-            if error.kind() != ErrorKind::Interrupted {
-                self.0
-                    .store(error.raw_os_error().unwrap_or(0), Ordering::SeqCst);
-            }
+        let has_failed = self.keep_error(&outcome);
+        if let (Some(counters), Some(started)) = (self.counters, started) {
+            counters.record_call(call, started.nanos(self.clock), has_failed);
         }
         outcome
     }
-}
 
-/// The last error of each tenant's file.
-#[derive(Drop)]
-pub struct LastErrors([LastError; MAX_TENANTS]);
-
-impl LastErrors {
-    /// Makes them for files of which the system told no error.
-    pub fn new() -> Self {
-        LastErrors([(); MAX_TENANTS].map(|_| LastError::new()))
-    }
-
-    /// Gives the last error of the file of the tenant of this number.
-    pub fn of(&self, tenant: usize) -> &LastError
-        requires { tenant < MAX_TENANTS }
-    {
-        &self.0[tenant]
+    /// Keeps the error of a call that failed, and was not only interrupted. Tells whether it did.
+    fn keep_error<T>(&self, outcome: &io::Result<T>) -> bool {
+        match outcome {
+            Err(error) if error.kind() != ErrorKind::Interrupted => {
+                self.state.keep_error(error);
+                true
+            }
+            _ => false,
+        }
     }
 }
 
-/// A file that keeps the last error that the system told of it. Each call is one call of the file below, and gives what
-/// that gave.
-#[derive(Drop)]
-pub struct WatchedFile<'a, F> {
-    file: F,
-    last: &'a LastError,
-}
-
-impl<'a, F> WatchedFile<'a, F> {
-    /// Makes a file that keeps its errors in `last`.
-    pub fn new(file: F, last: &'a LastError) -> Self {
-        WatchedFile { file, last }
-    }
-}
-
-impl<F: FileExt> FileExt for WatchedFile<'_, F> {
+impl<F: FileExt, K: Clock> FileExt for WatchedFile<'_, F, K> {
     fn read_at(&self, buf: &mut [u8], offset: u64) -> io::Result<usize> {
+        let started = self.start()?;
         let read = self.file.read_at(buf, offset);
-        self.last.keep(read)
+        self.end(DeviceCall::Read, started, read)
     }
 
     fn write_at(&self, buf: &[u8], offset: u64) -> io::Result<usize> {
+        let started = self.start()?;
         let written = self.file.write_at(buf, offset);
-        self.last.keep(written)
+        if let Ok(count) = &written {
+            self.state.keep_end(offset.saturating_add(*count as u64));
+        }
+        self.end(DeviceCall::Write, started, written)
     }
 }
 
-impl<F: OpenFile> OpenFile for WatchedFile<'_, F> {
+impl<F: OpenFile, K: Clock> OpenFile for WatchedFile<'_, F, K> {
     fn metadata(&self) -> io::Result<Metadata> {
+        self.state.may_be_called()?;
         let told = self.file.metadata();
-        self.last.keep(told)
+        self.keep_error(&told);
+        if let Ok(told) = &told {
+            self.state.keep_seen(SeenFile::of(told));
+        }
+        told
     }
 
     fn set_len(&self, size: u64) -> io::Result<()> {
+        self.state.may_be_called()?;
         let set = self.file.set_len(size);
-        self.last.keep(set)
+        self.keep_error(&set);
+        if set.is_ok() {
+            self.state.keep_size(size);
+        }
+        set
     }
 
     fn sync_all(&self) -> io::Result<()> {
+        let started = self.start()?;
         let synced = self.file.sync_all();
-        self.last.keep(synced)
+        self.end(DeviceCall::Sync, started, synced)
     }
 
     fn sync_data(&self) -> io::Result<()> {
+        let started = self.start()?;
         let synced = self.file.sync_data();
-        self.last.keep(synced)
+        self.end(DeviceCall::Sync, started, synced)
     }
 }

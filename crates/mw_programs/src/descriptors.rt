@@ -51,27 +51,26 @@ pub(crate) fn needed(
     clients + admin + pages
 }
 
-/// Gives how many descriptors the system lets this program have, or None if it doesn't tell.
-fn limit() -> Option<u64> {
+/// Gives how many descriptors the system lets this program have, or the most if it doesn't tell.
+fn limit() -> u64 {
     let mut limit = libc::types::rlimit {
         rlim_cur: 0,
         rlim_max: 0,
     };
     if libc::getrlimit(libc::RLIMIT_NOFILE, &mut limit) == 0 {
-        Some(limit.rlim_cur)
+        limit.rlim_cur
     } else {
-        None
+        u64::MAX
     }
 }
 
 /// Tells whether the program may have so many descriptors, and writes a note if not.
 pub(crate) fn has_descriptors<L: Log>(notes: &L, needed: u64) -> bool {
-    match limit() {
-        Some(limit) if limit < needed => {
-            warn!(notes; "mwserve: too few descriptors");
-            info!(notes; "limit {limit}, needed {needed}");
-            false
-        }
-        _ => true,
+    let limit = limit();
+    if limit >= needed {
+        return true;
     }
+    warn!(notes; "mwserve: too few descriptors");
+    info!(notes; "limit {limit}, needed {needed}");
+    false
 }

@@ -6,11 +6,14 @@
 mod clients;
 mod copies;
 mod descriptors;
+mod machine;
 mod pages;
 mod replaced;
+mod server;
 mod services;
 mod serving;
 mod tenants;
 
+pub use machine::Machine;
 pub use replaced::SeesPaths;
 pub use serving::serve;
