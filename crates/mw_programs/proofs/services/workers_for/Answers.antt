@@ -25,7 +25,7 @@ loop-pass-preserved g c =
     let rest = into_iter_items c.next.new.self in
     let workers = c.loop-pass.workers in
     let went : length c.add.new.services.items ≡ length workers.items + 1 =
-      went_well (length c.add.new.services.items ≡ length workers.items + 1) c.add.result (sym c.is_err.ensures.value ∙ c.if-is_err.false) c.add.ensures in
+    went_well (length c.add.new.services.items ≡ length workers.items + 1) c.add.result (sym c.is_err.ensures.value ∙ c.if-is_err.false) c.add.ensures in
     record {
       count = one_more (length c.args.passes.items) (length workers.items) (length c.add.new.services.items) left rest c.in-Some.pass c.in-Some.ensures.steps.0 went c.loop-pass.invariant.count;
       new = behind (IsNew g.J.EngineBrand.identity) left rest c.in-Some.pass c.in-Some.ensures.steps.0 c.loop-pass.invariant.new;
