@@ -74,8 +74,10 @@ pub(crate) struct Case<'c> {
 }
 
 impl Case<'_> {
-    /// How many workers there are.
-    pub(crate) fn workers(&self) -> u8 {
+    /// How many workers there are: eight at most.
+    pub(crate) fn workers(&self) -> u8
+        ensures { result ≤ 8 }
+    {
         match self.play {
             Play::Ring => RING,
             _ => 4,

@@ -26,17 +26,21 @@ fn after(number: usize) -> usize {
     number.wrapping_add(1) % usize::from(RING)
 }
 
+/// An entry that changes a word from 0 to 1.
+fn entry_at(addr: usize) -> Entry {
+    Entry {
+        addr: u16::try_from(addr).unwrap_or_default(),
+        expected: 0,
+        new: 1,
+    }
+}
+
 /// A change of a worker's own word and the next one's, from 0 to 1.
 fn change_of(number: usize) -> Job {
     let next = after(number);
     let mut entries = Entries::new();
-    for addr in [number.min(next), number.max(next)] {
-        entries.push(Entry {
-            addr: addr as u16,
-            expected: 0,
-            new: 1,
-        });
-    }
+    entries.push(entry_at(number.min(next)));
+    entries.push(entry_at(number.max(next)));
     Job::Cas(entries)
 }
 
@@ -75,9 +79,8 @@ fn is_right(replies: &[Option<Reply>], number: usize, value: Option<Reply>) -> b
     let (last, next) = (*last == Some(Reply::Yes), *next == Some(Reply::Yes));
     let is_changed = match own {
         Some(Reply::Yes) if !last && !next => true,
-        // The lower of both words is the next one's for the last worker, and its own for all others.
-        Some(Reply::No(entry, 1)) => {
-            let is_own = (*entry == 0) == (number < after(number));
+        Some(Reply::No(addr, 1)) => {
+            let is_own = usize::from(*addr) == number;
             if is_own && !last || !is_own && !next {
                 return false;
             }
