@@ -22,10 +22,16 @@ use crate::files::play_file;
 use crate::outputs::{LockWatch, Output, Watch};
 use crate::stage::{Outcome, Scene, Stage};
 use mw_init::init;
-use mw_programs::{Machine, serve};
+use mw_programs::{SeesPaths, serve};
 use std::alloc::{AllocError, Global};
+use std::fs::{self, File};
+use std::net::{Net, TcpListener, TcpStream};
+use std::rt::Files;
+use std::sync::Wait;
 use std::test::Fail;
-use std::{env, fs, io, process};
+use std::thread::Threads;
+use std::time::Clock;
+use std::{env, io, process};
 
 /// The most connections that a server takes which ends after some.
 const CONNECTIONS: usize = 3;
@@ -46,7 +52,17 @@ pub(crate) struct Story {
 ///
 /// Something else comes of a story, or a call of the system fails: the error has the story, its case and its line. Then the
 /// folder stays.
-pub(crate) fn play<R: Machine>(rt: &R, host: &HostRuntime, stories: &[Story]) -> Result<(), Fail> {
+pub(crate) fn play<R>(rt: &R, host: &HostRuntime, stories: &[Story]) -> Result<(), Fail>
+where
+    R: Files<File = File>
+        + AllocGlobal
+        + Net<Listener = TcpListener, Stream = TcpStream>
+        + Threads
+        + Wait
+        + Clock
+        + Sync
+        + SeesPaths,
+{
     for story in stories {
         match story.lines.split_once("\nfor each of\n") {
             Some((lines, cases)) => play_cases(rt, host, story.name, lines, cases)?,
@@ -57,13 +73,23 @@ pub(crate) fn play<R: Machine>(rt: &R, host: &HostRuntime, stories: &[Story]) ->
 }
 
 /// Plays a story for each line of a table.
-fn play_cases<R: Machine>(
+fn play_cases<R>(
     rt: &R,
     host: &HostRuntime,
     name: &str,
     lines: &str,
     cases: &str,
-) -> Result<(), Fail> {
+) -> Result<(), Fail>
+where
+    R: Files<File = File>
+        + AllocGlobal
+        + Net<Listener = TcpListener, Stream = TcpStream>
+        + Threads
+        + Wait
+        + Clock
+        + Sync
+        + SeesPaths,
+{
     for case in cases.split('\n') {
         let title = format!(in rt.alloc(); "{name}, {case}")?;
         let lines = filled(rt.alloc(), lines, case)?;
@@ -94,13 +120,23 @@ fn new_folder(rt: &HostRuntime, name: &str) -> Result<String, Fail> {
 }
 
 /// Plays a story with this title in a new folder of this name, and removes the folder.
-fn play_story<R: Machine>(
+fn play_story<R>(
     rt: &R,
     host: &HostRuntime,
     name: &str,
     title: &str,
     lines: &str,
-) -> Result<(), Fail> {
+) -> Result<(), Fail>
+where
+    R: Files<File = File>
+        + AllocGlobal
+        + Net<Listener = TcpListener, Stream = TcpStream>
+        + Threads
+        + Wait
+        + Clock
+        + Sync
+        + SeesPaths,
+{
     let folder = new_folder(host, name)?;
     let scene = Scene {
         alloc: rt.alloc(),
@@ -146,19 +182,39 @@ pub(crate) struct Begun {
 }
 
 /// Plays a story with a server in a new folder, up to the server.
-pub(crate) fn begin<R: Machine>(rt: &R, host: &HostRuntime, story: &Story) -> Result<Begun, Fail> {
+pub(crate) fn begin<R>(rt: &R, host: &HostRuntime, story: &Story) -> Result<Begun, Fail>
+where
+    R: Files<File = File>
+        + AllocGlobal
+        + Net<Listener = TcpListener, Stream = TcpStream>
+        + Threads
+        + Wait
+        + Clock
+        + Sync
+        + SeesPaths,
+{
     let folder = new_folder(host, story.name)?;
     let args = play_before(rt, host, story, folder.as_str())?;
     Ok(Begun { folder, args })
 }
 
 /// Plays what is done before the server. Gives its command line.
-fn play_before<R: Machine>(
+fn play_before<R>(
     rt: &R,
     host: &HostRuntime,
     story: &Story,
     folder: &str,
-) -> Result<Vec<String>, Fail> {
+) -> Result<Vec<String>, Fail>
+where
+    R: Files<File = File>
+        + AllocGlobal
+        + Net<Listener = TcpListener, Stream = TcpStream>
+        + Threads
+        + Wait
+        + Clock
+        + Sync
+        + SeesPaths,
+{
     let parts = parts_of(story.lines);
     let told = Told::new();
     let mut stage = Stage::new(scene_of(rt.alloc(), host, story.name, folder), &told);
@@ -169,13 +225,23 @@ fn play_before<R: Machine>(
 }
 
 /// Plays what is done after the server has ended, which gave this, and removes the folder.
-pub(crate) fn end<R: Machine>(
+pub(crate) fn end<R>(
     rt: &R,
     host: &HostRuntime,
     story: &Story,
     folder: &str,
     served: Outcome,
-) -> Result<(), Fail> {
+) -> Result<(), Fail>
+where
+    R: Files<File = File>
+        + AllocGlobal
+        + Net<Listener = TcpListener, Stream = TcpStream>
+        + Threads
+        + Wait
+        + Clock
+        + Sync
+        + SeesPaths,
+{
     let told = Told::new();
     let mut stage = Stage::new(scene_of(rt.alloc(), host, story.name, folder), &told);
     stage.ran = served;
@@ -200,11 +266,17 @@ fn scene_of<'a>(
 }
 
 /// Runs `mwserve`, which tells its ports and its notes here.
-pub(crate) fn serve_telling<R: Machine>(
-    rt: &R,
-    args: &[String],
-    told: &Told,
-) -> io::Result<Outcome> {
+pub(crate) fn serve_telling<R>(rt: &R, args: &[String], told: &Told) -> io::Result<Outcome>
+where
+    R: Files<File = File>
+        + AllocGlobal
+        + Net<Listener = TcpListener, Stream = TcpStream>
+        + Threads
+        + Wait
+        + Clock
+        + Sync
+        + SeesPaths,
+{
     let out = Output::new(rt.alloc(), usize::MAX, Watch::Ports(told));
     let err = Output::new(rt.alloc(), usize::MAX, Watch::Lines(told));
     run_to(rt, args, out, err)
@@ -212,13 +284,23 @@ pub(crate) fn serve_telling<R: Machine>(
 
 /// Plays lines beside a server that tells its ports here, once it is ready. Whatever comes of them, the server gets its
 /// connections.
-pub(crate) fn play_beside<R: Machine>(
+pub(crate) fn play_beside<R>(
     rt: &R,
     host: &HostRuntime,
     story: &Story,
     folder: &str,
     told: &Told,
-) -> Result<(), Fail> {
+) -> Result<(), Fail>
+where
+    R: Files<File = File>
+        + AllocGlobal
+        + Net<Listener = TcpListener, Stream = TcpStream>
+        + Threads
+        + Wait
+        + Clock
+        + Sync
+        + SeesPaths,
+{
     let port = match wait_for(rt, &told.ready, 1) {
         Ok(port) => port,
         Err(error) => {
@@ -235,7 +317,17 @@ pub(crate) fn play_beside<R: Machine>(
 }
 
 /// Plays lines, none of which is `meanwhile`.
-fn play_lines<R: Machine>(rt: &R, stage: &mut Stage<'_>, lines: &str) -> Result<(), Fail> {
+fn play_lines<R>(rt: &R, stage: &mut Stage<'_>, lines: &str) -> Result<(), Fail>
+where
+    R: Files<File = File>
+        + AllocGlobal
+        + Net<Listener = TcpListener, Stream = TcpStream>
+        + Threads
+        + Wait
+        + Clock
+        + Sync
+        + SeesPaths,
+{
     for line in lines.split('\n') {
         match play_line(rt, stage, line) {
             Ok(true) => {}
@@ -250,7 +342,17 @@ fn play_lines<R: Machine>(rt: &R, stage: &mut Stage<'_>, lines: &str) -> Result<
 }
 
 /// Plays a line. Gives true if what it says has happened.
-fn play_line<R: Machine>(rt: &R, stage: &mut Stage<'_>, line: &str) -> io::Result<bool> {
+fn play_line<R>(rt: &R, stage: &mut Stage<'_>, line: &str) -> io::Result<bool>
+where
+    R: Files<File = File>
+        + AllocGlobal
+        + Net<Listener = TcpListener, Stream = TcpStream>
+        + Threads
+        + Wait
+        + Clock
+        + Sync
+        + SeesPaths,
+{
     let (verb, rest) = line.split_once(' ').unwrap_or((line, ""));
     match verb {
         "mwinit" | "mwserve" => run(rt, stage, line)?,
@@ -271,7 +373,17 @@ fn play_line<R: Machine>(rt: &R, stage: &mut Stage<'_>, line: &str) -> io::Resul
 }
 
 /// Runs a program with a command line. What was said of the next program's output is done then.
-fn run<R: Machine>(rt: &R, stage: &mut Stage<'_>, line: &str) -> io::Result<()> {
+fn run<R>(rt: &R, stage: &mut Stage<'_>, line: &str) -> io::Result<()>
+where
+    R: Files<File = File>
+        + AllocGlobal
+        + Net<Listener = TcpListener, Stream = TcpStream>
+        + Threads
+        + Wait
+        + Clock
+        + Sync
+        + SeesPaths,
+{
     let args = stage.command_line(line)?;
     stage.ran = run_watched(rt, stage, &args)?;
     stage.room = usize::MAX;
@@ -280,7 +392,17 @@ fn run<R: Machine>(rt: &R, stage: &mut Stage<'_>, line: &str) -> io::Result<()> 
 }
 
 /// Runs a program with an output as the story said.
-fn run_watched<R: Machine>(rt: &R, stage: &Stage<'_>, args: &[String]) -> io::Result<Outcome> {
+fn run_watched<R>(rt: &R, stage: &Stage<'_>, args: &[String]) -> io::Result<Outcome>
+where
+    R: Files<File = File>
+        + AllocGlobal
+        + Net<Listener = TcpListener, Stream = TcpStream>
+        + Threads
+        + Wait
+        + Clock
+        + Sync
+        + SeesPaths,
+{
     let lock = LockWatch::new(stage.scene.host, stage.watched.as_str());
     let out = Output::new(rt.alloc(), stage.room, Watch::Lock(&lock));
     let err = Output::new(rt.alloc(), usize::MAX, Watch::Nothing);
@@ -290,12 +412,17 @@ fn run_watched<R: Machine>(rt: &R, stage: &Stage<'_>, args: &[String]) -> io::Re
 }
 
 /// Runs the program that a command line names, with these outputs.
-fn run_to<R: Machine>(
-    rt: &R,
-    args: &[String],
-    out: Output<'_>,
-    err: Output<'_>,
-) -> io::Result<Outcome> {
+fn run_to<R>(rt: &R, args: &[String], out: Output<'_>, err: Output<'_>) -> io::Result<Outcome>
+where
+    R: Files<File = File>
+        + AllocGlobal
+        + Net<Listener = TcpListener, Stream = TcpStream>
+        + Threads
+        + Wait
+        + Clock
+        + Sync
+        + SeesPaths,
+{
     let (mut out, mut err) = (out, err);
     let status = match args.first() {
         Some(word) if word.as_str() == "mwinit" => init(rt, args, &mut out, &mut err),

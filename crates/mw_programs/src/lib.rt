@@ -14,6 +14,5 @@ mod services;
 mod serving;
 mod tenants;
 
-pub use machine::Machine;
 pub use replaced::SeesPaths;
 pub use serving::serve;

@@ -1,6 +1,6 @@
 //! Defines what a server needs of the runtime that it runs under.
 //!
-//! `serving` and mw_examples ask for it. A server that needs more of the system asks for it here.
+//! The functions behind `serve` ask for it. A server that needs more of the system asks for it here, and in `serve`.
 
 use crate::replaced::SeesPaths;
 use std::fs::File;
@@ -12,7 +12,7 @@ use std::time::Clock;
 
 /// What a server needs of a runtime: files, memory, sockets, threads that wait for each other, and a clock. Each runtime that has
 /// all of these is one.
-pub trait Machine: Files<File = File>
+pub(crate) trait Machine: Files<File = File>
     + AllocGlobal
     + Net<Listener = TcpListener, Stream = TcpStream>
     + Threads

@@ -13,7 +13,7 @@ ghost use Rattle.mw_programs.specs.WorkerCount.{one_for, own_workers, served_cou
 
 use crate::descriptors::{has_descriptors, needed};
 use crate::machine::Machine;
-use crate::replaced::TenantWatch;
+use crate::replaced::{SeesPaths, TenantWatch};
 use crate::server::ServeFault;
 use crate::services::{counted, first_of, serve_all_clients};
 use crate::tenants::TenantNotes;
@@ -32,7 +32,10 @@ use mw_words::MAX_WORKERS;
 use std::fs::File;
 use std::io::Write;
 use std::marker::Brand;
+use std::net::{Net, TcpListener, TcpStream};
+use std::rt::Files;
 use std::sync::Wait;
+use std::thread::Threads;
 use std::time::Clock;
 
 /// Serves what the command line `args` asks for. Its first argument is the program's own name.
@@ -59,12 +62,19 @@ use std::time::Clock;
 /// it also writes a note on each tenant whose file is replaced, and one if the limit of descriptors is too
 /// low. The files stay
 /// locked until it returns.
-pub fn serve<R: Machine, O: Write, E: Write + Send>(
-    rt: &R,
-    args: &[String],
-    out: &mut O,
-    err: &mut E,
-) -> u8 {
+///
+/// Whoever knows the runtime's type must see what is asked of it, so these bounds stand for [`Machine`] here.
+pub fn serve<R, O: Write, E: Write + Send>(rt: &R, args: &[String], out: &mut O, err: &mut E) -> u8
+where
+    R: Files<File = File>
+        + AllocGlobal
+        + Net<Listener = TcpListener, Stream = TcpStream>
+        + Threads
+        + Wait
+        + Clock
+        + Sync
+        + SeesPaths,
+{
     let args = match read_args(rt.alloc(), args) {
         Ok(args) => args,
         Err(fault) => return refuse(&fault, out, err),
