@@ -1,5 +1,6 @@
-//! Tests what opens a server's files, over files that fail when they are told to: that a watched file makes each call on the file
-//! below it once and gives its outcome, and what it keeps of it; and that a disk over a watched file syncs.
+//! Tests what opens a server's files, over files that fail when they are told to: that a watched, a metered and a tracked file
+//! make each call on the file below them once and give its outcome, and what each of them keeps of it; and that a disk over a
+//! watched file syncs.
 //!
 //! Nothing else uses it: it may change with what it tests.
 mod fake_file;
@@ -7,7 +8,7 @@ mod fake_file;
 use fake_file::{Call, Calls, DEVICE, FakeFile, INTERRUPTED, calls_of};
 use mw_disk::{Disk, DiskFault, FileDisk};
 use mw_metrics::{CallFigures, TenantCounters};
-use mw_opening::{FileState, WatchedFile};
+use mw_opening::{FileState, LastError, MeteredFile, TrackedFile, WatchedFile};
 use std::fmt::Debug;
 use std::fs::{Metadata, OpenFile};
 use std::io;
@@ -41,6 +42,16 @@ const UNCOUNTED: Counted = [(0, 0); 3];
 
 /// What was seen of one call: how it ended, the calls on the file below, the last error, and what was counted.
 type Seen = (Ended, Calls, Option<i32>, Counted);
+
+/// What is over the file.
+#[derive(Clone, Copy)]
+enum Layer {
+    Watched,
+    Metered,
+    Tracked,
+    /// A tracked file that was given up.
+    GivenUp,
+}
 
 /// Checks that what was found in the case of this number is what was wanted, and tells both if they differ.
 fn same_at<R: Abort, T: Debug + PartialEq>(rt: &R, case: u8, found: &T, wanted: &T) {
@@ -90,8 +101,16 @@ fn failing_file(error: Option<i32>) -> FakeFile {
     file
 }
 
-fn last_of(state: &FileState) -> Option<i32> {
-    state.last_error().and_then(|error| error.raw_os_error())
+fn last_of(last: &LastError) -> Option<i32> {
+    last.error().and_then(|error| error.raw_os_error())
+}
+
+/// Makes this call on a watched file. The call below fails with this error if there is one.
+fn watch(call: Call, error: Option<i32>) -> Seen {
+    let file = failing_file(error);
+    let last = LastError::new();
+    let ended = make(&WatchedFile::new(&file, &last), call);
+    (ended, file.calls(), last_of(&last), UNCOUNTED)
 }
 
 /// Gives how many calls were counted, and how many failed.
@@ -103,25 +122,30 @@ fn figures_of(figures: &CallFigures) -> (u64, u64) {
     (calls, figures.failures)
 }
 
-/// Makes this call on a watched file. If it is given up, that comes first. The call below fails with this error if there is
-/// one.
-fn watch(clock: &impl Clock, call: Call, is_given_up: bool, error: Option<i32>) -> Seen {
+/// Makes this call on a metered file. The call below fails with this error if there is one.
+fn meter(clock: &impl Clock, call: Call, error: Option<i32>) -> Seen {
     let file = failing_file(error);
-    let (state, counters) = (FileState::new(), TenantCounters::new());
-    if is_given_up {
-        state.give_up();
-    }
-    let ended = make(
-        &WatchedFile::new(&file, clock, &state, Some(&counters)),
-        call,
-    );
+    let counters = TenantCounters::new();
+    let ended = make(&MeteredFile::new(&file, clock, Some(&counters)), call);
     let counts = counters.counts();
     let all = [
         figures_of(&counts.read),
         figures_of(&counts.write),
         figures_of(&counts.sync),
     ];
-    (ended, file.calls(), last_of(&state), all)
+    (ended, file.calls(), None, all)
+}
+
+/// Makes this call on a tracked file. If it is given up, that comes first. The call below fails with this error if
+/// there is one.
+fn track(call: Call, is_given_up: bool, error: Option<i32>) -> Seen {
+    let file = failing_file(error);
+    let state = FileState::new();
+    if is_given_up {
+        state.give_up();
+    }
+    let ended = make(&TrackedFile::new(&file, &state), call);
+    (ended, file.calls(), None, UNCOUNTED)
 }
 
 /// What a counter that counts one such call has, with this failure.
@@ -136,45 +160,57 @@ fn once(call: Call, failures: u64) -> Counted {
 }
 
 /// What must be seen of this call, which gives this number if the call below succeeds.
-fn wanted(call: Call, number: u64, is_given_up: bool, error: Option<i32>) -> Seen {
-    if is_given_up {
-        return (Err(Some(STALE)), calls_of(&[]), Some(STALE), UNCOUNTED);
-    }
+fn wanted(layer: Layer, call: Call, number: u64, error: Option<i32>) -> Seen {
     let ended = match error {
         Some(error) => Err(Some(error)),
         None => Ok(number),
     };
+    let calls = calls_of(&[call]);
     // A call that was interrupted is made again: it is no failure.
     let failure = match error {
         Some(DEVICE) => error,
         _ => None,
     };
-    let counts = once(call, u64::from(failure.is_some()));
-    (ended, calls_of(&[call]), failure, counts)
+    match layer {
+        Layer::Watched => (ended, calls, failure, UNCOUNTED),
+        Layer::Metered => (ended, calls, None, once(call, u64::from(failure.is_some()))),
+        Layer::Tracked => (ended, calls, None, UNCOUNTED),
+        Layer::GivenUp => (Err(Some(STALE)), calls_of(&[]), None, UNCOUNTED),
+    }
 }
 
-/// Whether the file is given up, and how the first call below fails.
-const CASES: [(bool, Option<i32>); 4] = [
-    (false, None),
-    (false, Some(DEVICE)),
-    (false, Some(INTERRUPTED)),
-    (true, None),
+/// What is over the file, and how the first call below fails.
+const CASES: [(Layer, Option<i32>); 9] = [
+    (Layer::Watched, None),
+    (Layer::Watched, Some(DEVICE)),
+    (Layer::Watched, Some(INTERRUPTED)),
+    (Layer::Metered, None),
+    (Layer::Metered, Some(DEVICE)),
+    (Layer::Metered, Some(INTERRUPTED)),
+    (Layer::Tracked, None),
+    (Layer::Tracked, Some(DEVICE)),
+    (Layer::GivenUp, None),
 ];
 
 /// Checks what is seen of each call in the case of this number. A call's own number is ten times the case's and its place.
-fn check_calls<R: Abort + Clock>(rt: &R, case: u8, is_given_up: bool, error: Option<i32>) {
+fn check_calls<R: Abort + Clock>(rt: &R, case: u8, layer: Layer, error: Option<i32>) {
     let mut at = case.saturating_mul(10);
     for (call, number) in CALLS {
-        let seen = watch(rt, call, is_given_up, error);
-        same_at(rt, at, &seen, &wanted(call, number, is_given_up, error));
+        let seen = match layer {
+            Layer::Watched => watch(call, error),
+            Layer::Metered => meter(rt, call, error),
+            Layer::Tracked => track(call, false, error),
+            Layer::GivenUp => track(call, true, error),
+        };
+        same_at(rt, at, &seen, &wanted(layer, call, number, error));
         at = at.saturating_add(1);
     }
 }
 
 #[test]
 fn each_call_is_one_call_of_the_file(rt: HostRuntime) {
-    for (case, (is_given_up, error)) in (0u8..).zip(CASES) {
-        check_calls(&rt, case, is_given_up, error);
+    for (case, (layer, error)) in (0u8..).zip(CASES) {
+        check_calls(&rt, case, layer, error);
     }
 }
 
@@ -182,15 +218,15 @@ fn each_call_is_one_call_of_the_file(rt: HostRuntime) {
 fn an_error_is_kept_after_calls_that_go_well(rt: HostRuntime) {
     let file = FakeFile::new(BYTES);
     file.fail_at(1, DEVICE);
-    let state = FileState::new();
-    let watched = WatchedFile::new(&file, &rt, &state, None);
+    let last = LastError::new();
+    let watched = WatchedFile::new(&file, &last);
     let ended = [
         make(&watched, Call::SyncAll),
         make(&watched, Call::SyncData),
         make(&watched, Call::Metadata),
     ];
     same_at(&rt, 0, &ended, &[Ok(0), Err(Some(DEVICE)), Ok(6)]);
-    same_at(&rt, 0, &last_of(&state), &Some(DEVICE));
+    same_at(&rt, 0, &last_of(&last), &Some(DEVICE));
 }
 
 /// Calls on a file of six bytes, one after the other, and the size that it must have after each. The last one fails.
@@ -208,9 +244,9 @@ fn the_size_that_a_file_must_have(rt: HostRuntime) {
     let file = FakeFile::new(BYTES);
     file.fail_at(5, DEVICE);
     let state = FileState::new();
-    let watched = WatchedFile::new(&file, &rt, &state, None);
+    let tracked = TrackedFile::new(&file, &state);
     for (case, (call, size)) in (0u8..).zip(SIZES) {
-        let _ = make(&watched, call);
+        let _ = make(&tracked, call);
         same_at(&rt, case, &state.seen().size, &size);
     }
 }
@@ -238,8 +274,8 @@ fn a_disk_syncs_its_file(rt: HostRuntime) {
         let file = failing_file(error);
         same_at(&rt, case, &sync(FileDisk::new(&file), &file), &wanted);
         let file = failing_file(error);
-        let state = FileState::new();
-        let watched = WatchedFile::new(&file, &rt, &state, None);
+        let last = LastError::new();
+        let watched = WatchedFile::new(&file, &last);
         same_at(&rt, case, &sync(FileDisk::new(watched), &file), &wanted);
     }
 }

@@ -2,8 +2,8 @@
 //!
 //! Used by: `opening`, which writes the notes; `tenant_disks`. docs/OPERATING.md lists the texts of the notes: change both
 //! together.
-use crate::file_state::FileState;
 use crate::notes::{note_cause, note_place};
+use crate::watched_file::LastError;
 use log::{Log, info};
 use mw_file::OpenFault;
 use std::io;
@@ -32,11 +32,11 @@ pub enum FileFault {
 }
 
 impl FileFault {
-    /// Gives the fault of a failed opening. The state has what the system told last, in the opening or before it.
-    pub(crate) fn of_opening(fault: OpenFault, state: &FileState) -> Self {
+    /// Gives the fault of a failed opening. `last` has what the system told last, in the opening or before it.
+    pub(crate) fn of_opening(fault: OpenFault, last: &LastError) -> Self {
         match fault {
             OpenFault::Memory => FileFault::Memory,
-            OpenFault::Disk => FileFault::Disk(state.last_error()),
+            OpenFault::Disk => FileFault::Disk(last.error()),
             OpenFault::Damage(damage) => FileFault::Damage(damage.number()),
         }
     }

@@ -1,7 +1,6 @@
-//! What is known of a tenant's file: which file of the system it is, how long it must be, the last error, and whether it was
-//! given up.
+//! Which file of the system a tenant's file is, how long it must be, and whether it was given up.
 //!
-//! Used by: `watched_file`, which keeps it; `opening`; mw_programs, which looks whether the file was replaced. Many
+//! Used by: `tracked_file`, which keeps it; `opening`; mw_programs, which looks whether the file was replaced. Many
 //! threads may share it. It may change with them.
 ghost use Rattle.std.specs.Prelude.{◌<◌};
 ghost use Rattle.mw_words.specs.declared.limits.TheConstants.{MAX_TENANTS};
@@ -10,13 +9,13 @@ use mw_words::MAX_TENANTS;
 use std::fs::Metadata;
 use std::io;
 use std::os::unix::fs::MetadataExt;
-use std::sync::atomic::{AtomicBool, AtomicI32, AtomicU64, Ordering};
+use std::sync::atomic::{AtomicBool, AtomicU64, Ordering};
 
 /// The number of the system's error for a file that was replaced: a stale file handle.
 const REPLACED: i32 = 116;
 
 /// Which file of the system a file is, and how long it is.
-#[derive(Clone, Copy)]
+#[derive(Clone, Copy, Debug, Drop, PartialEq, Eq)]
 pub struct SeenFile {
     /// The device that has the file.
     pub device: u64,
@@ -37,15 +36,13 @@ impl SeenFile {
     }
 }
 
-/// Which file a tenant's file is, how long it must be, the last error that the system told of it, and whether it was given up.
+/// Which file a tenant's file is, how long it must be, and whether it was given up.
 #[derive(Drop)]
 pub struct FileState {
     device: AtomicU64,
     inode: AtomicU64,
     /// The size that the file must have, in bytes: what the system told of it, or more if it was written to past that.
     size: AtomicU64,
-    /// The number of the last error, or 0 if the system told none.
-    error: AtomicI32,
     is_given_up: AtomicBool,
 }
 
@@ -56,7 +53,6 @@ impl FileState {
             device: AtomicU64::new(0),
             inode: AtomicU64::new(0),
             size: AtomicU64::new(0),
-            error: AtomicI32::new(0),
             is_given_up: AtomicBool::new(false),
         }
     }
@@ -76,31 +72,16 @@ impl FileState {
         self.is_given_up.store(true, Ordering::SeqCst);
     }
 
-    /// Gives the last error that the system told of the file, if there was one.
-    pub fn last_error(&self) -> Option<io::Error> {
-        match self.error.load(Ordering::SeqCst) {
-            0 => None,
-            code => Some(io::Error::from_raw_os_error(code)),
-        }
-    }
-
     /// Asks whether a call may be made on the file.
     ///
     /// # Errors
     ///
-    /// The file was given up. This is then its last error.
+    /// The file was given up.
     pub(crate) fn may_be_called(&self) -> io::Result<()> {
         if self.is_given_up.load(Ordering::SeqCst) {
-            self.error.store(REPLACED, Ordering::SeqCst);
             return Err(io::Error::from_raw_os_error(REPLACED));
         }
         Ok(())
-    }
-
-    /// Keeps an error that the system told of the file.
-    pub(crate) fn keep_error(&self, error: &io::Error) {
-        let code = error.raw_os_error().unwrap_or(0);
-        self.error.store(code, Ordering::SeqCst);
     }
 
     /// Keeps what the system told of the file.

@@ -9,13 +9,13 @@ ghost use Rattle.mw_engine.specs.OpenedFiles.{FitsLine, FitLines};
 ghost use Rattle.mw_opening.specs.SyncedOpenings.{AreOfLines, IsOfLine, IsOpenedAfterSync};
 
 use crate::file_fault::FileFault;
-use crate::file_state::FileState;
 use crate::notes::note_place;
 use crate::plain_file::{ReadFault, open_plain};
 use crate::tenant_disks::OpensDisks;
+use crate::watched_file::LastError;
 use arrayvec::ArrayVec;
 use log::{Log, warn};
-use mw_config::{Refusal, TenantLine, broken_rule, read_tenants};
+use mw_config::{FormRule, Refusal, TenantLine, broken_rule, read_tenants};
 use mw_disk::Disk;
 use mw_file::TenantFile;
 use mw_words::{MAX_TENANTS, MAX_TENANTS_FILE};
@@ -32,65 +32,63 @@ const TENANTS_ROOM: usize = 8193;
 const _: () = prove!(TENANTS_ROOM == MAX_TENANTS_FILE + 1);
 
 /// Tells why a tenants file is refused.
-#[derive(Drop)]
+#[derive(Debug, Drop)]
 pub struct TenantsFault {
-    refusal: Refusal,
-    cause: Cause,
+    /// The refusal.
+    pub refusal: Refusal,
+    /// What more is known of it.
+    pub cause: Cause,
 }
 
 /// Tells what more is known of why a tenants file is refused.
-#[derive(Drop)]
-enum Cause {
+#[derive(Debug, Drop)]
+pub enum Cause {
     /// The file wasn't opened, or wasn't read to its end, because of this fault.
     Reading(ReadFault),
     /// The file has more than [`MAX_TENANTS_FILE`] bytes.
     Size,
-    /// The line of this number is refused, and this is what is wrong with it.
-    Line(u16, &'static str),
+    /// The line of this number breaks this rule of the form.
+    Form(u16, FormRule),
+    /// The line of this number has the name of an earlier line.
+    Name(u16),
+    /// The line of this number has the path of an earlier line, and a name of its own.
+    Path(u16),
     /// Nothing more is known.
     Unknown,
-}
-
-impl TenantsFault {
-    /// Writes to the notes that the tenants file at this path is refused, and what more is known.
-    pub fn tell<L: Log>(&self, notes: &L, path: &str) {
-        let refusal = self.refusal;
-        warn!(notes; "{refusal}");
-        self.cause.tell(notes, path);
-    }
 }
 
 impl Cause {
     /// Gives the cause why this text is refused.
     fn of_text(refusal: Refusal, text: &[u8]) -> Self {
         match refusal {
-            Refusal::Form(number) => Cause::of_form(text, number),
-            Refusal::Twice(number) if has_earlier_name(text, number) => {
-                Cause::Line(number, "has the name of an earlier line")
+            Refusal::Form(number) => {
+                match line_at(text, number).and_then(|line| broken_rule(line)) {
+                    Some(rule) => Cause::Form(number, rule),
+                    None => Cause::Unknown,
+                }
             }
-            Refusal::Twice(number) => Cause::Line(number, "has the path of an earlier line"),
+            Refusal::Twice(number) if has_earlier_name(text, number) => Cause::Name(number),
+            Refusal::Twice(number) => Cause::Path(number),
             _ => Cause::Unknown,
-        }
-    }
-
-    /// Gives the cause why the form of the line of this number is refused.
-    fn of_form(text: &[u8], number: u16) -> Self {
-        let Some(line) = line_at(text, number) else {
-            return Cause::Unknown;
-        };
-        match broken_rule(line) {
-            Some(rule) => Cause::Line(number, rule.broken()),
-            None => Cause::Unknown,
         }
     }
 
     /// Writes the cause to the notes, with the path of the tenants file: as a warning if it is known, else the path alone
     /// if they are verbose.
-    fn tell<L: Log>(&self, notes: &L, path: &str) {
+    pub fn tell<L: Log>(&self, notes: &L, path: &str) {
         match self {
             Cause::Reading(fault) => warn!(notes; "{path}: {fault}"),
             Cause::Size => warn!(notes; "{path}: more than {MAX_TENANTS_FILE} bytes"),
-            Cause::Line(number, how) => warn!(notes; "{path}: line {number} {how}"),
+            Cause::Form(number, rule) => {
+                let how = rule.broken();
+                warn!(notes; "{path}: line {number} {how}")
+            }
+            Cause::Name(number) => {
+                warn!(notes; "{path}: line {number} has the name of an earlier line")
+            }
+            Cause::Path(number) => {
+                warn!(notes; "{path}: line {number} has the path of an earlier line")
+            }
             Cause::Unknown => note_place(notes, path),
         }
     }
@@ -249,7 +247,7 @@ fn open_fitting<P: OpensDisks>(
     ensures opened { IfOk result (λ opened. IsOfLine P.Device.facts P.Device.made P.is_over line.now (Some opened)) }
 {
     let disk = disks.open(tenant, line.path.as_str())?;
-    open_synced(alloc, disk, line, disks.state_of(tenant))
+    open_synced(alloc, disk, line, disks.last_error(tenant))
 }
 
 /// Opens the file on a disk, which has the words and the places that the tenant's line asks for.
@@ -264,14 +262,14 @@ fn open_synced<D: Disk + Drop>(
     alloc: Global,
     disk: D,
     line: &TenantLine,
-    state: &FileState,
+    last: &LastError,
 ) -> Result<(TenantFile<D>, Vec<u64>), FileFault>
     ensures fits { IfOk result (λ opened. FitsLine D.facts line.now (Some opened)) }
     ensures opened { IfOk result (λ opened. IsOpenedAfterSync D.facts D.made disk opened) }
 {
     let mut disk = disk;
     if disk.sync().is_err() {
-        return Err(FileFault::Disk(state.last_error()));
+        return Err(FileFault::Disk(last.error()));
     }
     match TenantFile::open(alloc, disk) {
         Ok((file, words)) => {
@@ -280,6 +278,6 @@ fn open_synced<D: Disk + Drop>(
             }
             Ok((file, words))
         }
-        Err((fault, _)) => Err(FileFault::of_opening(fault, state)),
+        Err((fault, _)) => Err(FileFault::of_opening(fault, last)),
     }
 }

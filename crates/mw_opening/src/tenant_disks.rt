@@ -7,8 +7,10 @@ ghost use Rattle.std.specs.Prelude.{◌<◌, ℕ, List, IfOk};
 ghost use Rattle.mw_words.specs.declared.limits.TheConstants.{MAX_TENANTS};
 
 use crate::file_fault::FileFault;
-use crate::file_state::{FileState, FileStates};
-use crate::watched_file::WatchedFile;
+use crate::file_state::FileStates;
+use crate::metered_file::MeteredFile;
+use crate::tracked_file::TrackedFile;
+use crate::watched_file::{LastError, LastErrors, WatchedFile};
 use mw_disk::{Disk, FileDisk};
 use mw_file::TenantFile;
 use mw_metrics::{Meters, TenantCounters};
@@ -36,30 +38,41 @@ pub trait OpensDisks {
         requires { tenant < MAX_TENANTS }
         ensures { IfOk result (λ disk. is_over path.now disk) };
 
-    /// Gives what is known of the file of the tenant of this number.
-    fn state_of(&self, tenant: usize) -> &FileState
+    /// Gives what keeps the last error of the file of the tenant of this number.
+    fn last_error(&self, tenant: usize) -> &LastError
         requires { tenant < MAX_TENANTS };
 }
 
 /// The disk of a tenant's file: it keeps the last error, which file it is, and how long its calls took. `R` is the clock.
-pub type TenantDisk<'a, R> = FileDisk<WatchedFile<'a, File, R>>;
+pub type TenantDisk<'a, R> = FileDisk<WatchedFile<'a, TrackedFile<'a, MeteredFile<'a, File, R>>>>;
 
 /// A tenant's file, and the words that it had when it was opened.
 pub type Opened<'a, R> = (TenantFile<TenantDisk<'a, R>>, Vec<u64>);
 
-/// Opens files of the system, each under a lock. What is known of each is kept in the states. The meters, if there are any, count
-/// the calls of each file.
+/// Opens files of the system, each under a lock. What is known of each is kept in the errors and the states. The meters, if
+/// there are any, count the calls of each file.
 #[derive(Drop)]
 pub struct LockedFiles<'a, R> {
     rt: &'a R,
+    errors: &'a LastErrors,
     states: &'a FileStates,
     meters: Option<&'a Meters>,
 }
 
 impl<'a, R> LockedFiles<'a, R> {
     /// Makes what opens the files.
-    pub fn new(rt: &'a R, states: &'a FileStates, meters: Option<&'a Meters>) -> Self {
-        LockedFiles { rt, states, meters }
+    pub fn new(
+        rt: &'a R,
+        errors: &'a LastErrors,
+        states: &'a FileStates,
+        meters: Option<&'a Meters>,
+    ) -> Self {
+        LockedFiles {
+            rt,
+            errors,
+            states,
+            meters,
+        }
     }
 
     /// Gives what counts the calls of the file of the tenant of this number, if they are counted.
@@ -81,13 +94,13 @@ impl<'a, R: Files<File = File> + Clock> OpensDisks for LockedFiles<'a, R> {
 
     fn open(&self, tenant: usize, path: &str) -> Result<TenantDisk<'a, R>, FileFault> {
         let file = open_locked(self.rt, path)?;
-        let (state, counters) = (self.states.of(tenant), self.counters_of(tenant));
-        let file = WatchedFile::new(file, self.rt, state, counters);
-        Ok(FileDisk::new(file))
+        let file = MeteredFile::new(file, self.rt, self.counters_of(tenant));
+        let file = TrackedFile::new(file, self.states.of(tenant));
+        Ok(FileDisk::new(WatchedFile::new(file, self.errors.of(tenant))))
     }
 
-    fn state_of(&self, tenant: usize) -> &FileState {
-        self.states.of(tenant)
+    fn last_error(&self, tenant: usize) -> &LastError {
+        self.errors.of(tenant)
     }
 }
 

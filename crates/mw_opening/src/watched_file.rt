@@ -1,133 +1,111 @@
-//! A tenant's file, of whose calls it is kept what they told: errors, which file it is, and how long they took.
+//! A tenant's file, which keeps the last error that a call on it gave, for a note.
 //!
-//! Used by: `tenant_disks`, which makes one of each opened file; mw_programs. It may change as long as each call gives what the
-//! file's call gave, or an error if the file was given up.
-ghost use Rattle.std.specs.Prelude.{◌≡◌};
+//! Used by: `opening`, which makes one of each opened file; mw_programs. It may change as long as each call gives what
+//! the file's call gave.
+ghost use Rattle.std.specs.Prelude.{◌≡◌, ◌<◌};
+ghost use Rattle.mw_words.specs.declared.limits.TheConstants.{MAX_TENANTS};
 
-use crate::file_state::{FileState, SeenFile};
-use mw_metrics::{DeviceCall, Stopwatch, TenantCounters};
+use mw_words::MAX_TENANTS;
 use std::fs::{Metadata, OpenFile};
 use std::io::{self, ErrorKind};
 use std::os::unix::fs::FileExt;
-use std::time::Clock;
+use std::sync::atomic::{AtomicI32, Ordering};
 
-/// A file that keeps in a state what the system tells of it: its last error, which file it is, and how long it must be. Each call
-/// is one call of the file below, and gives what that gave. If the file was given up, the call fails, and none is made below.
-///
-/// If there are counters, its reads, writes and syncs are timed and counted. Without them no clock is read.
+/// The last error that the system told of a file: its number, or 0 if it told none.
 #[derive(Drop)]
-pub struct WatchedFile<'a, F, K> {
-    file: F,
-    clock: &'a K,
-    state: &'a FileState,
-    counters: Option<&'a TenantCounters>,
-}
+pub struct LastError(AtomicI32);
 
-impl<'a, F, K: Clock> WatchedFile<'a, F, K> {
-    /// Makes a file that keeps in `state` what is told of it. These counters count its calls, by this clock.
-    pub fn new(
-        file: F,
-        clock: &'a K,
-        state: &'a FileState,
-        counters: Option<&'a TenantCounters>,
-    ) -> Self {
-        WatchedFile {
-            file,
-            clock,
-            state,
-            counters,
+impl LastError {
+    /// Makes one for a file of which the system told no error.
+    pub fn new() -> Self {
+        LastError(AtomicI32::new(0))
+    }
+
+    /// Gives the last error, if there was one.
+    pub fn error(&self) -> Option<io::Error> {
+        match self.0.load(Ordering::SeqCst) {
+            0 => None,
+            code => Some(io::Error::from_raw_os_error(code)),
         }
     }
 
-    /// Starts to time a call, if it will be counted.
-    ///
-    /// # Errors
-    ///
-    /// The file was given up: no call may be made.
-    fn start(&self) -> io::Result<Option<Stopwatch>> {
-        self.state.may_be_called()?;
-        match self.counters {
-            Some(_) => Ok(Some(Stopwatch::start(self.clock))),
-            None => Ok(None),
-        }
-    }
-
-    /// Counts a call that was started then, and ended so, and keeps its error. A call that was interrupted has not failed: it is
-    /// made again.
-    fn end<T: Drop>(
-        &self,
-        call: DeviceCall,
-        started: Option<Stopwatch>,
-        outcome: io::Result<T>,
-    ) -> io::Result<T>
+    // Keeps the error of an outcome. An interrupted call is made again, so its error isn't kept.
+    fn keep<T: Drop>(&self, outcome: io::Result<T>) -> io::Result<T>
         ensures { result ≡ outcome }
     {
-        let has_failed = self.keep_error(&outcome);
-        if let (Some(counters), Some(started)) = (self.counters, started) {
-            counters.record_call(call, started.nanos(self.clock), has_failed);
+        if let Err(error) = &outcome {
+            if error.kind() != ErrorKind::Interrupted {
+                self.0
+                    .store(error.raw_os_error().unwrap_or(0), Ordering::SeqCst);
+            }
         }
         outcome
     }
+}
 
-    /// Keeps the error of a call that failed, and was not only interrupted. Tells whether it did.
-    fn keep_error<T>(&self, outcome: &io::Result<T>) -> bool {
-        match outcome {
-            Err(error) if error.kind() != ErrorKind::Interrupted => {
-                self.state.keep_error(error);
-                true
-            }
-            _ => false,
-        }
+/// The last error of each tenant's file.
+#[derive(Drop)]
+pub struct LastErrors([LastError; MAX_TENANTS]);
+
+impl LastErrors {
+    /// Makes them for files of which the system told no error.
+    pub fn new() -> Self {
+        LastErrors([(); MAX_TENANTS].map(|_| LastError::new()))
+    }
+
+    /// Gives the last error of the file of the tenant of this number.
+    pub fn of(&self, tenant: usize) -> &LastError
+        requires { tenant < MAX_TENANTS }
+    {
+        &self.0[tenant]
     }
 }
 
-impl<F: FileExt, K: Clock> FileExt for WatchedFile<'_, F, K> {
+/// A file that keeps the last error that the system told of it. Each call is one call of the file below, and gives what
+/// that gave.
+#[derive(Drop)]
+pub struct WatchedFile<'a, F> {
+    file: F,
+    last: &'a LastError,
+}
+
+impl<'a, F> WatchedFile<'a, F> {
+    /// Makes a file that keeps its errors in `last`.
+    pub fn new(file: F, last: &'a LastError) -> Self {
+        WatchedFile { file, last }
+    }
+}
+
+impl<F: FileExt> FileExt for WatchedFile<'_, F> {
     fn read_at(&self, buf: &mut [u8], offset: u64) -> io::Result<usize> {
-        let started = self.start()?;
         let read = self.file.read_at(buf, offset);
-        self.end(DeviceCall::Read, started, read)
+        self.last.keep(read)
     }
 
     fn write_at(&self, buf: &[u8], offset: u64) -> io::Result<usize> {
-        let started = self.start()?;
         let written = self.file.write_at(buf, offset);
-        if let Ok(count) = &written {
-            self.state.keep_end(offset.saturating_add(*count as u64));
-        }
-        self.end(DeviceCall::Write, started, written)
+        self.last.keep(written)
     }
 }
 
-impl<F: OpenFile, K: Clock> OpenFile for WatchedFile<'_, F, K> {
+impl<F: OpenFile> OpenFile for WatchedFile<'_, F> {
     fn metadata(&self) -> io::Result<Metadata> {
-        self.state.may_be_called()?;
         let told = self.file.metadata();
-        self.keep_error(&told);
-        if let Ok(told) = &told {
-            self.state.keep_seen(SeenFile::of(told));
-        }
-        told
+        self.last.keep(told)
     }
 
     fn set_len(&self, size: u64) -> io::Result<()> {
-        self.state.may_be_called()?;
         let set = self.file.set_len(size);
-        self.keep_error(&set);
-        if set.is_ok() {
-            self.state.keep_size(size);
-        }
-        set
+        self.last.keep(set)
     }
 
     fn sync_all(&self) -> io::Result<()> {
-        let started = self.start()?;
         let synced = self.file.sync_all();
-        self.end(DeviceCall::Sync, started, synced)
+        self.last.keep(synced)
     }
 
     fn sync_data(&self) -> io::Result<()> {
-        let started = self.start()?;
         let synced = self.file.sync_data();
-        self.end(DeviceCall::Sync, started, synced)
+        self.last.keep(synced)
     }
 }

@@ -4,22 +4,28 @@
 //! both together.
 ghost use Rattle.std.specs.Prelude.{◌<◌, vec_len};
 
-use crate::machine::Machine;
 use crate::pages::{PagesDoor, show_pages};
-use crate::replaced::{PERIOD, Stop, TenantWatch, look_on};
-use crate::server::{ServeFault, Server};
+use crate::replaced::{FileLook, PERIOD, Stop, look_on};
+use crate::serving::ServeFault;
 use log::{Log, warn};
+use mw_config::Listening;
 use mw_connections::{
-    ClientListener, Closer, Listener, MeteredListener, Patient, RoomWatch, TimeLimits, listen_at,
-    port_of,
+    ClientListener, Closer, MeteredListener, Patient, RoomWatch, TimeLimits, listen_at, port_of,
 };
+use mw_metrics::ServerCounters;
 use mw_opening::note_cause;
 use mw_server_pages::Pages;
 use mw_session::Service;
 use mw_workers::{Desk, ServeEnd, serve_all, serve_beside};
 use std::fmt::Display;
+use std::fs::File;
+use std::io;
 use std::io::Write;
-use std::{io, thread};
+use std::net::{Net, TcpListener, TcpStream};
+use std::rt::Files;
+use std::sync::Wait;
+use std::thread::{self, Threads};
+use std::time::Clock;
 
 /// Writes a note when there is no room for connections, with the address.
 #[derive(Drop)]
@@ -35,25 +41,114 @@ impl<L: Log> RoomWatch for RoomNotes<'_, '_, L> {
     }
 }
 
+/// Listens at this address. The counters count the bytes of its clients, if there are pages that tell them.
+fn listen<'r, 'a, R>(
+    rt: &'r R,
+    address: &'a str,
+    listening: &Listening,
+    counters: &'r ServerCounters,
+) -> Result<ClientListener<'r, R>, ServeFault<'a>>
+where
+    R: Files<File = File> + Net<Listener = TcpListener, Stream = TcpStream>,
+{
+    let limits = TimeLimits {
+        silence: listening.idle,
+        line: listening.line_time,
+    };
+    match listen_at(rt, address, listening.socket_mode, limits) {
+        Ok(clients) if listening.http.is_some() => Ok(clients.counted_by(counters)),
+        Ok(clients) => Ok(clients),
+        Err(error) => Err(ServeFault::CannotListen(address, error)),
+    }
+}
+
+/// Listens at the administrator's address. Gives also what ends the wait for a client there.
+fn listen_for_admin<'r, 'a, R>(
+    rt: &'r R,
+    address: &'a str,
+    listening: &Listening,
+    counters: &'r ServerCounters,
+) -> Result<(ClientListener<'r, R>, Closer), ServeFault<'a>>
+where
+    R: Files<File = File> + Net<Listener = TcpListener, Stream = TcpStream>,
+{
+    let clients = listen(rt, address, listening, counters)?;
+    match clients.closer() {
+        Ok(closer) => Ok((clients, closer)),
+        Err(error) => Err(ServeFault::CannotListen(address, error)),
+    }
+}
+
+/// Writes to `out` this word, and after it where clients find the listener: its port, or the address of a
+/// local socket.
+fn tell_place<'a, K, O: Write>(
+    out: &mut O,
+    word: &str,
+    clients: &ClientListener<'_, K>,
+    address: &'a str,
+) -> Result<(), ServeFault<'a>> {
+    match port_of(clients) {
+        Ok(port) => tell_at(out, word, port, address),
+        Err(error) => Err(ServeFault::CannotListen(address, error)),
+    }
+}
+
+/// Writes to `out` this word, and after it the port, or the address if it has none.
+pub(crate) fn tell_at<'a, O: Write>(
+    out: &mut O,
+    word: &str,
+    port: Option<u16>,
+    address: &'a str,
+) -> Result<(), ServeFault<'a>> {
+    let told = match port {
+        Some(port) => tell_line(out, word, &port),
+        None => tell_line(out, word, &address),
+    };
+    if told.is_ok() {
+        Ok(())
+    } else {
+        Err(ServeFault::Ended)
+    }
+}
+
+/// Writes to `out` this word and a place after it, and flushes.
+fn tell_line<O: Write, P: Display>(out: &mut O, word: &str, place: &P) -> io::Result<()> {
+    writeln!(out, "{word} {place}")?;
+    out.flush()
+}
+
 /// Writes to `out` where it listens, and serves clients, each by one of these services. If there is an address for the
 /// administrator, the last of them serves only the clients of that address. Meanwhile a thread looks at the tenants'
 /// files, and if there are pages another one shows them.
 pub(crate) fn serve_clients<
+    'e,
+    'a,
     S: Service + Send + Drop,
     P: Pages + Send + Drop,
-    R: Machine,
+    R,
     O: Write,
     L: Log + Sync,
-    T: TenantWatch + Sync,
+    T: FileLook + Sync,
 >(
-    server: &Server<'_, R, L, T>,
+    rt: &'e R,
     services: Vec<S>,
     pages: Option<P>,
+    listening: &'a Listening,
     out: &mut O,
-) -> Result<(), ServeFault>
+    notes: &L,
+    watch: &'e T,
+    counters: &'e ServerCounters,
+) -> Result<(), ServeFault<'a>>
+where
+    R: Files<File = File>
+        + AllocGlobal
+        + Net<Listener = TcpListener, Stream = TcpStream>
+        + Threads
+        + Wait
+        + Clock
+        + Sync,
     requires { 0 < vec_len services }
 {
-    let (rt, watch) = (server.rt, server.watch);
     let stop = Stop::new();
     let stop = &stop;
     thread::scope(
@@ -68,7 +163,7 @@ pub(crate) fn serve_clients<
             {
                 return Err(ServeFault::Memory);
             }
-            let ended = serve_and_show(server, services, pages, out);
+            let ended = serve_and_show(rt, services, pages, listening, out, notes, counters);
             stop.ask(rt);
             ended
         },
@@ -76,50 +171,62 @@ pub(crate) fn serve_clients<
 }
 
 /// Serves clients, and shows the pages, if there are any and they have an address.
-fn serve_and_show<
-    S: Service + Send + Drop,
-    P: Pages + Send + Drop,
-    R: Machine,
-    O: Write,
-    L: Log + Sync,
-    T,
->(
-    server: &Server<'_, R, L, T>,
+fn serve_and_show<'a, S: Service + Send + Drop, P: Pages + Send + Drop, R, O: Write, L: Log + Sync>(
+    rt: &R,
     services: Vec<S>,
     pages: Option<P>,
+    listening: &'a Listening,
     out: &mut O,
-) -> Result<(), ServeFault>
+    notes: &L,
+    counters: &ServerCounters,
+) -> Result<(), ServeFault<'a>>
+where
+    R: Files<File = File>
+        + AllocGlobal
+        + Net<Listener = TcpListener, Stream = TcpStream>
+        + Threads
+        + Wait
+        + Clock
+        + Sync,
     requires { 0 < vec_len services }
 {
-    match (pages, &server.listening.http) {
+    match (pages, &listening.http) {
         (Some(pages), Some(address)) => {
-            match PagesDoor::open(server, address.as_str(), out) {
-                Ok(door) => serve_beside_pages(server, services, door, pages, out),
-                Err(fault) => Err(fault),
-            }
+            let door = PagesDoor::open(rt, address.as_str(), listening, out)?;
+            serve_beside_pages(rt, services, door, pages, listening, out, notes, counters)
         }
-        _ => serve_services(server, services, out),
+        _ => serve_services(rt, services, listening, out, notes, counters),
     }
 }
 
 /// Serves clients, while a thread shows the pages. When serving has ended the pages end too.
 fn serve_beside_pages<
+    'a,
     S: Service + Send + Drop,
     P: Pages + Send + Drop,
-    R: Machine,
+    R,
     O: Write,
     L: Log + Sync,
-    T,
 >(
-    server: &Server<'_, R, L, T>,
+    rt: &R,
     services: Vec<S>,
     door: PagesDoor<'_, R>,
     pages: P,
+    listening: &'a Listening,
     out: &mut O,
-) -> Result<(), ServeFault>
+    notes: &L,
+    counters: &ServerCounters,
+) -> Result<(), ServeFault<'a>>
+where
+    R: Files<File = File>
+        + AllocGlobal
+        + Net<Listener = TcpListener, Stream = TcpStream>
+        + Threads
+        + Wait
+        + Clock
+        + Sync,
     requires { 0 < vec_len services }
 {
-    let rt = server.rt;
     let PagesDoor { listener, end } = door;
     let end = &end;
     thread::scope(
@@ -134,162 +241,131 @@ fn serve_beside_pages<
             {
                 return Err(ServeFault::Memory);
             }
-            let ended = serve_services(server, services, out);
+            let ended = serve_services(rt, services, listening, out, notes, counters);
             end.end();
             ended
         },
     )
 }
 
-/// Listens at the one address or at both, writes to `out` where, and serves the clients that come.
-fn serve_services<S: Service + Send + Drop, R: Machine, O: Write, L: Log + Sync, T>(
-    server: &Server<'_, R, L, T>,
+/// Serves the clients of the one address or of both.
+fn serve_services<'a, S: Service + Send + Drop, R, O: Write, L: Log + Sync>(
+    rt: &R,
     services: Vec<S>,
+    listening: &'a Listening,
     out: &mut O,
-) -> Result<(), ServeFault>
+    notes: &L,
+    counters: &ServerCounters,
+) -> Result<(), ServeFault<'a>>
+where
+    R: Files<File = File>
+        + AllocGlobal
+        + Net<Listener = TcpListener, Stream = TcpStream>
+        + Threads
+        + Wait
+        + Clock
+        + Sync,
     requires { 0 < vec_len services }
 {
-    match open_doors(server, out) {
-        Ok(doors) => serve_doors(server, services, doors),
-        Err(fault) => Err(fault),
+    match &listening.admin {
+        Some(admin) => {
+            serve_both(
+                rt,
+                services,
+                listening,
+                admin.as_str(),
+                out,
+                notes,
+                counters,
+            )
+        }
+        None => serve_one(rt, services, listening, out, notes, counters),
     }
 }
 
-/// The listener for clients, and the one for the administrator.
-#[derive(Drop)]
-struct Doors<'r, R> {
-    clients: ClientListener<'r, R>,
-    admin: Option<AdminDoor<'r, R>>,
-}
-
-/// The listener for the administrator, and what ends the wait for a client there.
-#[derive(Drop)]
-struct AdminDoor<'r, R> {
-    address: &'r str,
-    listener: ClientListener<'r, R>,
-    closer: Closer,
-}
-
-/// Listens at the one address or at both, and writes to `out` where, the administrator's first.
-fn open_doors<'r, R: Machine, O: Write, L: Log, T>(
-    server: &Server<'r, R, L, T>,
-    out: &mut O,
-) -> Result<Doors<'r, R>, ServeFault> {
-    let address = server.listening.address.as_str();
-    let clients = listen(server, address)?;
-    let admin = match &server.listening.admin {
-        Some(address) => Some(open_admin_door(server, address.as_str(), out)?),
-        None => None,
-    };
-    tell_place(server, out, "ready", &clients, address)?;
-    Ok(Doors { clients, admin })
-}
-
-/// Listens at the administrator's address, and writes to `out` where.
-fn open_admin_door<'r, R: Machine, O: Write, L: Log, T>(
-    server: &Server<'r, R, L, T>,
-    address: &'r str,
-    out: &mut O,
-) -> Result<AdminDoor<'r, R>, ServeFault> {
-    let listener = listen(server, address)?;
-    let closer = match listener.closer() {
-        Ok(closer) => closer,
-        Err(error) => return Err(cannot_listen(server.notes, address, &error)),
-    };
-    tell_place(server, out, "admin", &listener, address)?;
-    Ok(AdminDoor {
-        address,
-        listener,
-        closer,
-    })
-}
-
-/// Listens at this address. The bytes of its clients are counted if there are pages.
-fn listen<'r, R: Machine, L: Log, T>(
-    server: &Server<'r, R, L, T>,
-    address: &str,
-) -> Result<ClientListener<'r, R>, ServeFault> {
-    let listening = server.listening;
-    let limits = TimeLimits {
-        silence: listening.idle,
-        line: listening.line_time,
-    };
-    match listen_at(server.rt, address, listening.socket_mode, limits) {
-        Ok(clients) => match server.counted {
-            Some(meters) => Ok(clients.counted_by(meters.server())),
-            None => Ok(clients),
-        },
-        Err(error) => Err(cannot_listen(server.notes, address, &error)),
-    }
-}
-
-/// Writes that nobody can listen at this address, and why.
-pub(crate) fn cannot_listen<L: Log>(notes: &L, address: &str, error: &io::Error) -> ServeFault {
-    warn!(notes; "mwserve: cannot listen");
-    note_cause(notes, address, error);
-    ServeFault::Failed
-}
-
-/// Writes to `out` this word, and after it where clients find the listener: its port, or the address of a
-/// local socket.
-fn tell_place<R, O: Write, L: Log, T>(
-    server: &Server<'_, R, L, T>,
-    out: &mut O,
-    word: &str,
-    clients: &ClientListener<'_, R>,
-    address: &str,
-) -> Result<(), ServeFault> {
-    match port_of(clients) {
-        Ok(port) => tell_at(out, word, port, address),
-        Err(error) => Err(cannot_listen(server.notes, address, &error)),
-    }
-}
-
-/// Writes to `out` this word, and after it the port, or the address if it has none.
-pub(crate) fn tell_at<O: Write>(
-    out: &mut O,
-    word: &str,
-    port: Option<u16>,
-    address: &str,
-) -> Result<(), ServeFault> {
-    match port {
-        Some(port) => tell_line(out, word, &port),
-        None => tell_line(out, word, &address),
-    }
-}
-
-/// Writes to `out` this word and a place after it, and flushes.
-fn tell_line<O: Write, P: Display>(out: &mut O, word: &str, place: &P) -> Result<(), ServeFault> {
-    if writeln!(out, "{word} {place}").is_err() || out.flush().is_err() {
-        return Err(ServeFault::Failed);
-    }
-    Ok(())
-}
-
-/// Serves the clients that come to these doors.
-fn serve_doors<S: Service + Send + Drop, R: Machine, L: Log + Sync, T>(
-    server: &Server<'_, R, L, T>,
+/// Listens at the one address, writes to `out` where, and serves the clients that come.
+fn serve_one<'a, S: Service + Send + Drop, R, O: Write, L: Log + Sync>(
+    rt: &R,
     services: Vec<S>,
-    doors: Doors<'_, R>,
-) -> Result<(), ServeFault>
+    listening: &'a Listening,
+    out: &mut O,
+    notes: &L,
+    counters: &ServerCounters,
+) -> Result<(), ServeFault<'a>>
+where
+    R: Files<File = File>
+        + AllocGlobal
+        + Net<Listener = TcpListener, Stream = TcpStream>
+        + Threads
+        + Wait
+        + Clock
+        + Sync,
     requires { 0 < vec_len services }
 {
-    let (rt, listening) = (server.rt, server.listening);
+    let clients = MeteredListener::new(open_listener(rt, listening, out, counters)?, counters);
+    let address = listening.address.as_str();
+    let room = RoomNotes { notes, address };
+    let clients = Patient::new(clients, rt, &room);
+    let (end, _) = serve_all(
+        rt,
+        rt.alloc(),
+        clients,
+        services,
+        listening.connections,
+        listening.wait,
+    );
+    served(end)
+}
+
+/// Listens at the one address, and writes to `out` where.
+fn open_listener<'r, 'a, R, O: Write>(
+    rt: &'r R,
+    listening: &'a Listening,
+    out: &mut O,
+    counters: &'r ServerCounters,
+) -> Result<ClientListener<'r, R>, ServeFault<'a>>
+where
+    R: Files<File = File> + Net<Listener = TcpListener, Stream = TcpStream>,
+{
+    let address = listening.address.as_str();
+    let clients = listen(rt, address, listening, counters)?;
+    tell_place(out, "ready", &clients, address)?;
+    Ok(clients)
+}
+
+/// Listens at both addresses, writes to `out` where, and serves the clients that come. The last service is for those of
+/// the administrator's address, and the others are for the rest.
+fn serve_both<'a, S: Service + Send + Drop, R, O: Write, L: Log + Sync>(
+    rt: &R,
+    services: Vec<S>,
+    listening: &'a Listening,
+    admin: &'a str,
+    out: &mut O,
+    notes: &L,
+    counters: &ServerCounters,
+) -> Result<(), ServeFault<'a>>
+where
+    R: Files<File = File>
+        + AllocGlobal
+        + Net<Listener = TcpListener, Stream = TcpStream>
+        + Threads
+        + Wait
+        + Clock
+        + Sync,
+{
+    let Some(both) = BothServices::new(services) else {
+        return Err(ServeFault::Memory);
+    };
+    let doors = open_listeners(rt, listening, admin, out, counters)?;
     let room = RoomNotes {
-        notes: server.notes,
+        notes,
         address: listening.address.as_str(),
     };
-    let clients = MeteredListener::new(doors.clients, server.meters.server());
-    let clients = Patient::new(clients, rt, &room);
-    let Some(admin) = doors.admin else {
-        let (connections, wait) = (listening.connections, listening.wait);
-        let (end, _) = serve_all(rt, rt.alloc(), clients, services, connections, wait);
-        return served(end);
+    let own_room = RoomNotes {
+        notes,
+        address: admin,
     };
-    match BothServices::new(services) {
-        Some(both) => serve_both(server, both, admin, clients),
-        None => Err(ServeFault::Memory),
-    }
+    served(serve_doors(rt, doors, both, listening, &room, &own_room, counters))
 }
 
 /// The services for clients, and the one for the administrator.
@@ -315,38 +391,89 @@ impl<S: Drop> BothServices<S> {
     }
 }
 
-/// Serves clients, and those of the administrator.
-fn serve_both<S: Service + Send + Drop, C: Listener + Drop, R: Machine, L: Log + Sync, T>(
-    server: &Server<'_, R, L, T>,
+/// The listener for clients, and the one for the administrator.
+#[derive(Drop)]
+struct Listeners<'r, R> {
+    clients: ClientListener<'r, R>,
+    own: ClientListener<'r, R>,
+    /// Ends the wait for a client of the administrator.
+    closer: Closer,
+}
+
+/// Listens at both addresses, and writes to `out` where.
+fn open_listeners<'r, 'a, R, O: Write>(
+    rt: &'r R,
+    listening: &'a Listening,
+    admin: &'a str,
+    out: &mut O,
+    counters: &'r ServerCounters,
+) -> Result<Listeners<'r, R>, ServeFault<'a>>
+where
+    R: Files<File = File> + Net<Listener = TcpListener, Stream = TcpStream>,
+{
+    let address = listening.address.as_str();
+    let clients = listen(rt, address, listening, counters)?;
+    let (own, closer) = listen_for_admin(rt, admin, listening, counters)?;
+    let doors = Listeners {
+        clients,
+        own,
+        closer,
+    };
+    tell_places(out, &doors, admin, address)?;
+    Ok(doors)
+}
+
+/// Writes to `out` where both listeners are, the administrator's first.
+fn tell_places<'a, K, O: Write>(
+    out: &mut O,
+    doors: &Listeners<'_, K>,
+    admin: &'a str,
+    address: &'a str,
+) -> Result<(), ServeFault<'a>> {
+    tell_place(out, "admin", &doors.own, admin)?;
+    tell_place(out, "ready", &doors.clients, address)
+}
+
+/// Serves the clients that come to the two addresses.
+fn serve_doors<S: Service + Send + Drop, R, L: Log + Sync>(
+    rt: &R,
+    doors: Listeners<'_, R>,
     both: BothServices<S>,
-    admin: AdminDoor<'_, R>,
-    clients: C,
-) -> Result<(), ServeFault> {
-    let (rt, listening) = (server.rt, server.listening);
-    let room = RoomNotes {
-        notes: server.notes,
-        address: admin.address,
-    };
+    listening: &Listening,
+    room: &RoomNotes<'_, '_, L>,
+    own_room: &RoomNotes<'_, '_, L>,
+    counters: &ServerCounters,
+) -> ServeEnd
+where
+    R: Files<File = File>
+        + AllocGlobal
+        + Net<Listener = TcpListener, Stream = TcpStream>
+        + Threads
+        + Wait
+        + Clock
+        + Sync,
+{
     let desk = Desk {
-        listener: MeteredListener::new(admin.listener, server.meters.server()),
+        listener: MeteredListener::new(doors.own, counters),
         service: both.admin_service,
-        closer: admin.closer,
-        watch: &room,
+        closer: doors.closer,
+        watch: own_room,
     };
-    let (connections, wait) = (listening.connections, listening.wait);
+    let clients = MeteredListener::new(doors.clients, counters);
+    let clients = Patient::new(clients, rt, room);
     let (end, _) = serve_beside(
         rt,
         rt.alloc(),
         desk,
         clients,
         both.services,
-        connections,
-        wait,
+        listening.connections,
+        listening.wait,
     );
-    served(end)
+    end
 }
 
-fn served(end: ServeEnd) -> Result<(), ServeFault> {
+fn served<'a>(end: ServeEnd) -> Result<(), ServeFault<'a>> {
     match end {
         ServeEnd::Served => Ok(()),
         ServeEnd::Memory => Err(ServeFault::Memory),

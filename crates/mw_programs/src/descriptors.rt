@@ -51,26 +51,27 @@ pub(crate) fn needed(
     clients + admin + pages
 }
 
-/// Gives how many descriptors the system lets this program have, or the most if it doesn't tell.
-fn limit() -> u64 {
+/// Gives how many descriptors the system lets this program have, or None if it doesn't tell.
+fn limit() -> Option<u64> {
     let mut limit = libc::types::rlimit {
         rlim_cur: 0,
         rlim_max: 0,
     };
     if libc::getrlimit(libc::RLIMIT_NOFILE, &mut limit) == 0 {
-        limit.rlim_cur
+        Some(limit.rlim_cur)
     } else {
-        u64::MAX
+        None
     }
 }
 
 /// Tells whether the program may have so many descriptors, and writes a note if not.
 pub(crate) fn has_descriptors<L: Log>(notes: &L, needed: u64) -> bool {
-    let limit = limit();
-    if limit >= needed {
-        return true;
+    match limit() {
+        Some(limit) if limit < needed => {
+            warn!(notes; "mwserve: too few descriptors");
+            info!(notes; "limit {limit}, needed {needed}");
+            false
+        }
+        _ => true,
     }
-    warn!(notes; "mwserve: too few descriptors");
-    info!(notes; "limit {limit}, needed {needed}");
-    false
 }

@@ -6,10 +6,8 @@
 mod clients;
 mod copies;
 mod descriptors;
-mod machine;
 mod pages;
 mod replaced;
-mod server;
 mod services;
 mod serving;
 mod tenants;

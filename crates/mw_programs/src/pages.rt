@@ -3,14 +3,16 @@
 //! `clients` serves the clients meanwhile. docs/OPERATING tells the pages, the limits and what is printed: change both
 //! together.
 
-use crate::clients::{cannot_listen, tell_at};
-use crate::machine::Machine;
-use crate::server::{ServeFault, Server};
-use log::Log;
+use crate::clients::tell_at;
+use crate::serving::ServeFault;
+use mw_config::Listening;
 use mw_connections::{BriefLimits, BriefListener, Closer, listen_briefly};
 use mw_main::VERSION;
 use mw_server_pages::{Pages, Version, serve_pages};
+use std::fs::File;
 use std::io::{self, Write};
+use std::net::{Net, TcpListener, TcpStream};
+use std::rt::Files;
 use std::sync::Wait;
 use std::sync::atomic::{AtomicBool, Ordering};
 use std::time::Clock;
@@ -33,29 +35,31 @@ pub(crate) struct PagesDoor<'r, R> {
     pub(crate) end: PagesEnd,
 }
 
-impl<'r, R: Machine> PagesDoor<'r, R> {
+impl<'r, R> PagesDoor<'r, R>
+where
+    R: Files<File = File> + Net<Listener = TcpListener, Stream = TcpStream>,
+{
     /// Listens at the address of the pages, and writes to `out` where.
-    pub(crate) fn open<O: Write, L: Log, T>(
-        server: &Server<'r, R, L, T>,
-        address: &str,
+    pub(crate) fn open<'a, O: Write>(
+        rt: &'r R,
+        address: &'a str,
+        listening: &Listening,
         out: &mut O,
-    ) -> Result<Self, ServeFault> {
-        match opened(server.rt, address, server.listening.socket_mode) {
-            Ok((door, port)) => {
-                tell_at(out, "http", port, address)?;
-                Ok(door)
-            }
-            Err(error) => Err(cannot_listen(server.notes, address, &error)),
-        }
+    ) -> Result<Self, ServeFault<'a>> {
+        let (door, port) = match opened(rt, address, listening.socket_mode) {
+            Ok(opened) => opened,
+            Err(error) => return Err(ServeFault::CannotListen(address, error)),
+        };
+        tell_at(out, "http", port, address)?;
+        Ok(door)
     }
 }
 
 /// Listens at an address, and gives its port too if it has one.
-fn opened<'r, R: Machine>(
-    rt: &'r R,
-    address: &str,
-    mode: u32,
-) -> io::Result<(PagesDoor<'r, R>, Option<u16>)> {
+fn opened<'r, R>(rt: &'r R, address: &str, mode: u32) -> io::Result<(PagesDoor<'r, R>, Option<u16>)>
+where
+    R: Files<File = File> + Net<Listener = TcpListener, Stream = TcpStream>,
+{
     let listener = listen_briefly(rt, address, mode, LIMITS)?;
     let end = PagesEnd {
         is_open: AtomicBool::new(true),

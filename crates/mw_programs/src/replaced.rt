@@ -6,7 +6,6 @@ ghost use Rattle.std.specs.Prelude.{◌≡◌, ◌↔◌, false};
 ghost use Rattle.mw_programs.specs.Replaced.{LeadsTo};
 
 use mw_opening::SeenFile;
-use mw_service::FaultWatch;
 use std::fs;
 use std::io::{self, ErrorKind};
 use std::rt::Files;
@@ -16,8 +15,8 @@ use std::time::{Clock, Duration};
 /// The time from one look to the next, in milliseconds.
 pub(crate) const PERIOD: u64 = 1000;
 
-/// Watches the tenants of a server: is told of requests that are answered FAULT, and looks at the files.
-pub trait TenantWatch: FaultWatch {
+/// Looks at the files of all tenants.
+pub trait FileLook {
     /// Looks once at each tenant's path, and does what has to be done about a file that was replaced.
     fn look(&self);
 }
@@ -55,12 +54,7 @@ impl Stop {
 }
 
 /// Looks once in each period, given in milliseconds, until it is asked to end. This may wait for ever.
-pub(crate) fn look_on<R: Wait + Clock, T: TenantWatch>(
-    rt: &R,
-    files: &T,
-    period: u64,
-    stop: &Stop,
-) {
+pub(crate) fn look_on<R: Wait + Clock, T: FileLook>(rt: &R, files: &T, period: u64, stop: &Stop) {
     for _ in rt.forever() {
         if stop.comes_within(rt, Duration::from_millis(period)) {
             return;
@@ -83,10 +77,7 @@ pub trait SeesPaths {
 
 impl<R: Files> SeesPaths for R {
     fn seen_at(&self, path: &str) -> io::Result<SeenFile> {
-        match fs::metadata(self, path) {
-            Ok(told) => Ok(SeenFile::of(&told)),
-            Err(error) => Err(error),
-        }
+        Ok(SeenFile::of(&fs::metadata(self, path)?))
     }
 }
 

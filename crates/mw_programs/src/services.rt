@@ -3,25 +3,28 @@
 //!
 //! Used by: `serving`, if the command line says `--listen`. docs/OPERATING tells how many of each there are: change both
 //! together.
-ghost use Rattle.std.specs.Prelude.{ℕ, ◌≡◌, ◌≤◌, ◌<◌, ◌+◌, All, IfOk, IfSome, OnOk, is_some, if◌then◌else◌, length, vec_len};
+ghost use Rattle.std.specs.Prelude.{ℕ, ◌≡◌, ◌≤◌, ◌<◌, ◌+◌, All, IfOk, IfSome, is_some, if◌then◌else◌, vec_len};
 ghost use Rattle.mw_engine.specs.Passes.{IsNew};
 
 use crate::clients::serve_clients;
 use crate::copies::EngineFiles;
-use crate::machine::Machine;
 use crate::pages::version;
-use crate::replaced::TenantWatch;
-use crate::server::{ServeFault, Server};
+use crate::replaced::FileLook;
+use crate::serving::ServeFault;
 use log::Log;
 use mw_config::{Listening, SharedWorkers};
 use mw_disk::Disk;
 use mw_engine::{Engine, EngineBrand, NoHold, Pass};
 use mw_metrics::{Meters, ServerCounters};
 use mw_server_pages::{Capacity, Pages, ServerPages};
-use mw_service::{Borrower, MeteredService, PassPool, ReadPool, Worker};
+use mw_service::{Borrower, FaultWatch, MeteredService, PassPool, ReadPool, Worker};
 use std::alloc::AllocError;
+use std::fs::File;
 use std::io::Write;
+use std::net::{Net, TcpListener, TcpStream};
+use std::rt::Files;
 use std::sync::Wait;
+use std::thread::Threads;
 use std::time::Clock;
 
 /// Gives the meters if there are pages that tell what they count.
@@ -35,44 +38,50 @@ pub(crate) fn counted<'m>(listening: &Listening, meters: &'m Meters) -> Option<&
 /// Serves clients, and shows the pages if there is an address for them. The last pass is then for the pages.
 pub(crate) fn serve_all_clients<
     'e,
-    J: EngineBrand + Send + Sync,
+    'a,
+    J,
     D: Disk + Drop + Send + Sync,
-    R: Machine,
+    R,
     O: Write,
     L: Log + Sync,
-    T: TenantWatch + Sync,
+    T: FaultWatch + FileLook + Sync,
 >(
     rt: &'e R,
     engine: &'e Engine<J, D, NoHold>,
     passes: Vec<Pass>,
-    listening: &'e Listening,
+    listening: &'a Listening,
     out: &mut O,
-    notes: &'e L,
+    notes: &L,
     watch: &'e T,
     meters: &'e Meters,
-) -> Result<(), ServeFault>
+) -> Result<(), ServeFault<'a>>
+where
+    J: EngineBrand + Send + Sync,
+    R: Files<File = File>
+        + AllocGlobal
+        + Net<Listener = TcpListener, Stream = TcpStream>
+        + Threads
+        + Wait
+        + Clock
+        + Sync,
     requires new { All (IsNew J.identity) passes.items }
     requires clients { IfSome listening.now.shared (λ shared. 1 ≤ shared.clients) }
 {
-    let server = Server {
-        rt,
-        listening,
-        notes,
-        watch,
-        meters,
-        counted: counted(listening, meters),
-    };
     let mut passes = passes;
-    let pages = pages_for(&server, engine, &mut passes)?;
+    let pages = pages_for(rt, engine, &mut passes, listening, watch, meters)?;
     if passes.is_empty() {
         return Err(ServeFault::Memory);
     }
     match &listening.shared {
-        None => match workers_for(&server, engine, passes) {
-            Ok(workers) => serve_clients(&server, workers, pages, out),
-            Err(_) => Err(ServeFault::Memory),
-        },
-        Some(shared) => serve_shared(&server, engine, passes, pages, *shared, out),
+        None => {
+            let meter = counted(listening, meters);
+            let workers = workers_for(rt, engine, passes, watch, meter)?;
+            let counters = meters.server();
+            serve_clients(rt, workers, pages, listening, out, notes, watch, counters)
+        }
+        Some(shared) => serve_shared(
+            rt, engine, passes, pages, listening, *shared, out, notes, watch, meters,
+        ),
     }
 }
 
@@ -80,40 +89,45 @@ pub(crate) fn serve_all_clients<
 /// last pass is for the clients of that address.
 fn serve_shared<
     'e,
-    J: EngineBrand + Send + Sync,
+    'a,
+    J,
     D: Disk + Drop + Send + Sync,
-    R: Machine,
+    R,
     O: Write,
     L: Log + Sync,
     P: Pages + Send + Drop,
-    T: TenantWatch + Sync,
+    T: FaultWatch + FileLook + Sync,
 >(
-    server: &Server<'e, R, L, T>,
+    rt: &'e R,
     engine: &'e Engine<J, D, NoHold>,
     passes: Vec<Pass>,
     pages: Option<P>,
+    listening: &'a Listening,
     shared: SharedWorkers,
     out: &mut O,
-) -> Result<(), ServeFault>
+    notes: &L,
+    watch: &'e T,
+    meters: &'e Meters,
+) -> Result<(), ServeFault<'a>>
+where
+    J: EngineBrand + Send + Sync,
+    R: Files<File = File>
+        + AllocGlobal
+        + Net<Listener = TcpListener, Stream = TcpStream>
+        + Threads
+        + Wait
+        + Clock
+        + Sync,
     requires new { All (IsNew J.identity) passes.items }
     requires clients { 1 ≤ shared.clients }
 {
-    let (rt, watch, counted) = (server.rt, server.watch, server.counted);
-    let has_admin = server.listening.admin.is_some();
-    let pools = Pools::new(rt, passes, shared.readers, has_admin, counted)?;
-    match borrowers_for(rt, engine, &pools, shared.clients, watch, counted) {
-        Ok(borrowers) => serve_clients(server, borrowers, pages, out),
-        Err(_) => Err(ServeFault::Memory),
-    }
+    let has_admin = listening.admin.is_some();
+    let meter = counted(listening, meters);
+    let pools = Pools::new(rt, passes, shared.readers, has_admin, meter)?;
+    let borrowers = borrowers_for(rt, engine, &pools, shared.clients, watch, meter)?;
+    let counters = meters.server();
+    serve_clients(rt, borrowers, pages, listening, out, notes, watch, counters)
 }
-
-/// The pages of an engine, whose figures a worker gives.
-type EnginePages<'e, J, D, R, T> = ServerPages<
-    'e,
-    Worker<'e, J, D, NoHold, R, T>,
-    EngineFiles<'e, J, D, NoHold, R>,
-    R,
->;
 
 /// Makes the pages if they have an address. A worker with the last of these passes gives their figures, and the engine gives
 /// copies of its files.
@@ -121,34 +135,32 @@ type EnginePages<'e, J, D, R, T> = ServerPages<
 /// # Errors
 ///
 /// [`AllocError`] if memory is out, or there is no pass.
-fn pages_for<'e, J: EngineBrand, D: Disk, R: AllocGlobal + Clock, L, T>(
-    server: &Server<'e, R, L, T>,
-    engine: &'e Engine<J, D, NoHold>,
+fn pages_for<'a, J: EngineBrand, D: Disk, H, R: AllocGlobal + Clock, T>(
+    rt: &'a R,
+    engine: &'a Engine<J, D, H>,
     passes: &mut Vec<Pass>,
-) -> Result<Option<EnginePages<'e, J, D, R, T>>, AllocError>
+    listening: &Listening,
+    watch: &'a T,
+    meters: &'a Meters,
+) -> Result<
+    Option<ServerPages<'a, Worker<'a, J, D, H, R, T>, EngineFiles<'a, J, D, H, R>, R>>,
+    AllocError,
+>
     requires { All (IsNew J.identity) passes.old.items }
     ensures left { All (IsNew J.identity) passes.new.items }
 {
-    if server.listening.http.is_none() {
+    if listening.http.is_none() {
         return Ok(None);
     }
-    let Some(pass) = first_of::<J>(cut::<J>(passes, 1)?) else {
+    let own = cut::<J>(passes, 1)?;
+    let Some(pass) = own.into_iter().next() else {
         return Err(AllocError);
     };
-    let rt = server.rt;
-    let worker = Worker::new(engine, pass, rt, server.watch);
+    let worker = Worker::new(engine, pass, rt, watch);
     let files = EngineFiles { engine, rt };
-    let capacity = capacity(server.listening, passes.len());
-    let pages = ServerPages::new(worker, files, server.meters, rt, version(), capacity)?;
+    let capacity = capacity(listening, passes.len());
+    let pages = ServerPages::new(worker, files, meters, rt, version(), capacity)?;
     Ok(Some(pages))
-}
-
-/// Gives the first of these passes, and drops the others.
-pub(crate) fn first_of<J: EngineBrand>(passes: Vec<Pass>) -> Option<Pass>
-    requires { All (IsNew J.identity) passes.items }
-    ensures { IfSome result (IsNew J.identity) }
-{
-    passes.into_iter().next()
 }
 
 /// Gives how much a server can do at once that has so many passes beside that of the pages. As [`Pools`] does it deals these out.
@@ -168,36 +180,24 @@ fn capacity(listening: &Listening, passes: usize) -> Capacity {
     }
 }
 
-/// Adds a service, whose requests these meters count, if there are any.
-fn add<'e, S: Drop, R>(
-    rt: &'e R,
-    counted: Option<&'e Meters>,
-    services: &mut Vec<MeteredService<'e, S, R>>,
-    service: S,
-) -> Result<(), AllocError>
-    ensures { OnOk result (length services.new.items ≡ length services.old.items + 1) }
-{
-    let service = MeteredService::new(service, rt, counted);
-    match services.push(service) {
-        Ok(()) => Ok(()),
-        Err(_) => Err(AllocError),
-    }
-}
-
-/// Makes a worker for each pass, whose requests are counted if there are pages.
-fn workers_for<'e, J: EngineBrand, D: Disk, R: AllocGlobal, L, T>(
-    server: &Server<'e, R, L, T>,
-    engine: &'e Engine<J, D, NoHold>,
+/// Makes a worker for each pass. The meters, if there are any, count their requests.
+fn workers_for<'a, J: EngineBrand, D: Disk, H, R: AllocGlobal, T>(
+    rt: &'a R,
+    engine: &'a Engine<J, D, H>,
     passes: Vec<Pass>,
-) -> Result<Vec<MeteredService<'e, Worker<'e, J, D, NoHold, R, T>, R>>, AllocError>
+    watch: &'a T,
+    meters: Option<&'a Meters>,
+) -> Result<Vec<MeteredService<'a, Worker<'a, J, D, H, R, T>, R>>, AllocError>
     requires new { All (IsNew J.identity) passes.items }
     ensures { IfOk result (λ workers. vec_len workers ≡ vec_len passes) }
 {
-    let rt = server.rt;
     let mut workers = Vec::with_capacity(rt.alloc(), passes.len())?;
     for pass in passes {
-        let worker = Worker::new(engine, pass, rt, server.watch);
-        if add(rt, server.counted, &mut workers, worker).is_err() {
+        let worker = Worker::new(engine, pass, rt, watch);
+        if workers
+            .push(MeteredService::new(worker, rt, meters))
+            .is_err()
+        {
             return Err(AllocError);
         }
     }
@@ -231,8 +231,11 @@ impl<'a, J: EngineBrand> Pools<'a, J> {
         ensures { IfOk result (λ pools. is_some pools.admin ≡ has_admin) }
     {
         let counters = server_of(meters);
-        let mut passes = passes;
-        let admin = admin_pool(rt, &mut passes, has_admin, counters)?;
+        let (mut passes, mut admin) = (passes, None);
+        if has_admin {
+            let own = cut::<J>(&mut passes, 1)?;
+            admin = Some(pool_of(rt, own, counters)?);
+        }
         let most = passes.len().saturating_sub(1);
         let reads = cut::<J>(&mut passes, most.min(usize::from(readers)))?;
         Ok(Pools {
@@ -241,28 +244,6 @@ impl<'a, J: EngineBrand> Pools<'a, J> {
             admin,
         })
     }
-}
-
-/// Makes the administrator's own pool of the last of these passes, if there is an address for the administrator.
-///
-/// # Errors
-///
-/// [`AllocError`] if memory is out, or there is no pass.
-fn admin_pool<'a, J: EngineBrand, R: AllocGlobal + Wait>(
-    rt: &R,
-    passes: &mut Vec<Pass>,
-    has_admin: bool,
-    counters: Option<&'a ServerCounters>,
-) -> Result<Option<PassPool<'a, J>>, AllocError>
-    requires new { All (IsNew J.identity) passes.old.items }
-    ensures left { All (IsNew J.identity) passes.new.items }
-    ensures admin { IfOk result (λ pool. is_some pool ≡ has_admin) }
-{
-    if !has_admin {
-        return Ok(None);
-    }
-    let own = cut::<J>(passes, 1)?;
-    Ok(Some(pool_of(rt, own, counters)?))
 }
 
 /// Gives what counts for the whole server, if something is counted.
@@ -325,32 +306,44 @@ fn read_pool_of<J: EngineBrand, R: AllocGlobal>(
 }
 
 /// Makes a borrower for each client that is served at once, and one more for the administrator, if there are passes for
-/// the administrator. These meters, if there are any, count their requests.
+/// the administrator. The meters, if there are any, count their requests.
 ///
 /// # Errors
 ///
 /// [`AllocError`] if memory is out.
-fn borrowers_for<'e, J: EngineBrand, D: Disk, R: AllocGlobal, T>(
-    rt: &'e R,
-    engine: &'e Engine<J, D, NoHold>,
-    pools: &'e Pools<'e, J>,
+fn borrowers_for<'a, J: EngineBrand, D: Disk, H, R: AllocGlobal, T>(
+    rt: &'a R,
+    engine: &'a Engine<J, D, H>,
+    pools: &'a Pools<'a, J>,
     clients: u16,
-    watch: &'e T,
-    counted: Option<&'e Meters>,
-) -> Result<Vec<MeteredService<'e, Borrower<'e, J, D, NoHold, R, T>, R>>, AllocError>
+    watch: &'a T,
+    meters: Option<&'a Meters>,
+) -> Result<Vec<MeteredService<'a, Borrower<'a, J, D, H, R, T>, R>>, AllocError>
     ensures { IfOk result (λ made. vec_len made ≡ clients + (if is_some pools.now.admin then 1 else 0)) }
 {
     let mut made = Vec::with_capacity(rt.alloc(), usize::from(clients) + 1)?;
-    let reads = Some(&pools.reads);
     for _ in 0..clients {
-        let borrower = Borrower::new(made.len(), engine, reads, &pools.changes, rt, watch);
-        if add(rt, counted, &mut made, borrower).is_err() {
+        let borrower = Borrower::new(
+            made.len(),
+            engine,
+            Some(&pools.reads),
+            &pools.changes,
+            rt,
+            watch,
+        );
+        if made
+            .push(MeteredService::new(borrower, rt, meters))
+            .is_err()
+        {
             return Err(AllocError);
         }
     }
     if let Some(own) = &pools.admin {
         let borrower = Borrower::new(0, engine, None, own, rt, watch);
-        if add(rt, counted, &mut made, borrower).is_err() {
+        if made
+            .push(MeteredService::new(borrower, rt, meters))
+            .is_err()
+        {
             return Err(AllocError);
         }
     }

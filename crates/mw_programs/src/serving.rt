@@ -3,7 +3,6 @@
 //! `mwserve` calls `serve`. docs/OPERATING tells its options, notes and statuses: change them together.
 ghost use Rattle.std.specs.Prelude.{◌≡◌, ◌+◌, ◌<◌, ◌≤◌, All, IfOk, length, vec_len};
 ghost use Rattle.mw_config.specs.CommandLine.{ArePermittedArgs};
-ghost use Rattle.mw_config.specs.Limits.{ArePermitted};
 ghost use Rattle.mw_config.specs.declared.command_line.Mode.TheVariants.{Listen};
 ghost use Rattle.mw_words.specs.declared.limits.TheConstants.{MAX_TENANTS, MAX_WORKERS};
 ghost use Rattle.mw_engine.specs.Passes.{IsNew};
@@ -12,24 +11,24 @@ ghost use Rattle.mw_opening.specs.MadeOfOpened.{AreMadeOfOpened};
 ghost use Rattle.mw_programs.specs.WorkerCount.{one_for, own_workers, served_count, worker_count};
 
 use crate::descriptors::{has_descriptors, needed};
-use crate::machine::Machine;
-use crate::replaced::{SeesPaths, TenantWatch};
-use crate::server::ServeFault;
-use crate::services::{counted, first_of, serve_all_clients};
+use crate::replaced::{FileLook, SeesPaths};
+use crate::services::{counted, serve_all_clients};
 use crate::tenants::TenantNotes;
 use log::{Log, warn};
-use mw_config::{ArgFault, Args, Listening, Mode, TenantLine, read_args};
+use mw_config::{ArgFault, Args, Listening, Mode, Refusal, TenantLine, read_args};
 use mw_disk::Disk;
 use mw_engine::{Engine, EngineBrand, EngineParts, NoHold, Pass};
 use mw_metrics::Meters;
 use mw_opening::{
-    FileStates, LockedFiles, Notes, OpenedParts, OpensDisks, are_all_open, note_cause, open_parts,
-    open_plain, read_tenants_file,
+    Cause, FileStates, LastErrors, LockedFiles, Notes, OpenedParts, OpensDisks, ReadFault,
+    TenantsFault, are_all_open, note_cause, open_parts, open_plain, read_tenants_file,
 };
 use mw_service::{FaultWatch, Worker};
 use mw_session::{Duplex, Ended, RecordedStream};
 use mw_words::MAX_WORKERS;
+use std::alloc::AllocError;
 use std::fs::File;
+use std::io;
 use std::io::Write;
 use std::marker::Brand;
 use std::net::{Net, TcpListener, TcpStream};
@@ -37,6 +36,75 @@ use std::rt::Files;
 use std::sync::Wait;
 use std::thread::Threads;
 use std::time::Clock;
+use thiserror::Error;
+
+/// Tells why nothing was served.
+#[derive(Debug, Drop, Error)]
+pub(crate) enum ServeFault<'a> {
+    /// The tenants file is refused. The cause is what more is known of it.
+    #[error("{0}")]
+    Refused(Refusal, Cause),
+    /// A tenant's file didn't open, and `--strict` asks for all of them. Notes tell which file.
+    #[error("")]
+    NotAll,
+    /// The limit of descriptors is too low, and `--strict` asks for room. A note tells it.
+    #[error("")]
+    FewDescriptors,
+    /// The script at this path can't be opened, or isn't a plain file.
+    #[error("mwserve: cannot read")]
+    CannotRead(&'a str, ReadFault),
+    /// Nobody can listen at this address.
+    #[error("mwserve: cannot listen")]
+    CannotListen(&'a str, io::Error),
+    /// The session ended by a fault, or the program couldn't write that the server is ready. No note is
+    /// written.
+    #[error("")]
+    Ended,
+    /// Memory was refused before the first session.
+    #[error("mwserve: memory")]
+    Memory,
+}
+
+impl ServeFault<'_> {
+    /// Gives the exit status of this fault.
+    fn status(&self) -> u8 {
+        match self {
+            ServeFault::Refused(..) => 2,
+            ServeFault::NotAll
+            | ServeFault::FewDescriptors
+            | ServeFault::CannotRead(..)
+            | ServeFault::CannotListen(..)
+            | ServeFault::Ended
+            | ServeFault::Memory => 1,
+        }
+    }
+
+    /// Writes the fault, and what more is known of it. `tenants` is the path of the tenants file.
+    fn tell<L: Log>(&self, notes: &L, tenants: &str) {
+        if let ServeFault::NotAll | ServeFault::FewDescriptors | ServeFault::Ended = self {
+            return;
+        }
+        warn!(notes; "{self}");
+        match self {
+            ServeFault::Refused(_, cause) => cause.tell(notes, tenants),
+            ServeFault::CannotRead(path, fault) => note_cause(notes, path, fault),
+            ServeFault::CannotListen(place, error) => note_cause(notes, place, error),
+            _ => {}
+        }
+    }
+}
+
+impl From<AllocError> for ServeFault<'_> {
+    fn from(_: AllocError) -> Self {
+        ServeFault::Memory
+    }
+}
+
+impl From<TenantsFault> for ServeFault<'_> {
+    fn from(fault: TenantsFault) -> Self {
+        ServeFault::Refused(fault.refusal, fault.cause)
+    }
+}
 
 /// Serves what the command line `args` asks for. Its first argument is the program's own name.
 ///
@@ -62,8 +130,6 @@ use std::time::Clock;
 /// it also writes a note on each tenant whose file is replaced, and one if the limit of descriptors is too
 /// low. The files stay
 /// locked until it returns.
-///
-/// Whoever knows the runtime's type must see what is asked of it, so these bounds stand for [`Machine`] here.
 pub fn serve<R, O: Write, E: Write + Send>(rt: &R, args: &[String], out: &mut O, err: &mut E) -> u8
 where
     R: Files<File = File>
@@ -82,90 +148,72 @@ where
     let notes = Notes::new(rt, err, args.verbose);
     match serve_args(rt, &args, out, &notes) {
         Ok(()) => 0,
-        Err(ServeFault::Refused) => 2,
-        Err(ServeFault::Failed) => 1,
-        Err(ServeFault::Memory) => {
-            warn!(notes; "mwserve: memory");
-            1
+        Err(fault) => {
+            fault.tell(&notes, args.tenants.as_str());
+            fault.status()
         }
     }
 }
 
 /// Writes why a command line isn't served, or what it asks to be told. Gives the exit status.
 fn refuse<O: Write, E: Write>(fault: &ArgFault, out: &mut O, err: &mut E) -> u8 {
-    if let ArgFault::Refused(text) = fault {
-        if !text.use_stderr() {
-            return u8::from(write!(out, "{fault}").is_err());
+    match fault {
+        // The text that clap makes ends with a line feed.
+        ArgFault::Refused(text) if !text.use_stderr() => {
+            u8::from(write!(out, "{fault}").is_err())
+        }
+        ArgFault::Refused(_) => {
+            let _ = write!(err, "{fault}");
+            2
+        }
+        ArgFault::Mode(_) => {
+            let _ = writeln!(err, "{fault}");
+            2
+        }
+        ArgFault::Memory => {
+            let _ = writeln!(err, "{fault}");
+            1
         }
     }
-    let (end, status) = match fault {
-        // The text that clap makes ends with a line feed.
-        ArgFault::Refused(_) => ("", 2),
-        ArgFault::Mode(_) => ("\n", 2),
-        ArgFault::Memory => ("\n", 1),
-    };
-    let _ = write!(err, "{fault}{end}");
-    status
 }
 
 /// Opens what the arguments name, and serves it. It looks for faults in this order: the tenants file, the
-/// tenants' files, the script or the listeners. Notes tell them all, but not that memory was refused.
-fn serve_args<R: Machine, O: Write, L: Log + Sync>(
-    rt: &R,
-    args: &Args,
+/// tenants' files, the script or the listeners. Notes tell the faults of the tenants' files.
+fn serve_args<'e, 'a, R, O: Write, L: Log + Sync>(
+    rt: &'e R,
+    args: &'a Args,
     out: &mut O,
-    notes: &L,
-) -> Result<(), ServeFault>
+    notes: &'e L,
+) -> Result<(), ServeFault<'a>>
+where
+    R: Files<File = File>
+        + AllocGlobal
+        + Net<Listener = TcpListener, Stream = TcpStream>
+        + Threads
+        + Wait
+        + Clock
+        + Sync
+        + SeesPaths,
     requires { ArePermittedArgs args.now }
 {
-    match read_tenants_file(rt, args.tenants.as_str(), args.pool) {
-        Ok(lines) => serve_lines(rt, args, &lines, out, notes),
-        Err(fault) => {
-            fault.tell(notes, args.tenants.as_str());
-            Err(ServeFault::Refused)
-        }
-    }
-}
-
-/// What a server is set up with, before it has an engine.
-#[derive(Drop)]
-struct Setup<'s, R, L, T> {
-    rt: &'s R,
-    args: &'s Args,
-    /// The lines of its tenants.
-    lines: &'s [TenantLine],
-    notes: &'s L,
-    /// Is told which tenants fail, and looks at their files.
-    watch: &'s T,
-    meters: &'s Meters,
-}
-
-/// Opens the files of the tenants with these lines, and serves them.
-fn serve_lines<'s, R: Machine, O: Write, L: Log + Sync>(
-    rt: &'s R,
-    args: &'s Args,
-    lines: &'s [TenantLine],
-    out: &mut O,
-    notes: &'s L,
-) -> Result<(), ServeFault>
-    requires args { ArePermittedArgs args.now }
-    requires lines { ArePermitted args.now.pool lines.now }
-    requires few { length lines.now ≤ MAX_TENANTS }
-{
-    let (states, meters) = (FileStates::new(), Meters::new(rt));
-    let disks = LockedFiles::new(rt, &states, counted_in(&args.mode, &meters));
+    let lines = read_tenants_file(rt, args.tenants.as_str(), args.pool)?;
+    let (errors, states) = (LastErrors::new(), FileStates::new());
+    let meters = Meters::new(rt);
+    let meter = counted_in(&args.mode, &meters);
+    let disks = LockedFiles::new(rt, &errors, &states, meter);
     let workers = workers_of(args);
-    let opened = open_parts(rt.alloc(), notes, lines, &disks, args.pool, workers, NoHold)?;
-    let watch = TenantNotes::new(rt, notes, lines, &states, &opened.are_open, args.strict);
-    let setup = Setup {
-        rt,
-        args,
-        lines,
+    let opened = open_parts(
+        rt.alloc(),
         notes,
-        watch: &watch,
-        meters: &meters,
-    };
-    serve_opened::<_, LockedFiles<'_, R>, _, _, _, _>(&setup, opened, out)
+        &lines,
+        &disks,
+        args.pool,
+        workers,
+        NoHold,
+    )?;
+    serve_opened::<_, LockedFiles<'_, R>, _, _, _>(
+        rt, args, &lines, opened, out, notes, &errors, &states, &meters,
+    )
 }
 
 /// Gives the meters if there are pages that tell what they count.
@@ -218,44 +266,46 @@ fn for_further(listening: &Listening) -> u8
     u8::from(listening.admin.is_some()) + u8::from(listening.http.is_some())
 }
 
-/// Serves the tenants of this server, by an engine whose parts are made of the files that `P` opened. A tenant whose file
+/// Serves the tenants with these lines, by an engine whose parts are made of the files that `P` opened. A tenant whose file
 /// isn't open answers FAULT. If `--strict` was given, it serves only if all files are open and the limit of descriptors
 /// leaves room.
-fn serve_opened<
-    D: Disk + Drop + Send + Sync,
-    P: OpensDisks<Device = D>,
-    R: Machine,
-    O: Write,
+fn serve_opened<'a, D: Disk + Drop + Send + Sync, P: OpensDisks<Device = D>, R, O: Write, L>(
+    rt: &R,
+    args: &'a Args,
+    lines: &[TenantLine],
+    opened: OpenedParts<D, NoHold>,
+    out: &mut O,
+    notes: &L,
+    errors: &LastErrors,
+    states: &FileStates,
+    meters: &Meters,
+) -> Result<(), ServeFault<'a>>
+where
+    R: Files<File = File>
+        + AllocGlobal
+        + Net<Listener = TcpListener, Stream = TcpStream>
+        + Threads
+        + Wait
+        + Clock
+        + Sync
+        + SeesPaths,
     L: Log + Sync,
-    T: TenantWatch + Sync,
->(setup: &Setup<'_, R, L, T>, opened: OpenedParts<D, NoHold>, out: &mut O) -> Result<(), ServeFault>
-    requires args { ArePermittedArgs setup.now.args.now }
-    requires tenants { length setup.now.lines.now ≤ MAX_TENANTS }
-    requires opened { AreMadeOfOpened D.facts D.made P.is_over setup.now.lines.now opened.are_open.items opened.made }
+    requires args { ArePermittedArgs args.now }
+    requires tenants { length lines.now ≤ MAX_TENANTS }
+    requires opened { AreMadeOfOpened D.facts D.made P.is_over lines.now opened.are_open.items opened.made }
     requires new { IfOk opened.made (λ made. All (IsNew (identity_of made.0)) made.1.items) }
     requires some { IfOk opened.made (λ made. 0 < vec_len made.1) }
 {
+    if args.strict && !are_all_open(&opened.are_open) {
+        return Err(ServeFault::NotAll);
+    }
+    if !has_room(notes, args, lines.len()) && args.strict {
+        return Err(ServeFault::FewDescriptors);
+    }
     let OpenedParts { are_open, made } = opened;
-    if !may_serve(setup, &are_open) {
-        return Err(ServeFault::Failed);
-    }
-    match made {
-        Ok((parts, passes)) => serve_engine::<Brand, _, _, _, _, _>(setup, parts, passes, out),
-        Err(_) => Err(ServeFault::Memory),
-    }
-}
-
-/// Tells whether to serve if these tenants' files are open. Without `--strict` it always may. A note tells if the limit of
-/// descriptors is too low.
-fn may_serve<R, L: Log, T>(setup: &Setup<'_, R, L, T>, are_open: &[bool]) -> bool
-    requires args { ArePermittedArgs setup.now.args.now }
-    requires tenants { length setup.now.lines.now ≤ MAX_TENANTS }
-{
-    let is_strict = setup.args.strict;
-    if is_strict && !are_all_open(are_open) {
-        return false;
-    }
-    has_room(setup.notes, setup.args, setup.lines.len()) || !is_strict
+    let watch = TenantNotes::new(rt, notes, lines, errors, states, &are_open, args.strict);
+    let (parts, passes) = made?;
+    serve_engine::<Brand, _, _, _, _, _>(rt, parts, passes, args, out, notes, &watch, meters)
 }
 
 /// Gives the number of workers: as many as were asked for, and one for each further address, but at most [`MAX_WORKERS`].
@@ -280,83 +330,73 @@ fn own_workers(mode: &Mode) -> u8
 
 /// Starts the engine, and serves what the command line asks for.
 fn serve_engine<
+    'a,
     J: EngineBrand + Send + Sync,
     D: Disk + Drop + Send + Sync,
-    R: Machine,
+    R,
     O: Write,
     L: Log + Sync,
-    T: TenantWatch + Sync,
+    T: FaultWatch + FileLook + Sync,
 >(
-    setup: &Setup<'_, R, L, T>,
+    rt: &R,
     parts: EngineParts<D, NoHold>,
     passes: Vec<Pass>,
+    args: &'a Args,
     out: &mut O,
-) -> Result<(), ServeFault>
+    notes: &L,
+    watch: &T,
+    meters: &Meters,
+) -> Result<(), ServeFault<'a>>
+where
+    R: Files<File = File>
+        + AllocGlobal
+        + Net<Listener = TcpListener, Stream = TcpStream>
+        + Threads
+        + Wait
+        + Clock
+        + Sync,
     requires identity { identity_of parts ≡ J.identity }
     requires new { All (IsNew J.identity) passes.items }
     requires some { 0 < vec_len passes }
-    requires args { ArePermittedArgs setup.now.args.now }
+    requires args { ArePermittedArgs args.now }
 {
-    let (rt, notes, watch) = (setup.rt, setup.notes, setup.watch);
-    let Ok(engine) = parts.into_engine::<J>(rt.alloc()) else {
-        return Err(ServeFault::Memory);
-    };
-    match &setup.args.mode {
-        Mode::Script(path) => run_script(rt, &engine, passes, path.as_str(), out, notes, watch),
+    let engine = parts.into_engine::<J>(rt.alloc())?;
+    match &args.mode {
+        Mode::Script(path) => run_script(rt, &engine, passes, path.as_str(), out, watch),
         Mode::Listen(listening) => {
-            let meters = setup.meters;
             serve_all_clients(rt, &engine, passes, listening, out, notes, watch, meters)
         }
     }
 }
 
 /// Runs one session, from the script to `out`, by the first worker.
-fn run_script<'e, J: EngineBrand, D: Disk + Drop, R: Machine, O: Write, L: Log, T: FaultWatch>(
+fn run_script<'e, 'a, J: EngineBrand, D: Disk + Drop, R, O: Write, T: FaultWatch>(
     rt: &'e R,
     engine: &'e Engine<J, D, NoHold>,
     passes: Vec<Pass>,
-    path: &str,
+    path: &'a str,
     out: &mut O,
-    notes: &L,
     watch: &'e T,
-) -> Result<(), ServeFault>
-    requires { All (IsNew J.identity) passes.items }
+) -> Result<(), ServeFault<'a>>
+where
+    R: Files<File = File> + AllocGlobal + Wait + Clock,
+    requires new { All (IsNew J.identity) passes.items }
+    requires some { 0 < vec_len passes }
 {
-    let Some(pass) = first_of::<J>(passes) else {
+    let script = match open_plain(rt, path) {
+        Ok(script) => script,
+        Err(fault) => return Err(ServeFault::CannotRead(path, fault)),
+    };
+    let Some(pass) = passes.into_iter().next() else {
         return Err(ServeFault::Memory);
     };
-    let worker = Worker::new(engine, pass, rt, watch);
-    match open_plain(rt, path) {
-        Ok(script) => run_session(rt, worker, script, out),
-        Err(fault) => {
-            warn!(notes; "mwserve: cannot read");
-            note_cause(notes, path, &fault);
-            Err(ServeFault::Failed)
-        }
-    }
-}
-
-/// Runs one session by this worker.
-fn run_session<J, D, R, O, T>(
-    rt: &R,
-    worker: Worker<'_, J, D, NoHold, R, T>,
-    script: File,
-    out: &mut O,
-) -> Result<(), ServeFault>
-where
-    J: EngineBrand,
-    D: Disk + Drop,
-    R: AllocGlobal + Wait + Clock,
-    O: Write,
-    T: FaultWatch,
-{
-    let mut worker = worker;
+    let mut worker = Worker::new(engine, pass, rt, watch);
     let mut stream = RecordedStream::new(Duplex {
         reader: script,
         writer: out,
     });
     match worker.run(rt.alloc(), &mut stream) {
         Ended::Quit | Ended::PeerEnd | Ended::TooLong => Ok(()),
-        Ended::ReadFault | Ended::WriteFault(_) | Ended::Memory => Err(ServeFault::Failed),
+        Ended::ReadFault | Ended::WriteFault(_) | Ended::Memory => Err(ServeFault::Ended),
     }
 }

@@ -5,10 +5,10 @@
 ghost use Rattle.std.specs.Prelude.{◌<◌};
 ghost use Rattle.mw_words.specs.declared.limits.TheConstants.{MAX_TENANTS};
 
-use crate::replaced::{SeesPaths, TenantWatch, leads_elsewhere};
+use crate::replaced::{FileLook, SeesPaths, leads_elsewhere};
 use log::{Log, warn};
 use mw_config::TenantLine;
-use mw_opening::{FileStates, note_cause, note_place};
+use mw_opening::{FileStates, LastErrors, note_cause, note_place};
 use mw_service::FaultWatch;
 use mw_words::MAX_TENANTS;
 use std::str;
@@ -16,11 +16,12 @@ use std::sync::{Mutex, Wait};
 
 /// Writes a note on each tenant whose file has failed while it was served, once, and on each whose file was replaced.
 #[derive(Drop)]
-pub(crate) struct TenantNotes<'s, L, R> {
-    rt: &'s R,
-    notes: &'s L,
-    lines: &'s [TenantLine],
-    states: &'s FileStates,
+pub struct TenantNotes<'r, 'n, 'l, 'e, L, R> {
+    rt: &'r R,
+    notes: &'n L,
+    lines: &'l [TenantLine],
+    errors: &'e LastErrors,
+    states: &'e FileStates,
     /// Whether a file that was replaced is given up.
     strict: bool,
     /// The tenants on which it was written already that they are down.
@@ -29,14 +30,15 @@ pub(crate) struct TenantNotes<'s, L, R> {
     left_out: Mutex<[bool; MAX_TENANTS]>,
 }
 
-impl<'s, L, R> TenantNotes<'s, L, R> {
+impl<'r, 'n, 'l, 'e, L: Log, R: Wait> TenantNotes<'r, 'n, 'l, 'e, L, R> {
     /// Makes the notes on the tenants with these lines. A tenant whose file isn't open has its note
     /// already. If it is strict, a file that was replaced is given up.
-    pub(crate) fn new(
-        rt: &'s R,
-        notes: &'s L,
-        lines: &'s [TenantLine],
-        states: &'s FileStates,
+    pub fn new(
+        rt: &'r R,
+        notes: &'n L,
+        lines: &'l [TenantLine],
+        errors: &'e LastErrors,
+        states: &'e FileStates,
         are_open: &[bool],
         strict: bool,
     ) -> Self {
@@ -48,6 +50,7 @@ impl<'s, L, R> TenantNotes<'s, L, R> {
             rt,
             notes,
             lines,
+            errors,
             states,
             strict,
             told: Mutex::new(told),
@@ -56,7 +59,7 @@ impl<'s, L, R> TenantNotes<'s, L, R> {
     }
 }
 
-impl<L: Log, R: Wait> TenantNotes<'_, L, R> {
+impl<L: Log, R: Wait> TenantNotes<'_, '_, '_, '_, L, R> {
     /// Writes that the tenant of this number is down, and what the system told of its file.
     fn tell(&self, tenant: usize, line: &TenantLine)
         requires { tenant < MAX_TENANTS }
@@ -64,7 +67,7 @@ impl<L: Log, R: Wait> TenantNotes<'_, L, R> {
         let name = str::from_utf8(&line.name).unwrap_or("?");
         warn!(self.notes; "tenant {name}: failed");
         let path = line.path.as_str();
-        match self.states.of(tenant).last_error() {
+        match self.errors.of(tenant).error() {
             Some(error) => note_cause(self.notes, path, &error),
             None => note_place(self.notes, path),
         }
@@ -78,7 +81,7 @@ impl<L: Log, R: Wait> TenantNotes<'_, L, R> {
     }
 }
 
-impl<L: Log, R: Wait> FaultWatch for TenantNotes<'_, L, R> {
+impl<L: Log, R: Wait> FaultWatch for TenantNotes<'_, '_, '_, '_, L, R> {
     fn fault(&self, tenant: u8) {
         let tenant = usize::from(tenant);
         let mut all_told = self.told.lock(self.rt);
@@ -92,7 +95,7 @@ impl<L: Log, R: Wait> FaultWatch for TenantNotes<'_, L, R> {
     }
 }
 
-impl<L: Log, R: Wait + SeesPaths> TenantWatch for TenantNotes<'_, L, R> {
+impl<L: Log, R: Wait + SeesPaths> FileLook for TenantNotes<'_, '_, '_, '_, L, R> {
     fn look(&self) {
         let mut all_left_out = self.left_out.lock(self.rt);
         let files = self.lines.iter().zip(self.states.all());

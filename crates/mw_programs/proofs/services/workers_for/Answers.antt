@@ -1,17 +1,12 @@
 -- Proves goals of `workers_for` (src/services.rt) that the check does not prove by itself. Used by: the proof of that function
 -- alone. It may change freely as long as this crate checks.
-use Rattle.std.proofs.Common.{◌≡◌, ◌+◌, length, sym, ◌∙◌, Result, Ok, Err, is_err, false}
-use Rattle.std.specs.Prelude.{OnOk}
+use Rattle.std.proofs.Common.{◌≡◌, ◌+◌, length, sym, ◌∙◌}
 use Rattle.std.specs.Vec.Iter.{into_iter_items}
 use Rattle.mw_engine.specs.Passes.{IsNew}
-use Rattle.mw_service.proofs.Workers.{behind, of_next, one_more}
+use Rattle.mw_service.proofs.Workers.{behind, of_next, one_more, pushed}
 use Rattle.mw_programs.proofs.services.workers_for.Goals as goal
 
--- what a call promises if it goes well holds if it does
-went_well : {T E : Type 0} (P : Type 0) (r : Result T E) → is_err r ≡ false → OnOk r P → P
-went_well P (Ok done) well is = is
-went_well P (Err fault) well is = absurd (cc)
-
+-- src/services.rt
 pub new-worker-requires : goal.new-worker-requires
 new-worker-requires g c =
     let left = into_iter_items c.loop-pass.pass-iterator in
@@ -24,9 +19,8 @@ loop-pass-preserved g c =
     let left = into_iter_items c.loop-pass.pass-iterator in
     let rest = into_iter_items c.next.new.self in
     let workers = c.loop-pass.workers in
-    let went : length c.add.new.services.items ≡ length workers.items + 1 =
-    went_well (length c.add.new.services.items ≡ length workers.items + 1) c.add.result (sym c.is_err.ensures.value ∙ c.if-is_err.false) c.add.ensures in
+    let went : length c.push.new.self.items ≡ length workers.items + 1 = pushed c.push.result workers.items c.push.new.self.items c.new.result (sym c.is_err.ensures.value ∙ c.if-is_err.false) c.push.ensures.items in
     record {
-      count = one_more (length c.args.passes.items) (length workers.items) (length c.add.new.services.items) left rest c.in-Some.pass c.in-Some.ensures.steps.0 went c.loop-pass.invariant.count;
+      count = one_more (length c.args.passes.items) (length workers.items) (length c.push.new.self.items) left rest c.in-Some.pass c.in-Some.ensures.steps.0 went c.loop-pass.invariant.count;
       new = behind (IsNew g.J.EngineBrand.identity) left rest c.in-Some.pass c.in-Some.ensures.steps.0 c.loop-pass.invariant.new;
     }
