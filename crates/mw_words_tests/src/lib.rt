@@ -3,8 +3,6 @@
 #![tactic(auto)]
 
 #[cfg(test)]
-mod checks;
-#[cfg(test)]
 mod frame_tests;
 #[cfg(test)]
 mod line_tests;
