@@ -1,6 +1,6 @@
 """The client for asyncio with calls that block: what tries `mondlexi` tries `mondlexi.aio` by it, call for call.
 
-Used by: scripts/check-programs, which gives this module or `mondlexi` to client.py and reads.py. What only asyncio has is tried
+Used by: scripts/check-programs, which gives this module or `mondlexi` to client.py, reads.py and recipes.py. What only asyncio has is tried
 in tasks.py.
 """
 import asyncio
@@ -9,6 +9,7 @@ import atexit
 from .common import PATIENCE
 
 import mondlexi.aio  # noqa: E402
+import mondlexi.recipes.aio  # noqa: E402
 
 LOOP = asyncio.new_event_loop()
 atexit.register(LOOP.close)
@@ -61,3 +62,28 @@ class Counted:
 
     def settle(self):
         return await_it(self.awaited.settle())
+
+
+class Recipe:
+    """A recipe of `mondlexi.recipes.aio`, whose calls block."""
+
+    def __init__(self, kind, *arguments, **named):
+        self.recipe = kind(*(getattr(one, "awaited", one) for one in arguments), **named)
+
+    def __getattr__(self, name):
+        found = getattr(self.recipe, name)
+        return lambda *arguments, **named: await_it(found(*arguments, **named))
+
+
+class Recipes:
+    """`mondlexi.recipes.aio`, whose calls block."""
+
+    def __getattr__(self, name):
+        return lambda *arguments, **named: Recipe(getattr(mondlexi.recipes.aio, name), *arguments, **named)
+
+    @staticmethod
+    def resent(client, *arguments):
+        return await_it(mondlexi.recipes.aio.resent(client.awaited, *arguments))
+
+
+recipes = Recipes()

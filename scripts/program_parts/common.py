@@ -17,7 +17,7 @@ from pathlib import Path
 from typing import NoReturn
 
 TOP = Path(__file__).resolve().parent.parent.parent
-sys.path[:0] = [str(TOP / "clients/python"), str(TOP / "clients/python/examples")]
+sys.path.insert(0, str(TOP / "clients/python"))
 
 PROGRAMS = ("mwinit", "mwserve", "mwshow", "mwreplay", "mwbench")
 BUILT = {name: TOP / "crates" / name / "out" / name for name in PROGRAMS}

@@ -1,5 +1,5 @@
-"""Eight processes run each example of the client in Python against a server that is killed, started again and held up. They go on
-until they got enough done.
+"""Eight processes use locks and blocks by the recipes of the client in Python, at a server that is killed, started again and held
+up. They go on until they got enough done.
 
 Used by: scripts/check-programs, but for `--gate`: how long they take depends on the machine.
 """
@@ -11,9 +11,10 @@ import time
 
 from .common import same, wrong
 
-import allocator  # noqa: E402
-import lock_table  # noqa: E402
 import mondlexi  # noqa: E402
+from mondlexi._session import TenantSession  # noqa: E402
+from mondlexi.recipes import Blocks, Locks  # noqa: E402
+from mondlexi.recipes.blocks import MOST_TAG, USED  # noqa: E402
 
 PROCESSES = 8
 # More processes than the quota allows share each tenant, so on a slow disk one may be told BUSY for long.
@@ -31,17 +32,17 @@ LONGEST = 120
 
 def count_doubts():
     """From here on each Unknown of this process is counted, in the list given back, and no client waits for long."""
-    doubts, cas = [], mondlexi.Client.cas
+    doubts, cas = [], TenantSession.cas
     mondlexi.Client.__init__.__kwdefaults__["timeout"] = TIMEOUT
 
-    def counted(client, entries):
+    async def counted(session, entries):
         try:
-            return cas(client, entries)
+            return await cas(session, entries)
         except mondlexi.Unknown:
             doubts.append(1)
             raise
 
-    mondlexi.Client.cas = counted
+    TenantSession.cas = counted
     return doubts
 
 
@@ -61,25 +62,25 @@ def count(done):
 
 
 def take_locks(number, server, stop, done, folder):
-    """Tells the file of this number which lock it had, under which token, from when to when, in milliseconds."""
+    """Tells the file of this number which lock it had, under which token, from when to when. The processes have one clock."""
     doubts, held, dice = count_doubts(), [], random.Random(number)
     client = begun(server, "locks")
-    table = lock_table.LockTable(client, number + 1)
+    locks = Locks(client, number + 1, LOCKS)
     while not stop.is_set():
-        lease = table.acquire(dice.randrange(LOCKS), dice.uniform(0.05, 0.5))
-        since = time.time() * 1000
-        if lease is None:
+        grant = locks.acquire([dice.randrange(LOCKS)], dice.uniform(0.05, 0.5))
+        since = time.monotonic()
+        if grant is None:
             time.sleep(dice.uniform(0, 0.02))
             continue
         if dice.random() < 0.4:
-            lease = table.renew(lease, 0.4) or lease
+            grant = locks.renew(grant, 0.4) or grant
         time.sleep(dice.uniform(0, 0.03))
-        until = lease.until
+        until = grant.until
         if dice.random() < 0.8:
-            until = min(until, time.time() * 1000)
-            table.release(lease)
+            until = min(until, time.monotonic())
+            locks.release(grant)
         if since < until:
-            held.append((lease.lock, lease.token, since, until))
+            held.append((*grant.locks, *grant.tokens, since, until))
             count(done)
     client.close()
     (folder / f"{number}.json").write_text(json.dumps([len(doubts), held]))
@@ -89,17 +90,18 @@ def use_blocks(number, server, stop, done, folder):
     """Holds up to four blocks, each with a file of its name that nobody else may have; at last tells which it holds."""
     doubts, held, used, dice = count_doubts(), [], 0, random.Random(number)
     client = begun(server, "blocks")
-    own = allocator.Allocator(client, BLOCKS, number)
+    own = Blocks(client, number, BLOCKS)
     while not stop.is_set():
         if held and dice.randrange(5) < len(held):
             block = held.pop(dice.randrange(len(held)))
             (folder / f"block-{block}").unlink()
-            own.free(block)
+            own.free([block])
         else:
-            block = own.allocate()
-            if block is None:
+            blocks = own.allocate()
+            if blocks is None:
                 time.sleep(0.005)
                 continue
+            block = blocks[0]
             os.close(os.open(folder / f"block-{block}", os.O_CREAT | os.O_EXCL))
             held.append(block)
             used += 1
@@ -107,8 +109,8 @@ def use_blocks(number, server, stop, done, folder):
         if dice.random() < 0.05:
             client.close()
             client = begun(server, "blocks")
-            own = allocator.Allocator(client, BLOCKS, number)
-            same(own.mine(), sorted(held), "blocks that an owner finds as its own")
+            own = Blocks(client, number, BLOCKS)
+            same(sorted(own.mine()), sorted(held), "blocks that an owner finds as its own")
     client.close()
     (folder / f"{number}.json").write_text(json.dumps([len(doubts), used, held]))
 
@@ -150,23 +152,20 @@ def check_locks(server, folder):
     with mondlexi.Client(server.at, "locks") as client:
         for lock in range(LOCKS):
             tokens = [lease[1] for lease in leases if lease[0] == lock]
-            same(bool(tokens) and max(tokens) <= client.get(3 * lock + 2), True, f"tokens of lock {lock}")
+            same(bool(tokens) and max(tokens) <= client.get(2 * lock), True, f"tokens of lock {lock}")
     same(len(leases) >= ENOUGH, True, "enough leases")
-    print(f"lock table: {len(leases)} leases, {KILLS} kills, {doubts} changes in doubt; no lock held twice at once")
+    print(f"locks: {len(leases)} leases, {KILLS} kills, {doubts} changes in doubt; no lock held twice at once")
 
 
 def check_blocks(server, folder):
     told = run_eight(server, use_blocks, folder)
     doubts, used = (sum(one[k] for one in told) for k in (0, 1))
     with mondlexi.Client(server.at, "blocks") as client:
-        first, ever, *words = (client.get(a) for a in range(2 + BLOCKS))
-    free = list(range(ever + 1, BLOCKS + 1))
-    while first and len(free) <= BLOCKS:
-        free.append(first)
-        first = words[first - 1]
+        words = client.get_many(range(BLOCKS))
+    free = [block for block, word in enumerate(words) if not word]
     for number, (_, _, held) in enumerate(told):
-        found = [b for b in range(1, BLOCKS + 1) if words[b - 1] == allocator.USED + number]
+        found = [block for block, word in enumerate(words) if word & ~MOST_TAG == USED | number << 32]
         same(found, sorted(held), f"blocks of owner {number}")
-    same(sorted(free + [b for one in told for b in one[2]]), list(range(1, BLOCKS + 1)), "free blocks and held ones")
+    same(sorted(free + [b for one in told for b in one[2]]), list(range(BLOCKS)), "free blocks and held ones")
     same(used >= ENOUGH, True, "enough blocks")
-    print(f"allocator: {used} blocks given out, {KILLS} kills, {doubts} changes in doubt; none given twice, none lost")
+    print(f"blocks: {used} given out, {KILLS} kills, {doubts} changes in doubt; none given twice, none lost")

@@ -59,7 +59,8 @@ def try_package(folder):
     wheel = folder / f"wheels/mondlexi-{mondlexi.__version__}-py3-none-any.whl"
     listed = ran(builder(), "-m", "zipfile", "-l", wheel, folder=folder)
     found = sorted(line.split()[0] for line in listed.splitlines() if line.startswith("mondlexi/"))
-    same(found, sorted(f"mondlexi/{path.name}" for path in SOURCE.glob("mondlexi/*") if path.is_file()), "the files of the wheel")
+    files = [path for path in SOURCE.glob("mondlexi/**/*") if path.is_file() and "__pycache__" not in path.parts]
+    same(found, sorted(str(path.relative_to(SOURCE)) for path in files), "the files of the wheel")
     print("the package: pip installs it, and makes a wheel")
 
 

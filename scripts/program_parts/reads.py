@@ -65,12 +65,44 @@ def try_many(clients, server):
         same(client.get_many([]), [], "get_many of none")
         many = [k % WORDS for k in range(2 * AT_ONCE + 1)]
         same(client.get_many(many), [one_by_one[k] for k in many], "get_many of very many")
+        same(client.stable([9, 0, 9]), [one_by_one[9], one_by_one[0], one_by_one[9]], "stable in another order")
+        same(client.stable(many), [one_by_one[k] for k in many], "stable of very many")
         raises(ValueError, "get_many past the end", client.get_many, [0, WORDS])
         raises(TypeError, "get_many of a text", client.get_many, ["0"])
         same(client.get(9), one_by_one[9], "get after get_many")
     with clients.Client(server.at, "away") as client:
         raises(mondlexi.Fault, "get_many of a tenant that is down", client.get_many, [0, 1, 0])
         raises(mondlexi.Fault, "get after that", client.get, 1)
+
+
+def try_stable(clients):
+    """Both readings are sent together; while two in a row differ it reads again, and then ends as Busy."""
+    peers = Peers(["OK 9\n", *(f"VAL {value}\n" for value in (1, 2, 1, 2)), *(f"VAL {value}\n" for value in (1, 2, 1, 3, 4, 3, 4, 3)), "BYE\n"])
+    with clients.Client(peers.at, "t") as client:
+        same(client.stable([7, 8]), [1, 2], "stable")
+        same(client.stable([7, 8]), [4, 3], "stable beside a writer")
+        same(client.stable([]), [], "stable of no words")
+        raises(ValueError, "stable past the end", client.stable, [9])
+    same(peers.heard()[0][1:], 2 * ["GET 7", "GET 8", "GET 7", "GET 8"] + 2 * ["GET 7", "GET 8"] + ["QUIT"], "what is sent for it")
+    with clients.Client(Peers(["OK 9\n", "VAL 1\n", "VAL 2\n", "BYE\n"]).at, "t", patience=0) as client:
+        raises(mondlexi.Busy, "stable beside a writer, without patience", client.stable, [7])
+
+
+def try_reads_within(clients):
+    """For so many seconds a read asks again whatever was lost: a late reply, or connections that break again and again."""
+    broken, value = ["OK 9\n", ""], ["OK 9\n", "VAL 5\n", "BYE\n"]
+    peers = Peers(["OK 9\n", SILENT], broken, [], [""], broken, value)
+    with clients.Client(peers.at, "t", reconnects=0, reads_within=PATIENCE) as client:
+        with impatient(client):
+            same(client.get(7), 5, "get that is asked again for a while")
+    same(peers.heard()[-1], ["TENANT t", "GET 7", "QUIT"], "what is sent at last")
+    with clients.Client(Peers(broken).at, "t", reads_within=0.1) as client:
+        raises(mondlexi.Lost, "get that is asked again for too short a while", client.get, 7)
+    with clients.Client(Peers(broken, value).at, "t", reads_within=PATIENCE) as client:
+        raises(mondlexi.Unknown, "a change whose connection breaks", client.cas, [(0, 1, 2)])
+        raises(mondlexi.Lost, "a change after that", client.cas, [(0, 1, 2)])
+        same(client.get(7), 5, "get after that")
+    raises(ValueError, "seconds below 0", clients.Client, at(1), "t", reads_within=-1)
 
 
 def try_round_trips(clients):
@@ -220,6 +252,8 @@ def try_refused(clients):
 
 def try_reads(clients):
     """All of these that need no server."""
+    try_stable(clients)
+    try_reads_within(clients)
     try_round_trips(clients)
     try_replies_of_many(clients)
     try_reads_that_reconnect(clients)

@@ -15,8 +15,9 @@ equal, writes a new value to each: durably, and wholly or not at all.
 `Client` speaks for one tenant, `Administrator` asks how all tenants are. Both are told where the server listens: at a host
 and a port, as "127.0.0.1:7000", "localhost:7000" or "[::1]:7000"; or, on this machine, at a local socket, as
 "unix:/run/mondlexi/socket", which is a file that this process has to be allowed to write. Whoever runs the server knows.
-`Counted` makes changes over a client, of which it finds out whether they were made if a reply is lost. `mondlexi.aio` has the
-same for asyncio. `python3 -m mondlexi 127.0.0.1:7000 t` is a shell.
+`Counted` makes changes over a client, of which it finds out whether they were made if a reply is lost. `mondlexi.recipes` has
+locks, an allocator, indexes, a queue and more. `mondlexi.aio` has the same for asyncio, and `mondlexi.recipes.aio`.
+`python3 -m mondlexi 127.0.0.1:7000 t` is a shell.
 
 `help(mondlexi.Client)` has the calls. What `help` shows of the exceptions is mostly what all have: the table below says more.
 
@@ -37,9 +38,9 @@ anything is sent. All other failures are kinds of `Error`:
 | Worn    | a number of the server is used up; it has to be restarted        | undecided   | not made            | stays          |
 | Refused | the server refuses the line, by a number                         | not made    | not made            | stays          |
 
-A constructor that raises leaves nothing open. If the connection breaks, `get`, `get_many`, `read` and `report` connect anew and
-ask again, once, or as often as `reconnects` says, before they raise Lost: they change nothing. `cas` never does: after Lost or
-Unknown call `reconnect`.
+A constructor that raises leaves nothing open. If the connection breaks, `get`, `get_many`, `stable`, `read` and `report` connect
+anew and ask again, once, or as often as `reconnects` says, before they raise Lost: they change nothing. With `reads_within` those
+of a `Client` do so for some seconds, also after a late reply. `cas` never does: after Lost or Unknown call `reconnect`.
 
 *Undecided*: it was made, or it wasn't, wholly or not at all; or it is still to be made, as long as the server works on the line
 that it got. Words with their old values don't show that it won't come, and one that is sent again may be made twice.

@@ -55,7 +55,8 @@ class Client(_Blocking):
     """A session for one tenant, whose words it reads and changes."""
 
     def __init__(self, server: str, tenant: str, *, timeout: float = 10.0, patience: float = 5.0, within: float = 0.0,
-                 reconnects: int = 1, tls: "Optional[ssl.SSLContext]" = None, tls_name: Optional[str] = None) -> None:
+                 reconnects: int = 1, tls: "Optional[ssl.SSLContext]" = None, tls_name: Optional[str] = None,
+                 reads_within: float = 0.0) -> None:
         """Connects to `server`, and speaks for `tenant` from then on.
 
         `server`: where it listens. `HOST:PORT`: a name, or an address (of IPv6 in brackets), and a port from 1 to 65535; or
@@ -65,15 +66,17 @@ class Client(_Blocking):
         `patience`: for how many seconds a `cas` or a `read` asks again, with growing pauses, while the server is busy;
         0, for not at all, up to 1,000,000.
         `within`: for how many seconds to try again if connecting fails, as `reconnect` does; also when a call reconnects.
-        `reconnects`: how often one call of `get`, `get_many` or `read` connects anew and asks again if the connection has
+        `reconnects`: how often one call of `get`, `get_many`, `stable` or `read` connects anew and asks again if the connection has
         broken, 0 to 1,000. A reply that doesn't come within `timeout` isn't asked for again.
+        `reads_within`: for how many seconds such a call does so whatever was lost, also a late reply, 0 to 1,000,000. No program
+        needs a loop for Lost around its reads then.
         `tls`: speaks TLS by this context, over TCP. The server itself has no TLS: a proxy in front of it has.
         `tls_name`: the name that the certificate has to have, if it isn't the host of `server`.
 
         Raises ValueError or TypeError, with nothing sent; Lost; Full; Refused, with number 5, if no tenant has the name."""
         place = place_of(server)
         link = SocketLink(place, checked_tls(place, tls, tls_name))
-        self._session = TenantSession(server, link, options_of(timeout, within, reconnects), tenant, patience)
+        self._session = TenantSession(server, link, options_of(timeout, within, reconnects, reads_within), tenant, patience)
         super().__init__(self._session)
 
     @property
@@ -95,23 +98,28 @@ class Client(_Blocking):
     def get_many(self, addresses: Iterable[int]) -> List[int]:
         """The values of any number of words, in the order in which `addresses` names them, by one round trip for up to 512.
 
-        Each value is of its own moment, the later ones of later moments: `read` gives up to sixteen words of one moment. It
+        Each value is of its own moment, the later ones of later moments: `stable` and `read` give words of one moment. It
         costs no disk access. It connects anew, and raises, as `get` does; after an exception no value is given."""
         return run(self._session.get_many(addresses))
 
+    def stable(self, addresses: Iterable[int]) -> List[int]:
+        """The values of any number of words, all as they were at one moment, if no word of them returns to an earlier value.
+
+        It reads all of them twice, and again until two readings in a row are equal. So a word that left its value and has it again
+        goes unnoticed: use it for words that only grow, or of which each change also moves a version among `addresses`;
+        docs/RECIPES.md has such layouts. For other words use `read`. It costs no disk access, and changes nothing.
+
+        It connects anew, and raises, as `get` does; Busy if the words kept changing for `patience` seconds."""
+        return run(self._session.stable(addresses))
+
     def read(self, addresses: Iterable[int]) -> List[int]:
-        """The values of several words, all as they were at one moment, in the order in which `addresses` names them.
+        """The values of several words at one moment, by a change of them: it costs the disk, and starves beside their writers.
 
-        One to sixteen different addresses, in any order; one may come again. A single word is read by `get`. Several are
-        guessed by `get_many`, then confirmed by a change that writes to each the value that it has. So it costs the disk as
-        much as a change of them, and as a change can be busy. Guesses that have gone stale are mended; while others change
-        the words all the time it may end as Busy, because nothing gives it a turn. More words are read of one moment, and with
-        no disk access, if each change of them also moves a word that only grows, here word 0:
-
-            while True:                                       # after Lost all of it again
-                version, values = client.get(0), client.get_many(addresses)
-                if client.get(0) == version:
-                    return values
+        One to sixteen different addresses, in any order; one may come again. The values are in the order of `addresses`. A single
+        word is read by `get`. Several are guessed by `get_many`, then confirmed by a change that writes to each the value that it
+        has. So it costs the disk as much as a change of them, and as a change can be busy. Guesses that have gone stale are mended;
+        while others change the words all the time it may end as Busy, because nothing gives it a turn. `stable` reads any number
+        of words without a change, if they are laid out for it.
 
         It connects anew as `get` does. Raises ValueError or TypeError, with nothing sent; Lost; Full and Refused as `get`; Fault;
         Worn; Busy if the server was busy, or the words kept changing, for `patience` seconds. No exception leaves a word

@@ -66,15 +66,17 @@ class Options(NamedTuple):
     timeout: float
     within: float
     reconnects: int
+    reads_within: float
 
 
-def options_of(timeout: float, within: float, reconnects: int) -> Options:
+def options_of(timeout: float, within: float, reconnects: int, reads_within: float = 0.0) -> Options:
     """These options, if they are in range. Else ValueError or TypeError."""
     if not isinstance(reconnects, int):
         raise TypeError(f"reconnects has to be a number, not {reconnects!r}")
     if not 0 <= reconnects <= MAX_RECONNECTS:
         raise ValueError(f"reconnects has to be from 0 to {MAX_RECONNECTS}")
-    return Options(protocol.seconds_of("timeout", timeout, False), protocol.seconds_of("within", within, True), reconnects)
+    return Options(protocol.seconds_of("timeout", timeout, False), protocol.seconds_of("within", within, True), reconnects,
+                   protocol.seconds_of("reads_within", reads_within, True))
 
 
 async def paused(sleeper: Sleeper, pause: float, deadline: float, error: Exception) -> float:
@@ -115,6 +117,10 @@ class Session:
         end = time.monotonic() + protocol.seconds_of("within", within, True)
         await self.close()
         await self._begin_until(end, False)
+
+    async def pause(self, seconds: float) -> None:
+        """Lets so many seconds pass. Others may use the session meanwhile."""
+        await self._link.pause(seconds)
 
     async def close(self) -> None:
         """Ends the session and waits for the server's goodbye, a second at most."""
@@ -165,18 +171,24 @@ class Session:
 
     # Ask.
 
-    async def ask(self, question: Question[Answer]) -> Answer:
+    async def ask(self, question: Question[Answer], within: float = 0.0) -> Answer:
         """The answer to a question. If it can change nothing and the connection has broken, it is asked again over a new
-        connection, as often as the options say. A reply that is late isn't waited for again."""
-        left = self.options.reconnects if question.gone is Lost else 0
+        connection, as often as the options say; a reply that is late isn't waited for again. For `within` seconds, or for as many
+        as the options say, it is asked again whatever was lost."""
+        is_read, pause = question.gone is Lost, FIRST_PAUSE
+        left = self.options.reconnects if is_read else 0
+        end = time.monotonic() + (max(within, self.options.reads_within) if is_read else 0.0)
         while True:
             try:
                 return await self._ask_once(question)
             except Lost as error:
-                if not left or self._state is _State.CLOSED or isinstance(error.__cause__, socket.timeout):
+                may_end = not left or isinstance(error.__cause__, socket.timeout)
+                if self._state is _State.CLOSED or may_end and time.monotonic() >= end:
                     raise
-            left -= 1
-            await self._begin_until(time.monotonic() + self.options.within, True)
+                if may_end:
+                    pause = await paused(self._link, pause, end, error)
+            left = max(0, left - 1)
+            await self._begin_until(max(end, time.monotonic() + self.options.within), True)
 
     async def _ask_once(self, question: Question[Answer]) -> Answer:
         """The answer over the connection that there is."""
@@ -233,10 +245,23 @@ class TenantSession(Session):
         super().__init__(server, link, options, protocol.tenant_greeting(tenant))
         self._patience = protocol.seconds_of("patience", patience, True)
 
-    async def get_many(self, addresses: Iterable[int]) -> List[int]:
-        """The values of these words, each of its own moment."""
+    async def get_many(self, addresses: Iterable[int], within: float = 0.0) -> List[int]:
+        """The values of these words, each of its own moment; `within` as `ask` has it."""
         checked = [self._address(address) for address in addresses]
-        return await self.ask(protocol.get(checked)) if checked else []
+        return await self.ask(protocol.get(checked), within) if checked else []
+
+    async def stable(self, addresses: Iterable[int], within: float = 0.0) -> List[int]:
+        """The values of these words, once two readings, one after the other, have given the same ones."""
+        asked = list(addresses)
+        deadline = time.monotonic() + self._patience
+        # The server answers a line before it looks at the next one, so both readings may be sent together.
+        both = await self.get_many([*asked, *asked], within)
+        before, values = both[:len(asked)], both[len(asked):]
+        while before != values:
+            if time.monotonic() >= deadline:
+                raise Busy(f"{len(asked)} words changed for {self._patience} seconds")
+            before, values = values, await self.get_many(asked, within)
+        return values
 
     async def read(self, addresses: Iterable[int]) -> List[int]:
         """The values of these words at one moment."""

@@ -12,7 +12,8 @@ tells what.
 
 Tasks of one event loop may share a client: one call after the other uses its connection. A call that is cancelled while its
 reply is under way ends the connection, because that reply would be taken for the next one's. A change that was cancelled so is
-undecided, as after Unknown. Then `get`, `get_many`, `read` and `report` connect anew, and `cas` raises Lost until `reconnect`.
+undecided, as after Unknown. Then `get`, `get_many`, `stable`, `read` and `report` connect anew, and `cas` raises Lost until
+`reconnect`.
 """
 import asyncio
 import contextlib
@@ -200,11 +201,12 @@ class Client(_Awaited):
     """A session for one tenant, whose words it reads and changes: `mondlexi.Client`, awaited."""
 
     def __init__(self, server: str, tenant: str, *, timeout: float = 10.0, patience: float = 5.0, within: float = 0.0,
-                 reconnects: int = 1, tls: "Optional[ssl.SSLContext]" = None, tls_name: Optional[str] = None) -> None:
+                 reconnects: int = 1, tls: "Optional[ssl.SSLContext]" = None, tls_name: Optional[str] = None,
+                 reads_within: float = 0.0) -> None:
         """Takes what `mondlexi.Client` takes. Raises ValueError or TypeError; it doesn't connect yet."""
         place = place_of(server)
         link = _StreamLink(place, checked_tls(place, tls, tls_name))
-        self._session = TenantSession(server, link, options_of(timeout, within, reconnects), tenant, patience)
+        self._session = TenantSession(server, link, options_of(timeout, within, reconnects, reads_within), tenant, patience)
         super().__init__(self._session)
 
     @property
@@ -219,6 +221,10 @@ class Client(_Awaited):
     async def get_many(self, addresses: Iterable[int]) -> List[int]:
         """The values of any number of words, each of its own moment, as `mondlexi.Client.get_many`."""
         return await self._session.get_many(addresses)
+
+    async def stable(self, addresses: Iterable[int]) -> List[int]:
+        """The values of any number of words, all of one moment if none returns to an earlier value, as `mondlexi.Client.stable`."""
+        return await self._session.stable(addresses)
 
     async def read(self, addresses: Iterable[int]) -> List[int]:
         """The values of one to sixteen words, all of one moment, as `mondlexi.Client.read`."""

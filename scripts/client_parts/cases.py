@@ -1,0 +1,79 @@
+"""Plays the table of cases: a client's program against the server of a case.
+
+Used by: scripts/check-clients.
+"""
+import tempfile
+import time
+from concurrent.futures import ThreadPoolExecutor
+from pathlib import Path
+from typing import List, Optional, Sequence
+
+from .peer import Different, Peer
+from .players import Player
+from .table import Case
+
+AT_ONCE = 8
+"""How many cases are played side by side."""
+
+
+def ask_all(case: Case, player: Player, at: str) -> None:
+    """Makes the calls of a case. Different if one tells something else, or comes too early."""
+    told, took = "", 0.0
+    for step in case.calls:
+        if step.kind == "call":
+            began = time.monotonic()
+            told = player.ask(step.text.replace("SERVER", at))
+            took = (time.monotonic() - began) * 1000
+        elif step.kind == "tells" and told != step.text:
+            raise Different(f"{step.place}: {told!r} is told in place of {step.text!r}")
+        elif step.kind == "takes" and took < int(step.text):
+            raise Different(f"{step.place}: the call took {took:.0f} ms in place of {step.text} or more")
+        elif step.kind == "within" and took > int(step.text):
+            raise Different(f"{step.place}: the call took {took:.0f} ms in place of {step.text} at most")
+
+
+def play_with(case: Case, player: Player, folder: Path, is_last: bool) -> None:
+    """Plays a case. Different if something else happens than it says. `is_last`: whether the client's program ends then; else it
+    closes its client, and goes on."""
+    peer = Peer(case, folder)
+    try:
+        try:
+            ask_all(case, player, peer.at)
+            peer.wait()
+        finally:
+            status = player.end() if is_last else player.ask("close") != "closed"
+        if status:
+            raise Different(f"the client's program ended with status {status}" if is_last else "it doesn't close")
+        peer.look_for_more()
+    except Different as found:
+        raise Different(f"{found}; of the server: {peer.found}" if peer.found and peer.found not in str(found) else str(found)) from None
+    finally:
+        peer.close()
+
+
+def play(case: Case, player: Player, is_last: bool) -> Optional[str]:
+    """What differs in a case; None if nothing does."""
+    with tempfile.TemporaryDirectory(prefix="client-") as name:
+        try:
+            play_with(case, player, Path(name), is_last)
+        except Different as found:
+            return f"case {case.name}: {found}"
+    return None
+
+
+def play_in_one(cases: Sequence[Case], words: Sequence[str]) -> List[Optional[str]]:
+    """What differs in each case, by one process of a client's program."""
+    player = Player(words)
+    found = [play(case, player, False) for case in cases]
+    status = player.end()
+    return [*found, f"the client's program ended with status {status}" if status else None]
+
+
+def play_all(cases: Sequence[Case], words: Sequence[str], is_slow: bool) -> List[str]:
+    """What differs in the cases. A program that isn't slow is begun for each case."""
+    if is_slow:
+        found = play_in_one(cases, words)
+    else:
+        with ThreadPoolExecutor(AT_ONCE) as pool:
+            found = list(pool.map(lambda case: play(case, Player(words), True), cases))
+    return [it for it in found if it]

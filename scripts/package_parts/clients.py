@@ -1,0 +1,88 @@
+"""The clients in C, Rust and Go as they are packed: their sources with the cases that they pass, and libmondlexi-dev_VERSION_amd64.deb, which has
+the library of C, static and shared, its header, its page of the manual, and what pkg-config says of it.
+
+Used by: scripts/package; scripts/check-clients, which builds a program with what it has installed.
+"""
+import gzip
+import os
+import re
+import shutil
+import subprocess
+from pathlib import Path
+from typing import Dict
+
+TOP = Path(__file__).resolve().parent.parent.parent
+SOURCES = ("c", "rust", "go", "cases")
+LEFT_OUT = {"out", "target", "Cargo.lock"}
+"""What builds leave."""
+LIBRARIES = "/usr/lib/x86_64-linux-gnu"
+CONTROL = """Package: libmondlexi-dev
+Version: {version}
+Architecture: amd64
+Maintainer: {maintainer}
+Installed-Size: {size}
+Section: libdevel
+Priority: optional
+Depends: libc6 (>= {libc})
+Recommends: pkg-config
+Description: client library in C of a server of durable words
+ The library mondlexi, static and shared, with its header and its page
+ of the manual. A program connects by it to a server of Mondlexi.
+"""
+
+
+def can_be_built() -> bool:
+    """Whether this machine has what libmondlexi-dev is made by."""
+    return all(shutil.which(need) for need in ("cc", "make", "readelf", "dpkg-deb"))
+
+
+def client_sources() -> Dict[str, str]:
+    """The files of the clients, by their paths, with their paths in a package: the same ones."""
+    paths = (path for name in SOURCES for path in sorted((TOP / "clients" / name).rglob("*")))
+    files = (path.relative_to(TOP) for path in paths if path.is_file() and not LEFT_OUT & set(path.parts))
+    return {str(path): str(path) for path in files}
+
+
+def libc_of(library: Path) -> str:
+    """The least version of the C library that a shared library needs."""
+    told = subprocess.run(["readelf", "--version-info", library], stdout=subprocess.PIPE, text=True, check=True).stdout
+    found = {tuple(map(int, it.split("."))) for it in re.findall(r"GLIBC_(\d+(?:\.\d+)+)", told)}
+    return ".".join(map(str, max(found, default=(2, 2, 5))))
+
+
+def pack_page(page: Path, moment: int) -> None:
+    """Packs a page of the manual, as dpkg's packages have it."""
+    packed = page.with_name(f"{page.name}.gz")
+    packed.write_bytes(gzip.compress(page.read_bytes(), 9, mtime=moment))
+    packed.chmod(0o644)
+    page.unlink()
+
+
+def lay_out(root: Path, room: Path, moment: int) -> None:
+    """The files of the package, below a folder."""
+    words = [f"OUT={room}/out", f"DESTDIR={root}", "PREFIX=/usr", f"LIBDIR={LIBRARIES}", "CFLAGS=-O2"]
+    subprocess.run(["make", "-s", "-C", TOP / "clients/c", *words, "install"], check=True)
+    pack_page(root / "usr/share/man/man3/mondlexi.3", moment)
+    documents = root / "usr/share/doc/libmondlexi-dev"
+    documents.mkdir(parents=True)
+    shutil.copyfile(TOP / "clients/c/README.md", documents / "README.md")
+    for path in (root, *root.rglob("*")):
+        if not path.is_symlink():
+            path.chmod(0o755 if path.is_dir() else 0o644)
+
+
+def make_library(to: Path, room: Path, version: str, maintainer: str, moment: int) -> Path:
+    """Makes libmondlexi-dev in a folder. `room`: an empty folder to work in; `moment`: of its files, in seconds since 1970. Its path."""
+    root = room / "library"
+    root.mkdir()
+    lay_out(root, room, moment)
+    size = sum(path.stat().st_size for path in root.rglob("*") if path.is_file() and not path.is_symlink()) // 1024
+    control = root / "DEBIAN"
+    control.mkdir()
+    libc = libc_of(root / LIBRARIES[1:] / "libmondlexi.so.0")
+    (control / "control").write_text(CONTROL.format(version=version, maintainer=maintainer, size=size, libc=libc))
+    (control / "triggers").write_text("activate-noawait ldconfig\n")
+    made = to / f"libmondlexi-dev_{version}_amd64.deb"
+    subprocess.run(["dpkg-deb", "--root-owner-group", "-Zgzip", "-z6", "--build", root, made], check=True, stdout=subprocess.DEVNULL,
+                   env={**os.environ, "SOURCE_DATE_EPOCH": str(moment)})
+    return made

@@ -1,0 +1,201 @@
+"""The recipes of the client in Python, one call after the other: what each tells, and where it ends. `clients` is `mondlexi`, or
+`awaited` for its asyncio twin.
+
+Used by: scripts/check-programs. scripts/check-recipes runs them in many processes. Nothing here passes or fails by how fast the
+machine is.
+"""
+import random
+import subprocess
+import sys
+
+from .common import PATIENCE, TOP, raises, same, wrong
+from .reads import Peers
+
+import mondlexi  # noqa: E402
+import mondlexi.recipes  # noqa: E402
+from mondlexi.recipes import Damaged, NoRoom  # noqa: E402
+
+WORDS = 1200
+SHORT, LONG = 0.2, 300.0
+"""Leases in seconds: one that ends while it is waited for, and one that doesn't."""
+STEPS = 60
+KEYS = 12
+TENANTS = {"recipes": WORDS, "leases": 80, "numbers": 1010, "pairs": 400}
+"""The tenants of these checks, and of the examples."""
+
+
+def try_locks(clients, client):
+    """Locks 0 to 9, in the words 0 to 19."""
+    first, second = (clients.recipes.Locks(client, owner, 10) for owner in (1, 2))
+    both = first.acquire([3, 1, 3], LONG)
+    same((both.locks, both.tokens), ((1, 3), (1, 1)), "a grant of two locks")
+    same(second.acquire([3, 4], LONG), None, "locks of which one is held")
+    same(second.acquire([4], LONG).tokens, (1,), "a lock beside them")
+    longer = first.renew(both, SHORT)
+    same((longer.tokens, longer.left() <= SHORT < both.left()), ((1, 1), True), "a lease that was renewed")
+    same(first.renew(both, LONG), None, "a lease that was renewed since")
+    taken = second.acquire([1], LONG, wait=PATIENCE)
+    same((taken.tokens, longer.left() <= 0), ((2,), True), "a lock that was taken over, once its lease was over")
+    same(first.renew(longer, LONG), None, "a lease of locks of which one was taken over")
+    first.release(longer)
+    same(second.acquire([3], LONG).tokens, (2,), "a lock that was given back beside one that was taken over")
+    second.release(taken)
+    same(client.get(3), 0, "the holder of a lock that was given back")
+    for wanted, lease in (([], 1), ([10], 1), (range(9), 1), ([0], 0.009), ([0], 656)):
+        raises(ValueError, f"the locks {wanted} for {lease} seconds", first.acquire, wanted, lease)
+    last = both._replace(locks=(5,), tokens=(client.get(10),), word=1 << 32 | 0xffff << 16 | 100)
+    same(clients.recipes.resent(client, [(11, 0, last.word)]), True, "a lease that was renewed as often as its bits tell")
+    same(first.renew(last, LONG).tokens, (1,), "the token of the renewal after that")
+
+
+def try_blocks(clients, client):
+    """Forty blocks in the words 20 to 59, and three owners."""
+    own, other = (clients.recipes.Blocks(client, owner, 40, at=20) for owner in (0, 2))
+    same(own.mine(), {}, "blocks of a new owner")
+    blocks = own.allocate(15, 7)
+    same((len(set(blocks)), own.mine()), (15, dict.fromkeys(blocks, 7)), "fifteen blocks")
+    others = other.allocate(15) + other.allocate(10)
+    same((sorted(blocks + others), other.allocate(), own.allocate(2)), (list(range(40)), None, None), "all blocks")
+    raises(ValueError, "a block of another owner", own.free, [blocks[0], others[0]])
+    own.free(blocks[:3])
+    same(sorted(other.allocate(3, 8)), sorted(blocks[:3]), "blocks that were given back")
+    new = clients.recipes.Blocks(client, 0, 40, at=20)
+    same(new.mine(), dict.fromkeys(blocks[3:], 7), "what a new process of an owner finds")
+    raises(RuntimeError, "a change of the process before", own.free, blocks[3:])
+    for count in (0, 16):
+        raises(ValueError, f"{count} blocks", new.allocate, count)
+
+
+def try_an_index(index, name):
+    """The same calls of an index and of a dictionary."""
+    model, dice = {}, random.Random(1)
+    for number in range(STEPS):
+        key, other = dice.randrange(KEYS), dice.randrange(KEYS)
+        if dice.random() < 0.6:
+            same(index.put(key, number), model.get(key), f"put of {name}")
+            model[key] = number
+        else:
+            same(index.delete(key), model.pop(key, None), f"delete of {name}")
+        same(index.get(other), model.get(other), f"get of {name}")
+    raises(ValueError, f"a key of {name}", index.get, 1 << 48)
+    raises(ValueError, f"a value of {name}", index.put, 0, -1)
+    return model
+
+
+def fill(index, name, room):
+    """Puts new keys until there is no room."""
+    for key in range(1000, 1001 + room):
+        try:
+            index.put(key, key)
+        except NoRoom:
+            return
+    wrong(f"{name} has no end")
+
+
+def try_indexes(clients, client, own):
+    """A sorted index of sixteen pairs in the words 100 to 167, a hash index of sixteen in 200 to 247."""
+    index = clients.recipes.SortedIndex(client, own, 16, at=100)
+    pairs = sorted(try_an_index(index, "a sorted index").items())
+    same(index.range(), pairs, "all pairs")
+    same(index.range(3, 7), [pair for pair in pairs if 3 <= pair[0] < 7], "some pairs")
+    fill(index, "a sorted index", 16)
+    same(index.count(), 16, "the pairs of an index that is full")
+    same(clients.recipes.SortedIndex(client, own, 16, at=100).count(), 16, "these as another one finds them")
+    same(mondlexi.recipes.SortedIndex.pairs_in(68), 16, "pairs that fit")
+    hashed = clients.recipes.HashIndex(client, own, 16, at=200)
+    model = try_an_index(hashed, "a hash index")
+    fill(hashed, "a hash index", 16)
+    same([hashed.get(key) for key in range(KEYS)], [model.get(key) for key in range(KEYS)], "an index that is full")
+
+
+def try_the_small_ones(clients, client, own):
+    """A queue of five in the words 300 to 306, a counter, a value of bytes from 320 on."""
+    queue = clients.recipes.Queue(client, own, 5, at=300)
+    same((queue.take(), queue.put([1, 2, 3]), queue.put([4, 5, 6]), queue.put([4, 5])), ([], True, False, True), "a queue")
+    same((queue.count(), queue.take(2), queue.take(5), queue.count()), (5, [1, 2], [3, 4, 5], 0), "a queue that was full")
+    for number in range(12):
+        same((queue.put([number, 0]), queue.take(4)), (True, [number, 0]), "a queue that goes round")
+    counter = clients.recipes.Counter(client, own, 310)
+    same([counter.add(), counter.add(5), counter.add(-2), counter.get()], [1, 6, 4, 4], "a counter")
+    raises(ValueError, "a sum below 0", counter.add, -5)
+    wide = clients.recipes.Wide(client, own, 320)
+    empty = wide.get()
+    same((empty.value, wide.replace(empty, b"x" * 84), wide.replace(empty, b"y"), wide.get().value), (b"", True, False, b"x" * 84),
+         "a value of bytes")
+    wide.put(b"")
+    same(wide.get().value, b"", "an empty value")
+    raises(ValueError, "a value of too many bytes", wide.put, b"x" * 85)
+
+
+def try_a_registry(clients, client):
+    """Three places in the words 400 to 408."""
+    registry, other = (clients.recipes.Registry(client, 3, at=400) for _ in range(2))
+    places = [registry.join(LONG), other.join(LONG), registry.join(SHORT)]
+    same(sorted(place.number for place in places), [0, 1, 2], "places")
+    same(other.join(LONG), None, "a place of a registry that is full")
+    own = clients.Counted(client, places[2].address)
+    same(own.cas([(410, 0, 1)]).made, True, "a change with the count of a place")
+    taken = other.join(LONG, wait=PATIENCE)
+    same((taken.number, places[2].left() <= 0), (places[2].number, True), "a place whose lease is over")
+    raises(RuntimeError, "a change with the count of a place that was taken over", own.cas, [(410, 1, 2)])
+    same((registry.renew(places[2], LONG), registry.renew(places[0], LONG).number), (None, places[0].number), "renewed places")
+    other.leave(places[1])
+    same(registry.join(LONG).number, places[1].number, "a place that was left")
+
+
+def try_damaged(clients, client, own):
+    """Words that are none of a recipe."""
+    client.cas([(500, 0, 1), (503, 0, 1), (520, 0, 1), (540, 0, 85)])
+    raises(Damaged, "no sorted index", clients.recipes.SortedIndex(client, own, 2, at=500).count)
+    raises(Damaged, "no queue", clients.recipes.Queue(client, own, 5, at=520).count)
+    raises(Damaged, "no value of bytes", clients.recipes.Wide(client, own, 540).get)
+    if clients is mondlexi:
+        raises(ValueError, "an index past the last word", mondlexi.recipes.SortedIndex, client, own, 16, at=WORDS - 67)
+
+
+def try_resent(clients):
+    """A change whose reply is lost is sent again, and the words tell whether an earlier sending was made."""
+    lost, entry = ["OK 9\n", ""], [(1, 2, 3)]
+    for told, texts in ((True, ["YES\n"]), (True, ["NO 1 3\n", "VAL 3\n"]), (False, ["NO 1 4\n", "VAL 4\n"])):
+        with clients.Client(Peers(lost, lost, ["OK 9\n", *texts, "BYE\n"]).at, "t") as client:
+            same(clients.recipes.resent(client, entry), told, f"a change that is sent again and answered {texts}")
+    with clients.Client(Peers(["OK 9\n", "NO 1 3\n", "BYE\n"]).at, "t") as client:
+        same(clients.recipes.resent(client, entry), False, "a change that another one made before")
+    for texts, kind in (([lost], mondlexi.Unknown), ([["OK 9\n", "FAULT\n", "BYE\n"]], mondlexi.Unknown)):
+        client = clients.Client(Peers(*texts).at, "t")
+        raises(kind, f"a change after {texts}", clients.recipes.resent, client, entry, 0.1)
+    client = clients.Client(Peers(["OK 9\n", "BYE\n"]).at, "t")
+    client.close()
+    raises(mondlexi.Lost, "a change that is not sent", clients.recipes.resent, client, entry, 0.1)
+
+
+def example(name, server, tenant, *words, given="", status=0):
+    """What an example of the client prints; it ends with this status."""
+    command = [sys.executable, "-B", TOP / "clients/python/examples" / f"{name}.py", server.at, tenant, *words]
+    ended = subprocess.run(command, input=given.encode(), stdout=subprocess.PIPE, timeout=PATIENCE)
+    same(ended.returncode, status, f"the status of the example {name} {' '.join(words)}")
+    return ended.stdout.decode()
+
+
+def try_examples(server):
+    """Each example of the client, once or twice."""
+    told = [sys.executable, "-c", "import os; print(os.environ['MONDLEXI_TOKENS'])"]
+    same([example("lock_table", server, "leases", "1", "7,3", *told) for _ in range(2)], ["1,1\n", "2,2\n"], "tokens")
+    example("lock_table", server, "leases", "1", "7", sys.executable, "-c", "import sys; sys.exit(5)", status=5)
+    taken = example("allocator", server, "numbers", "4", "take", "3", "9").split()
+    same(len(taken), 3, "blocks that were taken")
+    same(example("allocator", server, "numbers", "4", "mine"), "".join(f"{block} 9\n" for block in taken), "blocks of an owner")
+    same(example("allocator", server, "numbers", "4", "give", *taken), "", "blocks that are left")
+    same(example("sorted_index", server, "pairs", "10", "20", given="17 4711\n3 5\n12 6\n"), "12 6\n17 4711\n", "pairs of a range")
+
+
+def try_recipes(clients, server):
+    """All of these, at a server with a tenant of its own for each client."""
+    with clients.Client(server.at, "recipes", timeout=PATIENCE) as client:
+        own = clients.Counted(client, WORDS - 1)
+        try_locks(clients, client)
+        try_blocks(clients, client)
+        try_indexes(clients, client, own)
+        try_the_small_ones(clients, client, own)
+        try_a_registry(clients, client)
+        try_damaged(clients, client, own)
