@@ -27,14 +27,15 @@ class Backup:
 
     def __init__(self, folder: Path, mwshow: Path):
         self.folder, self.mwshow, self.programs = folder, mwshow, mwshow.parent
-        self.served, self.kept = folder / "served", folder / "kept"
-        self.served.mkdir()
-        self.kept.mkdir()
+        self.served, self.kept, self.figures = folder / "served", folder / "kept", folder / "figures"
+        for it in (self.served, self.kept, self.figures):
+            it.mkdir()
 
     def words(self, pages: Path) -> List[str]:
         """The command that runs it, with the pages at this socket."""
         text = SCRIPT.read_text()
-        for old, new in (("served=/srv/mw\n", self.served), ("pages=/run/mondlexi/pages\n", pages), ("kept=/backup\n", self.kept)):
+        for old, new in (("served=/srv/mw\n", self.served), ("pages=/run/mondlexi/pages\n", pages), ("kept=/backup\n", self.kept),
+                         ("figures=/var/lib/prometheus/node-exporter\n", self.figures)):
             same(text.count(old), 1, f"{SCRIPT.name}: how often it has {old!r}")
             text = text.replace(old, f"{old.partition('=')[0]}='{new}'\n")
         path = self.folder / SCRIPT.name
@@ -57,6 +58,11 @@ class Backup:
         """What is kept."""
         return {it.name: {file.name: file.read_bytes() for file in it.iterdir()} for it in self.kept.iterdir()}
 
+    def last(self) -> float:
+        """The figure that node_exporter finds: when the last backup was whole. 0 if there is none."""
+        path = self.figures / "mondlexi.prom"
+        return float(path.read_text().split()[-1]) if path.exists() else 0.0
+
     def words_of(self, file: Path) -> List[int]:
         """The words of a copy, as mwshow tells them."""
         told = subprocess.run([self.mwshow, "--words", file], stdout=subprocess.PIPE, text=True, timeout=PATIENCE).stdout
@@ -64,8 +70,10 @@ class Backup:
 
     def keeps_one_more(self, word: int, what: str) -> None:
         """A run that goes well: one more folder has all files, with this word 0 of the tenant a, and no other one has changed."""
-        before, ended = self.copies(), self.run()
+        before, began, ended = self.copies(), int(time.time()), self.run()
         same((ended.returncode, ended.stdout), (0, ""), f"{SCRIPT.name}, {what}")
+        same(began <= self.last() <= time.time(), True, f"the moment of the last backup, {what}: {self.last()}")
+        same([f"{it.name} {it.stat().st_mode & 0o777:o}" for it in self.figures.iterdir()], ["mondlexi.prom 644"], f"the figure's file, {what}")
         after = self.copies()
         new = [it for it in after if it not in before]
         same((len(new), {it: after.get(it) for it in before}), (1, before), f"the copies that are kept, {what}")
@@ -75,7 +83,8 @@ class Backup:
 
     def keeps_nothing(self, step: str, what: str) -> None:
         """A run that fails: its status, its last line, and all that is kept is as it was."""
-        before, ended = self.copies(), self.run()
+        before, moment, ended = self.copies(), self.last(), self.run()
+        same(self.last(), moment, f"the moment of the last backup, {what}")
         last = f"mondlexi-backup: failed at {step}; earlier copies are as they were\n"
         same((ended.returncode != 0, ended.stdout.endswith(last)), (True, True), f"{SCRIPT.name}, {what}, which says {ended.stdout!r}")
         same(self.copies(), before, f"what is kept, {what}")

@@ -5,8 +5,8 @@ puts a proxy in front by those of docs/MANY-MACHINES.md, and removes the package
 usage: as_operator.py PACKAGE BOOT [ARCHIVE]
 
 BOOT is 1 in the first boot and 2 in the next one, where the unit that was enabled must run. Each thing that was tried is a line on
-standard output, the last one is `all well`. Used by: booted.py, which runs it in a container. It needs the package's client, Python
-alone otherwise, and no file of this repository.
+standard output, the last one is `all well`. Used by: booted.py, which runs it in a container. It needs units.py beside it, the
+package's client, Python alone otherwise, and no other file of this repository.
 """
 import os
 import pwd
@@ -17,187 +17,13 @@ import sys
 import threading
 import time
 from pathlib import Path
-from typing import Any, Callable, List, NamedTuple, NoReturn, Tuple
 
-PATIENCE = 60
-"""For how many seconds what has to come is waited for."""
-LOCAL, PORT = "mondlexi-local", "mondlexi"
-ROOM = Path("/srv/mw")
-PAGE = Path("/usr/share/doc/mondlexi/docs/OPERATING.md")
-PROXY_PAGE = PAGE.with_name("MANY-MACHINES.md")
-PROXY = Path("/etc/haproxy/mondlexi")
-
-
-class Unit(NamedTuple):
-    """A unit of contrib: its name, where its server listens for clients and for the administrator, and the group of its process."""
-    name: str
-    listen: str
-    admin: str
-    group: str
-
-
-UNITS = (Unit(LOCAL, "unix:/run/mondlexi/socket", "unix:/run/mondlexi/admin", "mwclients"),
-         Unit(PORT, "127.0.0.1:7000", "127.0.0.1:7001", "mw"))
-
-
-def wrong(text: str) -> NoReturn:
-    raise SystemExit(f"as_operator: {text}")
-
-
-def same(found: object, wanted: object, what: str) -> None:
-    if found != wanted:
-        wrong(f"{what}: {found!r} in place of {wanted!r}")
-
-
-def ended(*words: object) -> "subprocess.CompletedProcess[str]":
-    """A command that has ended, with all that it printed."""
-    return subprocess.run([str(it) for it in words], stdin=subprocess.DEVNULL, stdout=subprocess.PIPE, stderr=subprocess.STDOUT,
-                          universal_newlines=True, timeout=PATIENCE)
-
-
-def run(*words: object) -> str:
-    """What a command prints; it must go well."""
-    it = ended(*words)
-    same((it.returncode, it.stdout if it.returncode else ""), (0, ""), " ".join(map(str, words)))
-    return it.stdout
-
-
-def wait_until(what: str, is_so: Callable[[], bool]) -> None:
-    """Waits for something that must come."""
-    until = time.monotonic() + PATIENCE
-    while not is_so():
-        if time.monotonic() > until:
-            wrong(f"{what} didn't come")
-        time.sleep(0.05)
-
-
-# The unit, as systemd shows it
-
-
-def shown(unit: str, name: str) -> str:
-    """A property of a unit."""
-    return run("systemctl", "show", "--value", "--property", name, unit).strip()
-
-
-def state(unit: str) -> Tuple[str, str]:
-    """Whether a unit is active, and how it ended."""
-    return shown(unit, "ActiveState"), shown(unit, "Result")
-
-
-def main_process(unit: str) -> int:
-    """The server of a unit; 0 if there is none."""
-    return int(shown(unit, "MainPID"))
-
-
-def servers() -> List[str]:
-    """The processes of servers."""
-    return [it.parent.name for it in Path("/proc").glob("[0-9]*/comm") if it.read_text() == "mwserve\n"]
-
-
-def journal(unit: str) -> List[str]:
-    """What the journal has of a unit in this boot: of its processes, and of systemd about it."""
-    return run("journalctl", "--boot", "--unit", unit, "--output", "cat", "--no-pager").splitlines()
-
-
-def wait_for_ready(unit: Unit, starts: int) -> None:
-    """Waits until the server has said so often in this boot that it is ready: systemd isn't told of it."""
-    ready = f"ready {unit.listen.rpartition(':')[2] if unit.name == PORT else unit.listen}"
-    wait_until(f"the line `{ready}` of {unit.name}", lambda: journal(unit.name).count(ready) >= starts)
-
-
-def ready_lines(unit: Unit) -> int:
-    """How many servers of this unit have become ready in this boot."""
-    return sum(line.startswith("ready ") for line in journal(unit.name))
-
-
-def begin(unit: Unit, how: str = "start") -> None:
-    """Starts a unit, or restarts it, and waits until it is ready."""
-    starts = ready_lines(unit) + 1
-    # (systemd refuses a sixth start in ten seconds, if nobody resets its count)
-    ended("systemctl", "reset-failed", unit.name)
-    run("systemctl", how, unit.name)
-    wait_for_ready(unit, starts)
-    same((run("systemctl", "is-active", unit.name), "active (running)" in run("systemctl", "status", unit.name)), ("active\n", True), unit.name)
-
-
-def end(unit: Unit) -> None:
-    """Stops a unit; it has not failed then."""
-    run("systemctl", "stop", unit.name)
-    same((*state(unit.name), main_process(unit.name)), ("inactive", "success", 0), f"{unit.name} after systemctl stop")
-
-
-class DropIn:
-    """A file beside the unit that adds lines to its section [Service], while a block runs."""
-
-    def __init__(self, unit: str, lines: str):
-        self.path, self.lines = Path(f"/etc/systemd/system/{unit}.service.d/tried.conf"), lines
-
-    def __enter__(self) -> None:
-        self.path.parent.mkdir(exist_ok=True)
-        self.path.write_text(f"[Service]\n{self.lines}")
-        run("systemctl", "daemon-reload")
-
-    def __exit__(self, *_: object) -> None:
-        self.path.unlink()
-        self.path.parent.rmdir()
-        run("systemctl", "daemon-reload")
-
-
-# The page's commands
-
-
-def section_of(page: Path, section: str) -> str:
-    """The text of a section of a page."""
-    text = re.split(rf"^##+ {re.escape(section)}$", page.read_text(), flags=re.MULTILINE)[1]
-    return re.split(r"^##", text, flags=re.MULTILINE)[0]
-
-
-def blocks(section: str, page: Path = PAGE) -> List[List[Tuple[str, str]]]:
-    """The indented blocks of a section of a page that have commands of root: each command, with what the page says that it prints."""
-    text = section_of(page, section)
-    found = []
-    for block in re.findall(r"(?:^ {4}.*\n)+", text + "\n", re.MULTILINE):
-        parts = re.split(r"^ +# ", block, flags=re.MULTILINE)[1:]
-        found.append([(first.split("   ")[0], "".join(f"{it.strip()}\n" for it in rest.splitlines()))
-                      for first, _, rest in (part.partition("\n") for part in parts)])
-    return [it for it in found if it]
-
-
-def type_block(block: List[Tuple[str, str]], folder: Path) -> None:
-    """Gives a block's commands to one shell, one by one. Each must go well, and print what the page says, if it says something."""
-    script = "".join(f"{command}\nprintf '\\n:%d\\n' $?\n" for command, _ in block)
-    told = subprocess.run(["bash"], input=script, cwd=folder, stdout=subprocess.PIPE, stderr=subprocess.STDOUT,
-                          universal_newlines=True, timeout=PATIENCE).stdout
-    parts = re.split(r"\n:(\d+)\n", told)
-    same(len(parts), 2 * len(block) + 1, f"the commands that ended, in {told!r}")
-    for (command, wanted), printed, status in zip(block, parts[::2], parts[1::2]):
-        same(status, "0", f"the status of `{command}`, which prints {printed!r}")
-        if wanted:
-            same(printed, wanted, f"what `{command}` prints")
+from units import (LOCAL, OPTIONS, PAGE, PATIENCE, PROXY, PROXY_PAGE, ROOM, UNITS, DropIn, Unit, begin, blocks, client, end, ended, journal, main_process,
+                   refuses_to_start, run, same, section_of, servers, shown, state, try_to_talk, type_block, wait_until, word,
+                   wrong)
 
 
 # What clients and root see
-
-
-def client(unit: Unit) -> Any:
-    """A client of the tenant t. The package's own: so it is imported once the package is installed."""
-    import mondlexi
-    return mondlexi.Client(unit.listen, "t")
-
-
-def try_to_talk(unit: Unit) -> int:
-    """A change answered YES, and a word that is read. Gives the word 0."""
-    with client(unit) as at:
-        before = int(at.get(0))
-        same((at.cas([(0, before, before + 1)]).made, at.get(0)), (True, before + 1), f"a change at {unit.name}")
-    run("mondlexi-check", unit.admin)
-    return before + 1
-
-
-def word(unit: Unit) -> int:
-    """The word 0."""
-    with client(unit) as at:
-        return int(at.get(0))
 
 
 def change_until_killed(unit: Unit) -> int:
@@ -236,12 +62,12 @@ def try_process(unit: Unit) -> None:
     same({int(field(process, it), 16) for it in ("CapInh", "CapPrm", "CapEff", "CapBnd", "CapAmb")}, {0}, "capabilities")
     limits = Path(f"/proc/{process}/limits").read_text()
     same([re.findall(rf"^{it} +(\S+) +(\S+)", limits, re.MULTILINE) for it in ("Max open files", "Max file size")],
-         [[("1024", "1024")], [("unlimited", "unlimited")]], "LimitNOFILE=, LimitFSIZE=")
-    same(shown(unit.name, "TasksMax"), "512", "TasksMax=")
+         [[("8192", "8192")], [("unlimited", "unlimited")]], "LimitNOFILE=, LimitFSIZE=")
+    same(shown(unit.name, "TasksMax"), "4608", "TasksMax=")
     for folder in ("/", "/etc", "/usr", "/var", "/run", "/run/lock", "/sys/kernel"):
         refused = "Read-only file system" in inside(process, f"touch {folder}/tried")
         same(refused, True, f"that {folder} can't be written (ProtectSystem=, ReadOnlyPaths=)")
-    for folder in ("/srv/mw", *(["/run/mondlexi"] if unit.name == LOCAL else [])):
+    for folder in ("/srv/mw", "/run/mondlexi"):
         same(inside(process, f"touch {folder}/tried && rm {folder}/tried"), "", f"that {folder} can be written (ReadWritePaths=, RuntimeDirectory=)")
     Path("/tmp/tried").touch()
     Path("/home/tried").touch()
@@ -275,67 +101,100 @@ def try_unit(unit: Unit) -> None:
     """A unit that runs: its process, a client, no reload, a restart, SIGKILL, a start and a stop."""
     try_process(unit)
     value = try_to_talk(unit)
+    same(run("mondlexi", unit.listen, "t", "get", "0"), f"{value}\n", "what the command mondlexi prints")
     server = main_process(unit.name)
     refused = ended("systemctl", "reload", unit.name)
     same((refused.returncode != 0, "not applicable" in refused.stdout, main_process(unit.name)), (True, True, server), "systemctl reload")
     same(try_to_talk(unit), value + 1, "the word after a reload that was refused")
     begin(unit, "restart")
     same((main_process(unit.name) != server, word(unit)), (True, value + 1), "the word after a restart")
+    server = main_process(unit.name)
     value = change_until_killed(unit)
-    wait_until("the end of a killed server", lambda: main_process(unit.name) == 0)
-    same((*state(unit.name), ended("systemctl", "is-failed", unit.name).stdout), ("failed", "signal", "failed\n"), "a unit whose server was killed")
-    time.sleep(1)
-    same((state(unit.name)[0], shown(unit.name, "NRestarts")), ("failed", "0"), "a unit whose server was killed, a second later")
-    begin(unit)
+    wait_until("a server in place of a killed one", lambda: main_process(unit.name) not in (0, server) and shown(unit.name, "ActiveState") == "active")
+    same(shown(unit.name, "NRestarts"), "1", "the restarts of a unit whose server was killed")
     same(word(unit) in (value, value + 1), True, f"the word {word(unit)} after SIGKILL, of whom the last YES was for {value}")
     try_to_talk(unit)
+    os.kill(main_process(unit.name), signal.SIGTERM)
+    wait_until("the end of a server by SIGTERM", lambda: state(unit.name) == ("inactive", "success"))
+    for _ in range(6):
+        run("systemctl", "restart", unit.name)
+    try_to_talk(unit)
     end(unit)
-    print(f"{unit.name}: started, its process as the unit says, talked to, no reload, restarted, killed at change {value}, started, stopped")
+    print(f"{unit.name}: started, its process as the unit says, talked to, no reload, restarted, killed at change {value} and started again, "
+          "started six times at once, stopped")
 
 
 def try_second_unit() -> None:
-    """The other unit, while the first one serves: it runs, and finds the file in use."""
-    begin(UNITS[0])
-    begin(UNITS[1])
-    same((ended("mondlexi-check", UNITS[1].admin).stdout, "tenant t: in use" in "".join(journal(PORT))), ("down: t\n", True), "a second server")
-    end(UNITS[1])
-    end(UNITS[0])
-    print("a second unit on the same files: in use")
+    """The other unit ends the first one, and serves its files."""
+    first, second = UNITS
+    begin(first)
+    value = try_to_talk(first)
+    begin(second)
+    same((state(first.name), word(second), len(servers())), (("inactive", "success"), value, 1), "a unit whose other one was started")
+    begin(first)
+    same((state(second.name), word(first), len(servers())), (("inactive", "success"), value, 1), "the first one again")
+    end(first)
+    print("the two units conflict: each start ends the other one first")
 
 
-def try_restart_on_abnormal(unit: Unit) -> None:
-    """With the Restart= of OPERATING a unit whose server was killed is started again."""
-    with DropIn(unit.name, "Restart=on-abnormal\n"):
-        begin(unit)
-        value, server, starts = try_to_talk(unit), main_process(unit.name), ready_lines(unit)
-        os.kill(server, signal.SIGKILL)
-        wait_for_ready(unit, starts + 1)
-        same((main_process(unit.name) not in (0, server), word(unit)), (True, value), "a unit with Restart=on-abnormal after SIGKILL")
-        end(unit)
-    print("Restart=on-abnormal: a killed server is started again")
+def try_failing_starts(unit: Unit) -> None:
+    """`systemctl start` fails if nothing is served: without the tenants file, with a wrong option, and if no tenant is up. With one that is up it goes well."""
+    tenants, chosen = ROOM / "tenants", OPTIONS.read_text()
+    text = tenants.read_text()
+    tenants.rename(ROOM / "tenants.away")
+    refuses_to_start(unit, "refused 2 file", "without a tenants file")
+    (ROOM / "tenants.away").rename(tenants)
+    OPTIONS.write_text(chosen.replace("--clients 256", "--clients none"))
+    refuses_to_start(unit, "none", "with a wrong option")
+    OPTIONS.write_text(chosen.replace(" --strict", ""))
+    (ROOM / "t.mw").rename(ROOM / "t.away")
+    refuses_to_start(unit, "mondlexi-ready: no tenant is up", "whose only tenant is down")
+    (ROOM / "t.away").rename(ROOM / "t.mw")
+    tenants.write_text(f"{text}away 2 1 away.mw\n")
+    begin(unit)
+    same(ended("mondlexi-health", "unix:/run/mondlexi/pages").stdout, "down away\n", "mondlexi-health of a unit with a tenant that is down")
+    end(unit)
+    tenants.write_text(text)
+    OPTIONS.write_text(chosen)
+    print(f"{unit.name}: systemctl start fails if nothing is served, and says why")
+
+
+def try_full(unit: Unit) -> None:
+    """A client for whom no session is free is told so, after the --wait of the units."""
+    import mondlexi
+    chosen = OPTIONS.read_text()
+    OPTIONS.write_text(chosen.replace("--clients 256", "--clients 2"))
+    begin(unit)
+    with client(unit), client(unit):
+        try:
+            client(unit)
+        except mondlexi.Full:
+            pass
+        else:
+            wrong("a third client was served by --clients 2")
+    end(unit)
+    OPTIONS.write_text(chosen)
+    print(f"{unit.name}: a server that is full says so")
 
 
 def try_strict(unit: Unit) -> None:
-    """With --strict the unit fails if a tenant's file doesn't open; without it the unit runs, and the tenant is down."""
-    command = re.findall(r"^ExecStart=(.*)$", run("systemctl", "cat", unit.name), re.MULTILINE)[0]
+    """With --strict the unit fails if a tenant's file doesn't open."""
+    chosen = OPTIONS.read_text()
+    OPTIONS.write_text(chosen.replace(" --strict", "").replace("--verbose", "--strict --verbose"))
     (ROOM / "t.mw").rename(ROOM / "t.away")
-    with DropIn(unit.name, f"ExecStart=\nExecStart={command} --strict\n"):
-        run("systemctl", "start", unit.name)
-        wait_until("the end of a server with --strict", lambda: state(unit.name)[0] == "failed")
-        same((*state(unit.name), shown(unit.name, "ExecMainStatus")), ("failed", "exit-code", "1"), "a unit with --strict whose file isn't there")
-        same("tenant t: disk" in journal(unit.name), True, "its note in the journal")
+    refuses_to_start(unit, "tenant t: disk", "with --strict whose file isn't there")
+    same((*state(unit.name), shown(unit.name, "ExecMainStatus")), ("failed", "exit-code", "1"), "a unit with --strict whose file isn't there")
     (ROOM / "t.away").rename(ROOM / "t.mw")
+    OPTIONS.write_text(chosen)
     print("--strict: the unit fails, with status 1, if a file doesn't open")
 
 
 def try_own_administrators(unit: Unit) -> None:
     """The administrator's socket in a folder for another group, by the lines of OPERATING."""
-    lines = re.findall(r"^ +((?:ReadWritePaths|ExecStartPre)=.*)$", PAGE.read_text(), re.MULTILINE)
-    same([it.split("=")[0] for it in lines], ["ReadWritePaths", "ExecStartPre"], "the lines of OPERATING for another group")
+    lines = re.findall(r"^ +((?:Environment|ReadWritePaths|ExecStartPre)=.*)$", PAGE.read_text(), re.MULTILINE)
+    same([it.split("=")[0] for it in lines], ["Environment", "ReadWritePaths", "ExecStartPre"], "the lines of OPERATING for another group")
     run("groupadd", "--system", "mwadmins")
-    command = re.findall(r"^ExecStart=(.*)$", run("systemctl", "cat", unit.name), re.MULTILINE)[0]
-    command = command.replace(f"--admin {unit.admin}", "--admin unix:/run/mondlexi-admin/socket")
-    with DropIn(unit.name, "\n".join([*lines, "ExecStart=", f"ExecStart={command}", ""])):
+    with DropIn(unit.name, "\n".join([*lines, ""])):
         begin(unit)
         made = run("stat", "-c", "%U %G %a", "/run/mondlexi-admin", "/run/mondlexi-admin/socket")
         same(made, "mw mwadmins 2750\nmw mwadmins 660\n", "folder and socket")
@@ -385,33 +244,68 @@ def try_move(unit: Unit) -> None:
     print("a tenant moved to another server, by the page's commands")
 
 
-def try_cron_backup(unit: Unit) -> None:
-    """The backup for cron: twice while the unit shows pages, and once while no server runs."""
-    command = re.findall(r"^ExecStart=(.*)$", run("systemctl", "cat", unit.name), re.MULTILINE)[0]
-    kept = Path("/backup")
-    kept.mkdir()
-    with DropIn(unit.name, f"ExecStart=\nExecStart={command} --http unix:/run/mondlexi/pages\n"):
-        begin(unit)
-        value = try_to_talk(unit)
-        same([run("mondlexi-backup") for _ in range(2)], ["", ""], "mondlexi-backup")
-        end(unit)
+def try_pages(unit: Unit) -> None:
+    """The pages of a unit, at its local socket and at the port of mondlexi-pages.socket; and what the timers start, with an alarm if it fails."""
+    begin(unit)
+    run("systemctl", "enable", "--now", "mondlexi-pages.socket")
+    for place in ("unix:/run/mondlexi/pages", "127.0.0.1:7002"):
+        same(run("mondlexi-health", place), "", f"mondlexi-health {place} at {unit.name}")
+    same('mondlexi_up{tenant="t"} 1\n' in run("curl", "-sS", "http://127.0.0.1:7002/metrics"), True, f"the figures of {unit.name} at a port")
+    same(run("stat", "-c", "%U %G %a", "/run/mondlexi/pages"), f"mw {unit.group} 660\n", "the socket of the pages")
+    run("systemctl", "start", "mondlexi-health")
+    end(unit)
+    run("systemctl", "disable", "--now", "mondlexi-pages.socket")
+    print(f"{unit.name}: its pages at a local socket, and at a port by mondlexi-pages.socket")
+
+
+def fails_with_alarm(name: str, why: str, mail: Path) -> None:
+    """A unit of a timer fails: the journal says why, and the alarm goes there and by mail."""
+    same(ended("systemctl", "start", name).returncode != 0, True, f"that {name} fails")
+    alarm = f"mondlexi-failed@{name}.service.service"
+    wait_until(f"the alarm of {name}", lambda: f"{name}.service has failed" in journal(alarm))
+    wait_until(f"the mail of {name}", lambda: mail.exists() and f"{name}.service has failed root" in mail.read_text() and why in mail.read_text())
+    mail.unlink()
+
+
+def try_timers(unit: Unit) -> None:
+    """What the timers start: the look at the health, and the backup with its figure for node_exporter. Each fails without a server, with an alarm."""
+    kept, figures, mail, mailer = Path("/backup"), Path("/var/lib/prometheus/node-exporter"), Path("/root/mail"), Path("/usr/local/bin/mail")
+    for name in ("mondlexi-health.timer", "mondlexi-backup.timer"):
+        same((run("systemctl", "is-enabled", name), run("systemctl", "is-active", name)), ("enabled\n", "active\n"), name)
+    wait_until("the first minute", lambda: shown("mondlexi-health.timer", "LastTriggerUSec") != "")
+    run("systemctl", "stop", "mondlexi-health.timer")
+    figures.mkdir(parents=True)
+    mailer.write_text(f"#!/bin/sh\n{{ echo \"$2 $3\" | cut -d: -f2-; cat; }} > {mail}.new; mv {mail}.new {mail}\n")
+    mailer.chmod(0o755)
+    begin(unit)
+    value = try_to_talk(unit)
+    for name in ("mondlexi-health", "mondlexi-backup", "mondlexi-backup"):
+        run("systemctl", "start", name)
+    end(unit)
     copies = sorted(kept.iterdir())
     same([sorted(it.name for it in copy.iterdir()) for copy in copies], 2 * [["t.mw", "tenants"]], "the copies of mondlexi-backup")
     same([f"word 0 {value}" in run("mwshow", copy / "t.mw").splitlines() for copy in copies], [True, True], "the word 0 of these copies")
-    failed = ended("mondlexi-backup")
-    same((failed.returncode != 0, "mondlexi-backup: failed at tenant t" in failed.stdout), (True, True), f"mondlexi-backup without a server: {failed.stdout!r}")
-    same(sorted(kept.iterdir()), copies, "the copies after one that failed")
-    run("rm", "-r", kept)
-    print("mondlexi-backup: a copy of each run, and none of one that fails")
+    figure = (figures / "mondlexi.prom").read_text().split()
+    same((figure[-2], time.time() - float(figure[-1]) < PATIENCE), ("mondlexi_backup_time_seconds", True), "the figure of the last backup")
+    fails_with_alarm("mondlexi-health", "no answer", mail)
+    fails_with_alarm("mondlexi-backup", "mondlexi-backup: failed at tenant t", mail)
+    same(sorted(kept.iterdir()), copies, "the copies after a backup that failed")
+    run("rm", "-r", *copies, mailer)
+    print("the timers' health and backup: well with a server, with a figure of the last backup; without one an alarm in the journal and by mail")
 
 
 def try_page(unit: Unit) -> None:
-    """The page's commands for a backup of a stopped server, to restore it, when a tenant is down, and for more words."""
+    """The page's commands for a backup of a server that serves, and of a stopped one, for a drill, to restore it, when a tenant is down,
+    and for more words."""
     begin(unit)
     try_to_talk(unit)
     value = word(unit)
     backup, restore = (it for it in blocks("Backup") if any("systemctl stop" in command for command, _ in it))
+    serving, drill = (next(it for it in blocks("Backup") if any(word_of in command for command, _ in it)) for word_of in ("--unix-socket", "--script"))
+    type_block(serving, ROOM)
+    same(f"word 0 {value}" in run("mwshow", "/backup/today/t.mw").splitlines(), True, "the word 0 of a backup while it serves")
     type_block(backup, ROOM)
+    type_block(drill, ROOM)
     wait_until("the server after a backup", lambda: ended("mondlexi-check", unit.admin).returncode == 0)
     try_to_talk(unit)
     type_block(restore, ROOM)
@@ -423,15 +317,13 @@ def try_page(unit: Unit) -> None:
     wait_until("the server after the tenant has grown", lambda: ended("mondlexi-check", unit.admin).returncode == 0)
     with client(unit) as at:
         same((at.words, at.get(0)), (2000, value), "the tenant that has grown")
-    print("the page's commands for a backup of a stopped server, to restore it, when a tenant is down, and for more words")
+    print("the page's commands for a backup of a server that serves, and of a stopped one, for a drill, to restore it, when a tenant is down, and for more words")
 
 
 def restart_elsewhere(unit: Unit) -> None:
-    """Restarts a unit that has listened at another address in this boot, and waits until it is ready."""
+    """Restarts a unit that listens at another address than its own. It serves once systemctl has ended."""
     ended("systemctl", "reset-failed", unit.name)
-    starts = ready_lines(unit)
     run("systemctl", "restart", unit.name)
-    wait_until(f"the line `ready` of {unit.name}", lambda: ready_lines(unit) > starts)
 
 
 def through_proxy(name: str, tenant: str, code: str) -> str:
@@ -451,11 +343,12 @@ def try_proxy(unit: Unit) -> None:
         hosts.write("127.0.0.1 words.example\n")
     type_block([(command, "") for command, _ in setup], Path("/root"))
     ended("systemctl", "reset-failed", unit.name)
-    starts = ready_lines(unit)
     type_block([(command, "") for command, _ in start], PROXY)
-    wait_until("the server behind the proxy", lambda: ready_lines(unit) > starts)
     wait_until("the proxy", lambda: through_proxy("t", "t", "print(client.words)") == "2000\n")
     same(through_proxy("t", "t", f"print(client.cas([(0, {value}, {value + 1})]).made, client.get(0))"), f"True {value + 1}\n", "a change through the proxy")
+    told = subprocess.run(["mondlexi", "words.example:7443", "t", "--ca", "clients.pem", "--cert", "t.pem", "--key", "t.key", "get", "0"], cwd=PROXY,
+                          stdin=subprocess.DEVNULL, stdout=subprocess.PIPE, stderr=subprocess.STDOUT, universal_newlines=True, timeout=PATIENCE).stdout
+    same(told, f"{value + 1}\n", "what the command mondlexi prints through the proxy")
     for name, tenant in (("t", "u"), ("words.example", "t")):
         same("mondlexi.errors.Refused" in through_proxy(name, tenant, ""), True, f"that {name} doesn't speak for {tenant}")
     report = "print(mondlexi.Administrator('words.example:7444', tls=context).report().tenants[0].name)"
@@ -463,8 +356,8 @@ def try_proxy(unit: Unit) -> None:
     same(through_proxy("t", "t", report.replace("context", "ssl.create_default_context(cafile='clients.pem')")).count("mondlexi.errors."), 1, "a report without a certificate")
     context = "context.load_cert_chain('operator.pem', 'operator.key'); "
     same(through_proxy("t", "t", context + report), "t\n", "the report through the proxy")
-    made = run("stat", "-c", "%U %G %a", "/var/lib/haproxy/mondlexi", "/var/lib/haproxy/mondlexi/socket", "/var/lib/haproxy/mondlexi/admin")
-    same(made, "mw haproxy 2750\n" + 2 * "mw haproxy 660\n", "folder and sockets behind the proxy")
+    made = run("stat", "-c", "%U %G %a", "/var/lib/haproxy/mondlexi", *(f"/var/lib/haproxy/mondlexi/{it}" for it in ("socket", "admin")), "/run/mondlexi/pages")
+    same(made, "mw haproxy 2750\n" + 2 * "mw haproxy 660\n" + "mw mw 660\n", "folder and sockets behind the proxy")
     wait_until("the proxy's log", lambda: '"t" "t" server_a/a' in run("journalctl", "--boot", "--output", "cat", "--no-pager", "--identifier", "haproxy"))
     restart_elsewhere(unit)
     wait_until("the proxy, after a restart of the server", lambda: through_proxy("t", "t", "print(client.get(0))") == f"{value + 1}\n")
@@ -487,13 +380,9 @@ def first_boot(deb: str) -> None:
     type_block(install[:1], Path("/root"))
     found = [ended("systemctl", it, unit.name).stdout.strip() for unit in UNITS for it in ("is-enabled", "is-active")]
     same(found, 2 * ["disabled", "inactive"], "new units")
-    # (the page's next command but one starts the unit; the check after it may come before the server listens)
-    type_block(install[1:-1], Path("/root"))
-    wait_for_ready(local, 1)
-    same(install[-1][1], "all up\n", "the last command of the page")
-    type_block(install[-1:], Path("/root"))
+    type_block(install[1:], Path("/root"))
     same(ended("systemctl", "is-enabled", LOCAL).stdout, "enabled\n", "the unit that was enabled")
-    print("installed with dpkg, and started, by the page's commands")
+    print("installed with dpkg, started and watched, by the page's commands")
     try_socket_users()
     try_unit(local)
     begin(port)
@@ -501,32 +390,80 @@ def first_boot(deb: str) -> None:
     if not denies_addresses():
         print("left out: IPAddressDeny=, which denies nothing in this container")
     try_second_unit()
-    try_restart_on_abnormal(port)
+    for unit in UNITS:
+        try_failing_starts(unit)
+        try_pages(unit)
+    try_timers(port)
+    try_full(port)
     try_strict(local)
     try_own_administrators(local)
     try_without_systemd(local)
     try_move(port)
-    try_cron_backup(local)
     try_page(local)
     try_proxy(local)
+
+
+BEFORE = """#!/bin/sh
+set -e
+[ ! -d /run/systemd/system ] || systemctl stop mondlexi.service mondlexi-local.service
+"""
+"""The script by which the package of version 0.2.0 stopped its units, before an upgrade too."""
+
+
+def package_before(deb: str) -> str:
+    """A package of the version before: this one with the scripts that it had."""
+    tree = Path("/root/before")
+    run("dpkg-deb", "--raw-extract", deb, tree)
+    control = (tree / "DEBIAN/control").read_text()
+    (tree / "DEBIAN/control").write_text(re.sub(r"(?m)^Version: .*$", "Version: 0.1", control))
+    (tree / "DEBIAN/prerm").write_text(BEFORE)
+    for name in ("preinst", "postinst", "postrm"):
+        (tree / "DEBIAN" / name).unlink()
+    run("dpkg-deb", "-Zgzip", "-z1", "--build", tree, "/root/before.deb")
+    return "/root/before.deb"
+
+
+def try_upgrades(unit: Unit, deb: str) -> None:
+    """A package over a running service: it serves the same words after, by a new server. One that doesn't run isn't started. The options stay."""
+    value = try_to_talk(unit)
+    OPTIONS.write_text(OPTIONS.read_text().replace("--clients 256", "--clients 300"))
+    chosen = OPTIONS.read_text()
+    before = package_before(deb)
+    for what, first in (("the same version", deb), ("the version before", before)):
+        server = main_process(unit.name)
+        if first == before:
+            run("dpkg", "--install", before)
+            same((main_process(unit.name), word(unit)), (server, value), "the server after a package whose scripts start nothing")
+        run("dpkg", "--install", deb)
+        same((main_process(unit.name) not in (0, server), word(unit), servers()), (True, value, [str(main_process(unit.name))]), f"an upgrade from {what}")
+        same((OPTIONS.read_text(), "--clients\x00300" in Path(f"/proc/{main_process(unit.name)}/cmdline").read_text()), (chosen, True), "the options")
+    end(unit)
+    run("dpkg", "--install", deb)
+    same((state(unit.name), servers()), (("inactive", "success"), []), "a unit that was stopped, after an upgrade")
+    begin(unit)
+    (ROOM / "t.mw").rename(ROOM / "t.away")
+    told = ended("dpkg", "--install", deb)
+    same((told.returncode, f"mondlexi: {unit.name}.service doesn't start" in told.stdout), (0, True), f"an upgrade whose server doesn't start: {told.stdout}")
+    (ROOM / "t.away").rename(ROOM / "t.mw")
+    begin(unit)
+    print("upgrades: a server that runs is restarted, also from the version before; one that was stopped stays so; one that doesn't start is told of; "
+          "the options are kept")
 
 
 def second_boot(deb: str) -> None:
     """The unit that was enabled runs; the package is installed again, removed and purged."""
     local = UNITS[0]
-    wait_for_ready(local, 1)
-    value = try_to_talk(local)
-    listed = [it for it in run("dpkg", "--listfiles", "mondlexi").splitlines() if Path(it).is_file()]
-    run("dpkg", "--install", deb)
-    same(state(LOCAL), ("inactive", "success"), "the unit after another package was installed")
-    begin(local)
-    same(word(local), value, "the word after another package was installed")
-    print("the next boot: the unit that was enabled runs. Installed again: stopped, and started by hand")
+    wait_until("the unit that was enabled", lambda: state(LOCAL)[0] == "active")
+    try_to_talk(local)
+    print("the next boot: the unit that was enabled runs")
+    listed = [it for it in run("dpkg", "--listfiles", "mondlexi").splitlines() if "mondlexi" in it or Path(it).is_file()]
+    try_upgrades(local, deb)
+    run("mondlexi-check", local.admin)
     for how in ("--remove", "--purge"):
         run("dpkg", how, "mondlexi")
         same(shown(LOCAL, "LoadState"), "not-found", f"the unit after dpkg {how}")
-        left = [it for it in (*listed, "/run/mondlexi") if Path(it).exists()]
-        left += [str(it) for it in Path("/etc/systemd/system").rglob("mondlexi*") if how == "--purge"]
+        left = [it for it in (*listed, "/run/mondlexi", "/run/mondlexi-stopped") if Path(it).exists() and (how == "--purge" or not it.startswith("/etc"))]
+        left += [str(it) for top in ("/etc", "/var/lib", "/run") for it in Path(top).rglob("*mondlexi*") if how == "--purge" and "haproxy" not in str(it)]
         same((left, (ROOM / "t.mw").exists(), servers()), ([], True, []), f"what dpkg {how} leaves")
         run("getent", "passwd", "mw")
     print("removed and purged while it ran: stopped first; the user and the tenant's file stay")
@@ -541,13 +478,12 @@ def try_archive(archive: str) -> None:
     run("tar", "-xzf", archive, "-C", "/root")
     top = next(Path("/root").glob("mondlexi-*/"))
     modules = run("python3", "-c", "import site; print(site.getsitepackages()[0])").strip()
-    run("sh", "-c", f"cp {top}/bin/* /usr/local/bin && mkdir -p {modules} && cp -r {top}/python/mondlexi {modules} && cp {top}/contrib/*.service /etc/systemd/system")
+    run("sh", "-c", f"cp {top}/bin/* /usr/local/bin && mkdir -p {modules} && cp -r {top}/python/mondlexi {modules} && cp {top}/contrib/*.service {top}/contrib/*.socket {top}/contrib/*.timer /etc/systemd/system"
+        f" && cp {top}/contrib/mondlexi.default /etc/default/mondlexi")
     package, users, *_ = blocks("As a service", top / "docs/OPERATING.md")
     type_block(users, Path("/root"))
-    starts = ready_lines(local)
-    type_block(package[1:-1], Path("/root"))
-    wait_until("the server of the archive", lambda: ready_lines(local) > starts)
-    type_block(package[-1:], Path("/root"))
+    Path("/backup").rename("/backup-before")
+    type_block(package[1:], Path("/root"))
     same(run("readlink", f"/proc/{main_process(LOCAL)}/exe"), "/usr/local/bin/mwserve\n", "the program of the archive")
     try_to_talk(local)
     end(local)

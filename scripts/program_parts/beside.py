@@ -23,6 +23,7 @@ from bench_parts.chart import Chart  # noqa: E402
 from bench_parts.stores import NAME  # noqa: E402
 
 VERSION = TOP / "crates/mw_main/src/lib.rt"
+SERVER_UNITS = [TOP / "contrib" / name for name in ("mondlexi.service", "mondlexi-local.service")]
 MOST_EXPOSED = 2
 SECOND = re.compile(r"second \d+: \d+ changes, \d+ reads, \d+ refusals")
 KIND = re.compile(r"([A-Z]+) (\d+): mean (\d+) us, p50 (\d+) us, p90 (\d+) us, p95 (\d+) us, p99 (\d+) us, p99\.9 (\d+) us, slowest (\d+) us")
@@ -110,16 +111,18 @@ def check_load(server):
 
 
 def check_units(folder):
-    """systemd-analyze wants the program to be where the unit says, so it is given a copy with the built one's path."""
-    for path in sorted((TOP / "contrib").glob("*.service")):
-        unit = path.read_text()
-        same(unit.count("/usr/local/bin/mwserve "), 1, f"the program of {path.name}")
-        copy = folder / path.name
-        copy.write_text(unit.replace("/usr/local/bin/mwserve ", f"{MWSERVE} "))
-        looked = subprocess.run(["systemd-analyze", "verify", copy], stdout=subprocess.PIPE, stderr=subprocess.STDOUT)
+    """systemd-analyze wants the programs to be where the units say, so it is given copies with the paths of those that are here. The
+    server's units are as little exposed as they say."""
+    units = sorted(path for path in (TOP / "contrib").iterdir() if path.suffix in (".service", ".socket", ".timer"))
+    for path in units:
+        (folder / path.name).write_text(path.read_text().replace("/usr/local/bin/mwserve ", f"{MWSERVE} ").replace("/usr/local/bin/", f"{TOP}/contrib/"))
+    for path in units:
+        looked = subprocess.run(["systemd-analyze", "verify", folder / path.name], stdout=subprocess.PIPE, stderr=subprocess.STDOUT)
         told_of = [line for line in looked.stdout.decode().splitlines() if "mondlexi" in line]
         same((looked.returncode, told_of), (0, []), f"systemd-analyze verify contrib/{path.name}")
-        exposed = exposure(path)
+    for path in SERVER_UNITS:
+        unit, exposed = path.read_text(), exposure(path)
+        same(unit.count("/usr/local/bin/mwserve "), 1, f"the program of {path.name}")
         if exposed is not None:
             same((exposed <= MOST_EXPOSED, f"{exposed} of 10" in unit), (True, True), f"the exposure of contrib/{path.name}, {exposed}")
         print(f"contrib/{path.name}: systemd-analyze finds nothing; its exposure is {exposed}")
@@ -164,7 +167,7 @@ def try_system_calls(folder):
         same(server.wait(), 0, f"the status of a server at {at}")
         server.stdout.close()
         found |= set(re.findall(r"^[0-9]+ +([a-z0-9_]+)\(", (room / "log").read_text(), re.MULTILINE))
-    for path in sorted((TOP / "contrib").glob("*.service")):
+    for path in SERVER_UNITS:
         same((found - allowed_by(path.read_text()) - {"execve"}, "fdatasync" in found), (set(), True), f"system calls that contrib/{path.name} doesn't allow")
     print(f"the units allow each of the {len(found)} system calls that a server makes")
 

@@ -15,12 +15,12 @@ from typing import Callable, List
 from .common import wrong
 from .debian import GROUPS
 
-LIMIT = 180
-"""For how many seconds one boot may go on; it takes less than a minute on two cores."""
+LIMIT = 300
+"""For how many seconds one boot may go on; it takes some two minutes on four cores."""
 GRACE = 10
 """For how many seconds a halt may take."""
 PLACE = Path("root/tried")
-STEPS = Path(__file__).resolve().parent / "as_operator.py"
+STEPS = [Path(__file__).resolve().parent / name for name in ("as_operator.py", "units.py")]
 UNIT = """[Unit]
 Description=What scripts/check-package tries
 SuccessAction=poweroff
@@ -62,7 +62,7 @@ def prepare(root: Path, deb: Path, boot: int, archive: List[Path]) -> None:
     place.mkdir(exist_ok=True)
     for it in ("told", "errors", "journal", "console"):
         (place / it).unlink(missing_ok=True)
-    for it in (STEPS, deb, *archive):
+    for it in (*STEPS, deb, *archive):
         shutil.copy(it, place)
     name, units = "tried.service", root / "etc/systemd/system"
     there = " ".join(f"/{PLACE}/{it.name}" for it in archive)

@@ -49,6 +49,8 @@ def try_calls(clients, server):
         for entries in ([], [(a, 0, 0) for a in range(17)], [(1, 0, 0), (1, 0, 1)], [(WORDS, 0, 0)], [(-1, 0, 0)],
                         [(0, -1, 0)], [(0, 0, BIG + 1)]):
             raises(ValueError, f"cas of {entries}", client.cas, entries)
+        for kind, entry in ((ValueError, (0, 1)), (ValueError, (0, 0, 1, 2)), (TypeError, 0)):
+            same(str(raises(kind, f"cas of {entry}", client.cas, [entry])), f"an entry is (address, expected, new), not {entry!r}", "what it says")
         for addresses in ([], range(17), [WORDS], [-1]):
             raises(ValueError, f"read of {addresses}", client.read, addresses)
         raises(ValueError, "get past the end", client.get, WORDS)
@@ -214,9 +216,10 @@ def try_peers(clients, folder):
         told(clients, mondlexi.Lost, text, call="get")
     told(clients, mondlexi.Lost, "VAL 1\n", "VAL 2\n", "", call="read", lines=3)
     told(clients, mondlexi.Unknown, holds=True, waits=0.2)
-    told(clients, mondlexi.Lost, call="get", holds=True, waits=0.2)
+    same(str(told(clients, mondlexi.Lost, call="get", holds=True, waits=0.2)), "GET 0: no reply, for 0.2 seconds", "what a client says of a late reply")
     silent = Peer(holds=True)
-    raises(mondlexi.Lost, "a peer without a greeting", clients.Client, silent.at, "t", timeout=0.2)
+    said = str(raises(mondlexi.Lost, "a peer without a greeting", clients.Client, silent.at, "t", timeout=0.2))
+    same(said, "TENANT t: no reply yet, as when all sessions are taken, for 0.2 seconds", "what a client says of a peer without a greeting")
     raises(mondlexi.Full, "a peer that closes without a greeting", clients.Client, Peer("").at, "t")
     for text in ("O", "OK\n", "OK 0\n", "OK 4097\n", "OK ADMIN\n"):
         raises(mondlexi.Lost, f"greeting {text!r}", clients.Client, Peer(text).at, "t")
@@ -235,6 +238,8 @@ def try_a_count(clients):
                 "WORN\n", "WORN\n", "NO 5 11\n", "BUSY\n", "NO 5 12\n", "BYE\n")
     with clients.Client(peer.at, "t", patience=0) as client:
         own = clients.Counted(client, 5)
+        said = str(raises(ValueError, "a counted change of sixteen", own.cas, 16 * [(2, 0, 1)]))
+        same(said, "a change has up to 15 entries beside its count, not 16", "what it says")
         same(own.settle(), False, "settle where there was no change")
         same(own.cas([(2, 0, 1)]), mondlexi.Outcome(True), "a counted change")
         same(own.cas([(2, 0, 1)]), mondlexi.Outcome(False, 2, 3), "a counted change that fails")

@@ -11,10 +11,10 @@ from .common import PATIENCE
 
 MIRROR = "http://deb.debian.org/debian"
 RELEASE = "bookworm"
-TO_BOOT = "systemd,dbus,python3,haproxy,openssl,procps,curl"
-"""What it needs further to be booted, for the package's client, for a proxy in front, whose reload calls kill, and for a backup."""
-TO_TALK = "netcat-openbsd"
-"""What the pages' commands need further."""
+TO_BOOT = "systemd,dbus,python3,haproxy,openssl,procps"
+"""What it needs further to be booted, for the package's client, and for a proxy in front, whose reload calls kill."""
+TO_TALK = "netcat-openbsd,curl"
+"""What the pages' commands and the package need further."""
 GROUPS = Path("/sys/fs/cgroup")
 
 

@@ -55,6 +55,7 @@ def try_package(folder):
     ran(*typed[1], *OFFLINE, folder=folder)
     told = ran("env/bin/python3", "-W", "error", "-m", "mondlexi", "--version", folder=folder)
     same(told, f"mondlexi {mondlexi.__version__}\n", "the version of the package that was installed")
+    same(ran("env/bin/mondlexi", "--version", folder=folder), told, "the version of the command that was installed")
     ran("env/bin/pip", "wheel", *OFFLINE, "-w", "wheels", source, folder=folder)
     wheel = folder / f"wheels/mondlexi-{mondlexi.__version__}-py3-none-any.whl"
     listed = ran(builder(), "-m", "zipfile", "-l", wheel, folder=folder)

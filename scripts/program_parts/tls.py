@@ -11,6 +11,7 @@ import subprocess
 import threading
 
 from .common import HOST, PATIENCE, at, raises, same, wrong
+from . import shell
 from .reads import Peers
 
 import mondlexi  # noqa: E402
@@ -123,6 +124,8 @@ def try_tls(clients, folder, server):
 def try_client_certificate(clients, folder, server):
     """A front that wants a certificate of its clients."""
     strict = Front(folder, "host", server.at, wants_certificate=True).at
+    if clients is mondlexi:
+        shell.try_tls(folder, strict, Front(folder, "name", server.at).at, NAME)
     with clients.Client(strict, "t", tls=client_context(folder, "client")) as client:
         same(client.get(9), 3, "get with a certificate")
     try:

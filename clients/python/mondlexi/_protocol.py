@@ -130,10 +130,21 @@ def checked_value(value: int) -> int:
     return value
 
 
-def checked_entries(entries: Iterable[Entry], words: int) -> List[Entry]:
-    """These entries, sorted by address, if a tenant of so many words can be asked for them in one change."""
-    checked = sorted((checked_address(address, words), checked_value(expected), checked_value(new))
-                     for address, expected, new in entries)
+def checked_entry(entry: Entry, words: int) -> Entry:
+    """This entry, if a tenant of so many words can be asked for it."""
+    try:
+        address, expected, new = entry
+    except (TypeError, ValueError) as error:
+        raise type(error)(f"an entry is (address, expected, new), not {entry!r}") from None
+    return checked_address(address, words), checked_value(expected), checked_value(new)
+
+
+def checked_entries(entries: Iterable[Entry], words: int, count: Optional[Entry] = None) -> List[Entry]:
+    """These entries, sorted by address, if a tenant of so many words can be asked for them in one change, with that of a count."""
+    given = list(entries)
+    checked = sorted(checked_entry(entry, words) for entry in (given if count is None else [*given, count]))
+    if count is not None and len(given) >= MAX_ENTRIES:
+        raise ValueError(f"a change has up to {MAX_ENTRIES - 1} entries beside its count, not {len(given)}")
     if not 1 <= len(checked) <= MAX_ENTRIES:
         raise ValueError(f"a change has one to {MAX_ENTRIES} entries")
     if len({address for address, _, _ in checked}) < len(checked):

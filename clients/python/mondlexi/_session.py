@@ -208,10 +208,13 @@ class Session:
             self._state = before
             raise
         except OSError as error:
-            is_full = self._replies.is_silent and isinstance(error, ConnectionError)
+            is_silent = self._replies.is_silent
             self._drop()
-            if is_full:
+            if is_silent and isinstance(error, ConnectionError):
                 raise Full(f"{question}: {error}; it had given no reply yet, as one does that is full") from error
+            if isinstance(error, socket.timeout):
+                why = "no reply yet, as when all sessions are taken" if is_silent else "no reply"
+                raise question.gone(f"{question}: {why}, for {self.options.timeout:g} seconds") from error
             raise question.gone(f"{question}: {error}") from error
         except BaseException:
             self._drop()
@@ -372,7 +375,7 @@ class Count:
         self.announce()
         await self._make_ready()
         count = self._known.value
-        change = protocol.checked_entries([*entries, (self._address, count, count + 2)], self._caller.words)
+        change = protocol.checked_entries(entries, self._caller.words, (self._address, count, count + 2))
         self._known = _Known(count, undecided=True, made=True)
         try:
             outcome = await self._caller.cas(change)
