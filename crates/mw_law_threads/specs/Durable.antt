@@ -1,3 +1,4 @@
 -- What a crash may leave, and what the next start finds. This page only lists its modules.
+pub mod CrashMoments
 pub mod Durable
 pub mod Starts

@@ -3,3 +3,4 @@ pub mod Whole
 pub mod History
 pub mod Durable
 pub mod Sessions
+pub mod NextRuns

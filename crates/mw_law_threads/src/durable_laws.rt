@@ -2,7 +2,7 @@
 //! the facts.
 //!
 //! No code calls them. A change of a contract here changes a theorem.
-ghost use Rattle.mw_law_threads.specs.Durable.Durable.{CallsKeepChanges, CallsLeaveWholeChanges, CallsLeaveWhollyOrNot, MomentsKeepChanges, MomentsLeaveWholeChanges, MomentsLeaveWholeChangesInACall, MomentsLeaveWhollyOrNot};
+ghost use Rattle.mw_law_threads.specs.Durable.Durable.{CallsKeepChanges, CallsLeaveWholeChanges, CallsLeaveWhollyOrNot, MomentsKeepChanges, MomentsLeaveWholeChanges, MomentsLeaveWhollyOrNot};
 ghost use Rattle.mw_law_threads.specs.Durable.Starts.{EnginesStartWithChanges, StartsFindChanges};
 
 use mw_disk::Disk;
@@ -24,20 +24,20 @@ pub fn calls_keep_changes<D: Disk>()
 {}
 
 /// The same at every moment of the shared words, for all passes. The changes are those of the run that ties the shared
-/// words to the model.
+/// words to the model. The crash comes while no call on the file is under way, or in any pass's call: before the call's
+/// event, by which the run goes on, or after it (`CrashMoment`).
 ///
-/// - `whole`: of an honest disk, a crash while no call on the file is under way leaves the words of the latest start with
-///   all sealed changes put over them. The change in doubt may be there too, wholly. No change of its request is sealed.
-/// - `in_a_call`: a crash during any pass's call leaves these words. One whole change more may be there: the one that the
-///   call seals or, if it seals none, the one in doubt.
-/// - `kept`: in both cases a change that any pass was answered YES is one of the sealed changes, at its own place, whoever
+/// - `whole`: of an honest disk, a crash leaves the words of the latest start with all sealed changes put over them. One
+///   whole change more may be there: the one that a call seals, before its event, or else the one in doubt. No change of
+///   the request is sealed whose change is in doubt.
+/// - `kept`: a change that any pass was answered YES by then is one of the sealed changes, at its own place, whoever
 ///   makes the calls on the file.
-/// - `wholly`: in both cases, if any pass was answered, with any reply, also FAULT, the change of its request is there
-///   wholly or not at all. So is the change of a request that got no answer: each change is just what one request asked
-///   for.
+/// - `wholly`: if any pass was answered by then, with any reply, also FAULT, the change of its request is there wholly or
+///   not at all. So is the change of a request that got no answer: each change is just what one request asked for.
+///
+/// After a call's event its device calls are over. So the code has it (`file` of mw_core); no contract says it.
 pub fn every_moment_keeps_changes<B: Begins, D: Disk>()
     ensures whole { (key : B) → MomentsLeaveWholeChanges D.facts (B.config key) (B.begun key) }
-    ensures in_a_call { (key : B) → MomentsLeaveWholeChangesInACall D.facts (B.config key) (B.begun key) }
     ensures kept { (key : B) → MomentsKeepChanges D.facts (B.config key) (B.begun key) }
     ensures wholly { (key : B) → MomentsLeaveWhollyOrNot D.facts (B.config key) (B.begun key) }
 {}

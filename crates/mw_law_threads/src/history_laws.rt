@@ -20,13 +20,15 @@ pub fn every_moment_has_one_history<B: Begins>()
     ensures history { (key : B) → MomentsHaveOneHistory (B.config key) (B.begun key) }
 {}
 
-/// Each VAL, NO and YES that a pass gives was true at a moment of its own call. The call is what happens in the run behind
+/// Each reply that a pass gives, but WORN, was true at a moment of its own call. The call is what happens in the run behind
 /// the pass from the arrival of this very request until its worker hands out its reply, under its number. The arrival
 /// comes after all that the pass knew before.
 ///
 /// - VAL: at that moment the word had that value in the tenant's file.
 /// - NO: at that moment the word had that value, which is not the expected one.
 /// - YES: by one event of the call the words that the request expects became the words that it wants.
+/// - BUSY: at that moment the tenant's door counted as many slots in use as the quota allows, and had no fault.
+/// - FAULT: at that moment the tenant's door had the fault.
 ///
 /// `own`: the run is the one behind what the pass knows at the reply. `one_run`: at each later moment of the shared words it
 /// is the one behind what all passes know. So the moments of all replies are in one order.

@@ -1,7 +1,7 @@
 //! Laws of running threads: what the rule of the shared words (mw_rule), the engine and the service give a client. Each group has
 //! a folder of `specs` and of `proofs`:
 //!
-//! - `Moments`: each VAL, NO and YES was true at a moment between the arrival of its request and the reply itself. So the
+//! - `Moments`: each reply but WORN was true at a moment between the arrival of its request and the reply itself. So the
 //!   moments keep the order of real time: if a request comes after another's reply, its moment is later.
 //! - `Whole`: each change in a tenant's file is just what one request of that tenant asked for: no part of it, and no more. A
 //!   request that was answered VAL, NO or BUSY makes no change.
@@ -11,6 +11,7 @@
 //! - `Durable`: a change that was answered YES is in every file that a crash may leave, and any other is there wholly or not
 //!   at all.
 //! - `Sessions`: the same of sessions that borrow a pass for each request.
+//! - `NextRuns`: one store alone takes what a server did before a start, the start, and what the next server did.
 //!
 //! Of `Durable` these laws hold on an honest disk:
 //!
@@ -18,7 +19,7 @@
 //!   call, or after it and before the next, leaves a file with the change if the reply was YES. Else the change is in it
 //!   wholly or not at all.
 //! - [`every_moment_keeps_changes`]: all passes. It is the same at each moment at which the shared words are under their
-//!   rule, and during the next call on that file, whoever makes it. The changes are those of the one run of the world that
+//!   rule, also during a call on that file, whoever makes it. The changes are those of the one run of the world that
 //!   ties the shared words to the model. It is the run in which `History` finds all replies.
 //! - [`starts_find_changes`]: a start that opens what such a crash left finds these changes. `specs/Durable/Starts` defines that.
 //! - [`engines_start_with_changes`]: an engine that is made of what was opened so starts with these changes.
@@ -26,21 +27,20 @@
 //! Of sessions: one with `--clients` is told that some pass of the engine gave each reply, and not which one (mw_service). It has
 //! its note, which tells the run that the pass knew. What follows:
 //!
-//! - [`replies_have_moments_in_order`]: each VAL, NO and YES was true at a moment of its own call, and each call comes in the run
+//! - [`replies_have_moments_in_order`]: each reply but WORN was true at a moment of its own call, and each call comes in the run
 //!   after the reply before it.
 //! - [`sessions_keep_changes`]: whichever passes it borrows later, the change of a YES stays in the tenant's file.
 //!
 //! Not said:
 //!
-//! - The premises of the second law of `Durable` hold between two calls of an engine. One is that the pass that was answered, and
-//!   the file pass that the lock keeps, are of one table under its rule. The other is that the lock keeps the book with that
-//!   file pass. The contracts of `atomic_table` and the invariant of `GuardedFile` are the reasons for them. No clause of
+//! - The premises of the second law of `Durable` hold of an engine. One is that the pass that was answered, and the thread that
+//!   has the file, are of one table under its rule. Between two calls another is that the lock keeps the book with the file
+//!   pass. The contracts of `atomic_table` and the invariant of `GuardedFile` are the reasons for them. No clause of
 //!   [`Engine::serve`] names them.
-//! - A YES that comes while another call on this file is under way, until that call ends. The second law begins when no
-//!   call is under way.
+//! - That a call's device calls are over when its event comes. The body of `Core::file` of mw_core makes them before.
 //! - The change that a call seals fits the words before it. This is said of the change in doubt between calls (`Whole`), and
 //!   of each sealed change.
-//! - What is sealed after the next start. The theorem speaks of many starts (docs/THEOREM.md).
+//! - After a crash in a seal: that the next server's run is of the same store alone.
 //! - That two sessions are not told the reply to one request. The lock of a pass doesn't tell which pass it holds.
 //!   `IdlePass::serve` of mw_service says it of each pass.
 //!
@@ -52,6 +52,7 @@
 mod durable_laws;
 mod history_laws;
 mod moment_laws;
+mod next_run_laws;
 mod session_laws;
 mod whole_laws;
 
@@ -60,5 +61,6 @@ pub use durable_laws::{
 };
 pub use history_laws::{answers_have_moments, every_moment_has_one_history};
 pub use moment_laws::replies_have_moments;
+pub use next_run_laws::{crashes_leave_next_runs, next_runs_are_of_one_store, stores_go_on};
 pub use session_laws::{replies_have_moments_in_order, sessions_keep_changes};
 pub use whole_laws::{changes_are_whole, refused_requests_make_no_change};

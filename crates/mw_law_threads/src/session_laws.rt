@@ -8,7 +8,8 @@ ghost use Rattle.mw_law_threads.specs.Sessions.SessionMoments.{SessionRepliesHav
 use mw_disk::Disk;
 use mw_rule::Begins;
 
-/// Whichever passes a session borrows, each VAL, NO and YES that it is told was true at a moment of its own call.
+/// Whichever passes a session borrows, each reply that it is told, but WORN, was true at a moment of its own call. BUSY and
+/// FAULT had their cause at the tenant's door then.
 ///
 /// `order`: the run is the one that the session's note tells with the reply; it goes back to the engine's start. The request
 /// comes in it after all that the note told before. So it comes after the replies to the session's earlier requests.
@@ -30,8 +31,7 @@ pub fn replies_have_moments_in_order<B: Begins>()
 /// - `kept`: a change that it was answered YES is one of the sealed changes that a crash leaves, at its own place.
 /// - `wholly`: if it was answered, with any reply, also FAULT, the change of its request is there wholly or not at all.
 ///
-/// The crash comes while no call on the tenant's file is under way, or in any pass's next call. The premises are those of
-/// `every_moment_keeps_changes` of mw_law_threads.
+/// The crash comes at any moment (`CrashMoment`), as in [`every_moment_keeps_changes`](crate::every_moment_keeps_changes).
 pub fn sessions_keep_changes<B: Begins, D: Disk>()
     ensures kept { (key : B) → SessionsKeepChanges D.facts (B.config key) (B.begun key) }
     ensures wholly { (key : B) → SessionsLeaveWhollyOrNot D.facts (B.config key) (B.begun key) }

@@ -13,15 +13,20 @@ use Rattle.mw_words.specs.declared.jobs.Job.{Job}
 use Rattle.mw_words.specs.declared.replies.Reply.{Reply}
 use Rattle.mw_words.specs.declared.replies.Reply.TheVariants.{Yes as SaysYes}
 use Rattle.mw_lone.specs.Store.{entries_of}
+use Rattle.mw_look.specs.declared.steps.Call.{Call}
+use Rattle.mw_look.specs.declared.steps.Call.TheVariants.{Prepare as PrepareCall, Seal as SealCall, Settle as SettleCall, Cancel as CancelCall}
 use Rattle.mw_disk.specs.Facts.{Facts}
+use Rattle.mw_record.specs.Layout.{pairs_of}
 use Rattle.mw_world.specs.declared.config.Config.{Config}
 use Rattle.mw_world.specs.Claim.Headline.{IsExecution}
+use Rattle.mw_world.specs.Definition.Calls.{Called as CallOn}
 use Rattle.mw_world.specs.Definition.Events.{WorldEvent}
 use Rattle.mw_world.specs.Definition.State.{State, TenantStart, tenants_of}
 use Rattle.mw_law_store.specs.History.{IsNoStart}
 use Rattle.mw_law_threads.specs.Whole.WholeChanges.{IsAskedChange, IsAskedFor, IsWholeChange}
 use Rattle.mw_law_threads.proofs.Whole.WholeChangeLaws.{requests_ask_for_one_change, sealed_changes_are_whole}
-use Rattle.mw_rule.specs.Calls.FileTokens.{TellsFile}
+use Rattle.mw_rule.specs.Calls.CallsByToken.{file_token_by}
+use Rattle.mw_rule.specs.Calls.FileTokens.{file_token_filed}
 use Rattle.mw_rule.specs.FromLaws.{AreNoStarts, IsBeginning, SealedChange, put_sealed, sealed_of}
 use Rattle.mw_rule.proofs.FromLaws.{sealed_are_right}
 use Rattle.mw_rule.specs.KnownRuns.{KnownRun, ExtendsKnownRun, known_run_of}
@@ -29,6 +34,7 @@ use Rattle.mw_rule.specs.Prefixes.{opening_at, seen_at}
 use Rattle.mw_rule.specs.Rule.{AreRight, Each, Fits, HoldsFile, IsFinished, IsLive, IsSpent, TableInvariant, words_given}
 use Rattle.mw_rule.specs.Splits.{without_file}
 use Rattle.mw_rule.specs.Steps.{ExtendsView, finished_as}
+use Rattle.mw_rule.specs.declared.views.FoundStatus.{FoundStatus}
 use Rattle.mw_rule.specs.declared.views.HeldFile.{HeldFile}
 use Rattle.mw_rule.specs.declared.views.View.{View}
 use Rattle.mw_rule.proofs.KnownRunLaws.{on_again, stays}
@@ -37,17 +43,16 @@ use Rattle.mw_rule.proofs.WorkerStretches.{no_starts_on}
 use Rattle.mw_table.specs.HeldFiles.{file_among, tenant_held}
 use Rattle.mw_book.specs.declared.book.Book.{Book}
 use Rattle.mw_book.specs.Crashes.{LeavesEither}
-use Rattle.mw_book.specs.OpenFile.{OnDisk, disk_in}
+use Rattle.mw_book.specs.OpenFile.{FileRecoversTo, OnDisk, disk_in}
 use Rattle.mw_book.proofs.RepresentedFiles.{untouched}
-use Rattle.mw_core.specs.FromTable.{FilePass, FileToken, Pass, file_kept}
+use Rattle.mw_core.specs.FromTable.{FileToken, Pass, file_kept}
 use Rattle.mw_table.specs.FromRule.{End, FindsFault, GoesWell, MeetsFault, Skips}
-use Rattle.mw_core.specs.FileCalls.{FilesOnce, event_of, stake_by}
+use Rattle.mw_core.specs.FileCalls.{FilesOnce, event_of, held_as, stake_by}
 use Rattle.mw_core.proofs.FromTable.{each_last}
-use Rattle.mw_engine.specs.Brand.{Identity}
-use Rattle.mw_engine.specs.GuardedFile.{IsKept}
 use Rattle.mw_engine.specs.History.{IsAnswered}
 use Rattle.mw_engine.proofs.AgreementForms.{agrees_of}
-use Rattle.mw_law_threads.specs.Durable.Durable.{AreSealed, AreSealedIn, CallsKeepChanges, CallsLeaveWholeChanges, CallsLeaveWhollyOrNot, LeavesChangesOfRun, LeavesWholeChanges, LeavesWhollyOrNot, LeavesWithChange, at_stake_in, MomentsKeepChanges, MomentsLeaveWholeChanges, MomentsLeaveWholeChangesInACall, MomentsLeaveWhollyOrNot}
+use Rattle.mw_law_threads.specs.Durable.CrashMoments.{AfterTheEvent, AtRest, BeforeTheEvent, CrashMoment, IsAtRest, IsHeld, first_disk, last_disk, stake_at, token_at}
+use Rattle.mw_law_threads.specs.Durable.Durable.{AreSealed, AreSealedIn, CallsKeepChanges, CallsLeaveWholeChanges, CallsLeaveWhollyOrNot, LeavesChangesOfRun, LeavesWholeChanges, LeavesWhollyOrNot, LeavesWithChange, at_stake_in, MomentsKeepChanges, MomentsLeaveWholeChanges, MomentsLeaveWhollyOrNot}
 use Rattle.mw_law_threads.proofs.Durable.AskedRequests.{request_asked}
 use Rattle.mw_law_threads.proofs.Durable.Stakes.{doubt_is_asked, doubt_is_pending, stake_is_asked}
 
@@ -92,7 +97,7 @@ module _ (config : Config) (openings : ℕ → TenantStart) (before events : Lis
         at_stake = stake;
       }
 
-  contents_by : (state.tenant_states tenant).file.contents ≡ put_sealed (words_given view tenant) (sealed_of openings state tenant)
+  pub contents_by : (state.tenant_states tenant).file.contents ≡ put_sealed (words_given view tenant) (sealed_of openings state tenant)
   contents_by =
       let right = sealed_are_right config openings (before ++ events) state tenant played there in
       sym right.all ∙ ap (λ (words : List ℕ). put_sealed words (sealed_of openings state tenant)) (fits.gave tenant there).words
@@ -124,15 +129,14 @@ tenant_of first now tenant job reply answered =
     (each_last (IsFinished now) first.mine (finished_as answered.token tenant job reply answered.answered.place) (subst (Each (IsFinished now)) answered.answered.noted answered.right.mine)).there
 
 -- The one file of a view.
-module _ (config : Config) (state : State) where
-  record HoldsOne (files : List HeldFile) : Type 0 where
-    there : (file_among files).tenant < tenants_of config
-    contents : (state.tenant_states (file_among files).tenant).file.contents ≡ (file_among files).contents
-    tells : TellsFile (state.tenant_states (file_among files).tenant).quota config.pool (file_among files) (state.tenant_states (file_among files).tenant).file
+record OfOne (files : List HeldFile) : Type 0 where
+  found : Option FoundStatus
+  only : files ≡ held_as (file_among files) found ∷ []
 
-  holds_one : (files : List HeldFile) (tenant : ℕ) → map tenant_held files ≡ tenant ∷ [] → Each (HoldsFile config state) files → HoldsOne files
-  holds_one [] tenant its holds = absurd (cc)
-  holds_one (held ∷ rest) tenant its holds = record { there = holds.0.there; contents = holds.0.tells.contents; tells = holds.0.tells }
+of_one : (files : List HeldFile) (tenant : ℕ) → map tenant_held files ≡ tenant ∷ [] → OfOne files
+of_one [] tenant its = absurd (cc)
+of_one (held ∷ []) tenant its = record { found = held.found; only = refl }
+of_one (held ∷ more ∷ rest) tenant its = absurd (cc)
 
 same_tenant : (files : List HeldFile) (tenant : ℕ) → map tenant_held files ≡ tenant ∷ [] → (file_among files).tenant ≡ tenant
 same_tenant [] tenant its = absurd (cc)
@@ -144,6 +148,19 @@ no_start worker GoesWell = tt
 no_start worker (MeetsFault number) = tt
 no_start worker Skips = tt
 no_start worker FindsFault = tt
+
+-- a call leaves the token its tenant
+filed_tenant : (call : Call) (token : FileToken) (slot place : ℕ) (entries : List Entry) → (file_token_filed call token slot place entries).tenant ≡ token.tenant
+filed_tenant PrepareCall token slot place entries = refl
+filed_tenant SealCall token slot place entries = refl
+filed_tenant SettleCall token slot place entries = refl
+filed_tenant CancelCall token slot place entries = refl
+
+called_tenant : (end : End) (token : FileToken) (actor : ActorState) (called : CallOn) → (file_token_by end token actor called).tenant ≡ token.tenant
+called_tenant GoesWell token actor called = filed_tenant called.call token _ _ _
+called_tenant (MeetsFault number) token actor called = refl
+called_tenant Skips token actor called = refl
+called_tenant FindsFault token actor called = refl
 
 module _ {D : Type 0} (facts : D → Facts) where
   calls_whole : CallsLeaveWholeChanges facts
@@ -221,67 +238,91 @@ module _ {D : Type 0} (facts : D → Facts) where
     has = got_on (seen_at now.seen tenant) whole.sealed answered.answered.place _ (prefix_on (seen_at now.seen tenant) (seen_at view.seen tenant) whole.sealed seen whole.are.first) answered.answered.right;
   }
 
-  module _ (config : Config) (begun : (ℕ → TenantStart) → List WorldEvent → Type 0) (s : Table ActorState View) (id other : ℕ) (view : View) (file_pass : FilePass) (tied : TableInvariant config begun s)
-      (at : get_elem? s.views id ≡ some view) (live : IsLive view) (held : get_elem? s.views other ≡ some file_pass.seat.me.0) where
-    abbrev token : FileToken
-    token = file_kept file_pass
+  -- At a moment of the table at which one thread has this token.
+  module _ (config : Config) (begun : (ℕ → TenantStart) → List WorldEvent → Type 0) (s : Table ActorState View) (id : ℕ) (view : View) (tied : TableInvariant config begun s)
+      (at : get_elem? s.views id ≡ some view) (live : IsLive view) (token : FileToken) (held : IsHeld s token) where
+    never : (one : View) → IsSpent one → IsLive one → ⊥
+    never one spent (inl alive) = let e = spent.flag in cc
+    never one spent (inr (first, rest, are)) = let e = spent.no_tokens in cc
 
     -- what the rule ties to the model
-    its : token.tenant ≡ file_pass.tenant
-    its = same_tenant file_pass.seat.me.0.files file_pass.tenant file_pass.its
-
-    never : IsSpent view → IsLive view → ⊥
-    never spent (inl alive) = let e = spent.flag in cc
-    never spent (inr (one, rest, are)) = let e = spent.no_tokens in cc
-
-    one : HoldsOne config tied.state file_pass.seat.me.0.files
-    one = elim (tied.fits other file_pass.seat.me.0 held) [
-      | inl spent ↦ absurd (let e = spent.flag in let alive = file_pass.live in cc)
-      | inr has ↦ holds_one config tied.state file_pass.seat.me.0.files file_pass.tenant file_pass.its has.files
+    pub so : HoldsFile config tied.state (held_as token held.found)
+    so = elim (tied.fits held.id held.view held.at) [
+      | inl spent ↦ absurd (never held.view spent held.live)
+      | inr has ↦ (subst (Each (HoldsFile config tied.state)) held.has has.files).0
     ]
 
-    of_view : Fits config tied.past.openings tied.state tied.events view
-    of_view = elim (tied.fits id view at) [ inl spent ↦ absurd (never spent live) | inr so ↦ so ]
+    pub of_view : Fits config tied.past.openings tied.state tied.events view
+    of_view = elim (tied.fits id view at) [ inl spent ↦ absurd (never view spent live) | inr fits ↦ fits ]
 
-    -- at a moment, whatever leaves the words that the file pass tells, or these with one change more, leaves whole changes
-    whole_at : (more : List Entry) (first last : Option D) → IsAskedChange tied.state token.tenant more → OnDisk facts (LeavesEither token.contents more) first last
-        → LeavesChangesOfRun facts config begun tied view file_pass.tenant more first last
+    -- whatever leaves the words that the token tells, or these with one change more, leaves whole changes
+    whole_at : (tenant : ℕ) → token.tenant ≡ tenant → (more : List Entry) (first last : Option D) → IsAskedChange tied.state token.tenant more → OnDisk facts (LeavesEither token.contents more) first last
+        → LeavesChangesOfRun facts config begun tied view tenant more first last
     unfolding sealed_of_view
-    whole_at more first last stake leaves =
+    whole_at tenant its more first last stake leaves =
         let past = tied.past in
         let known = (tied.known id view at).known in
-        let words = contents_by config past.openings past.before tied.events tied.state view token.tenant past.played known of_view one.there in
+        let words = contents_by config past.openings past.before tied.events tied.state view token.tenant past.played known of_view so.there in
         let here : LeavesWholeChanges facts view token.tenant more first last = record {
           sealed = sealed_of past.openings tied.state token.tenant;
-          are = sealed_of_view config past.openings past.before tied.events tied.state view token.tenant past.played known of_view one.there more past.no_starts stake;
-          leaves = subst (λ (ones : List ℕ). OnDisk facts (LeavesEither ones more) first last) (sym one.contents ∙ words) leaves;
+          are = sealed_of_view config past.openings past.before tied.events tied.state view token.tenant past.played known of_view so.there more past.no_starts stake;
+          leaves = subst (λ (ones : List ℕ). OnDisk facts (LeavesEither ones more) first last) (sym so.tells.contents ∙ words) leaves;
         } in
         subst (λ (n : ℕ). LeavesChangesOfRun facts config begun tied view n more first last) its (here, (refl, refl, refl, refl))
 
-    pending : IsWholeChange tied.past.openings tied.state file_pass.tenant token.doubt
-    pending = subst (λ (n : ℕ). IsWholeChange tied.past.openings tied.state n token.doubt) its
-        (doubt_is_pending config tied.past.openings (tied.past.before ++ tied.events) tied.state token.tenant tied.past.played one.there (tied.state.tenant_states token.tenant).quota config.pool token one.tells)
+    pending : (tenant : ℕ) → token.tenant ≡ tenant → IsWholeChange tied.past.openings tied.state tenant token.doubt
+    pending tenant its = subst (λ (n : ℕ). IsWholeChange tied.past.openings tied.state n token.doubt) its
+        (doubt_is_pending config tied.past.openings (tied.past.before ++ tied.events) tied.state token.tenant tied.past.played so.there (tied.state.tenant_states token.tenant).quota config.pool token so.tells)
 
-    at_rest : (identity : Identity) (book : Book D) → IsKept facts identity book file_pass → LeavesChangesOfRun facts config begun tied view file_pass.tenant token.doubt (disk_in book.held) (disk_in book.held)
-    at_rest identity book kept =
-        whole_at token.doubt (disk_in book.held) (disk_in book.held)
-        (doubt_is_asked config tied.past.openings (tied.past.before ++ tied.events) tied.state token.tenant tied.past.played one.there (tied.state.tenant_states token.tenant).quota config.pool token one.tells)
-        (untouched facts book.held token.contents token.doubt (agrees_of facts book token (opening_at identity.openings file_pass.tenant).quota identity.config.pool kept.agrees).shows.stands)
+    abbrev WholeAt : ℕ → List Entry → Option D → Option D → Type 0
+    WholeAt tenant more first last = LeavesChangesOfRun facts config begun tied view tenant more first last × IsWholeChange tied.past.openings tied.state tenant token.doubt
 
-    in_a_call : (book after : Book D) (old new : Pass) (actor next : ActorState) (kept : FileToken) (waiting : ℕ) (once : FilesOnce facts waiting old new actor next book after token kept)
-        → LeavesChangesOfRun facts config begun tied view file_pass.tenant (stake_by once.end once.called token) (disk_in book.held) (disk_in after.held)
-    in_a_call book after old new actor next kept waiting once =
-        whole_at (stake_by once.end once.called token) (disk_in book.held) (disk_in after.held)
-        (stake_is_asked config tied.past.openings (tied.past.before ++ tied.events) tied.state token.tenant tied.past.played one.there (tied.state.tenant_states token.tenant).quota config.pool token one.tells once.end once.called)
-        once.safe
+    -- with the change in doubt at stake
+    in_doubt : (tenant : ℕ) → token.tenant ≡ tenant → (book : Book D) → FileRecoversTo facts book.held token.contents (pairs_of token.doubt) → WholeAt tenant token.doubt (disk_in book.held) (disk_in book.held)
+    in_doubt tenant its book stands = (
+      whole_at tenant its token.doubt (disk_in book.held) (disk_in book.held)
+          (doubt_is_asked config tied.past.openings (tied.past.before ++ tied.events) tied.state token.tenant tied.past.played so.there (tied.state.tenant_states token.tenant).quota config.pool token so.tells)
+          (untouched facts book.held token.contents token.doubt stands),
+      pending tenant its,
+    )
+
+    -- with the one of a call
+    in_a_call : (tenant : ℕ) → token.tenant ≡ tenant → (before after : Book D) (old new : Pass) (actor next : ActorState) (kept : FileToken) (waiting : ℕ) (once : FilesOnce facts waiting old new actor next before after token kept)
+        → WholeAt tenant (stake_by once.end once.called token) (disk_in before.held) (disk_in after.held)
+    in_a_call tenant its before after old new actor next kept waiting once = (
+      whole_at tenant its (stake_by once.end once.called token) (disk_in before.held) (disk_in after.held)
+          (stake_is_asked config tied.past.openings (tied.past.before ++ tied.events) tied.state token.tenant tied.past.played so.there (tied.state.tenant_states token.tenant).quota config.pool token so.tells once.end once.called)
+          once.safe,
+      pending tenant its,
+    )
+
+  -- the thread of the file pass has the token
+  held_at_rest : (s : Table ActorState View) (tenant : ℕ) (rest : IsAtRest facts s tenant) → IsHeld s (file_kept rest.file_pass)
+  held_at_rest s tenant rest =
+      let one = of_one rest.file_pass.seat.me.0.files rest.file_pass.tenant rest.file_pass.its in
+      record { id = rest.id; view = rest.file_pass.seat.me.0; at = rest.at; live = inl rest.file_pass.live; found = one.found; has = one.only }
+
+  module _ {s : Table ActorState View} {tenant : ℕ} where
+    -- the thread that has the token at the moment of a crash
+    pub held_at : (crash : CrashMoment facts s tenant) → IsHeld s (token_at facts crash)
+    held_at (AtRest rest) = held_at_rest s tenant rest
+    held_at (BeforeTheEvent call held) = held
+    held_at (AfterTheEvent call held) = held
+
+    -- which is the tenant's
+    pub its_tenant : (crash : CrashMoment facts s tenant) → (token_at facts crash).tenant ≡ tenant
+    its_tenant (AtRest rest) = same_tenant rest.file_pass.seat.me.0.files rest.file_pass.tenant rest.file_pass.its ∙ rest.its
+    its_tenant (BeforeTheEvent call held) = call.once.its ∙ call.its
+    its_tenant (AfterTheEvent call held) = ap (λ (one : FileToken). one.tenant) call.once.kept_is ∙ (called_tenant call.once.end call.token call.actor call.once.called ∙ (call.once.its ∙ call.its))
 
   pub moments_leave_whole_changes : (config : Config) (begun : (ℕ → TenantStart) → List WorldEvent → Type 0) → MomentsLeaveWholeChanges facts config begun
-  moments_leave_whole_changes config begun s id other view identity book file_pass tied at live held kept =
-      (at_rest config begun s id other view file_pass tied at live held identity book kept, pending config begun s id other view file_pass tied at live held)
-
-  pub moments_leave_whole_changes_in_a_call : (config : Config) (begun : (ℕ → TenantStart) → List WorldEvent → Type 0) → MomentsLeaveWholeChangesInACall facts config begun
-  moments_leave_whole_changes_in_a_call config begun s id other view identity book file_pass tied at live held kept old new actor next after left waiting once =
-      in_a_call config begun s id other view file_pass tied at live held book after old new actor next left waiting once
+  moments_leave_whole_changes config begun s id tenant view tied (AtRest rest) at live =
+      in_doubt config begun s id view tied at live (file_kept rest.file_pass) (held_at_rest s tenant rest) tenant (its_tenant {s = s} (AtRest rest)) rest.book
+      (agrees_of facts rest.book (file_kept rest.file_pass) (opening_at rest.identity.openings rest.file_pass.tenant).quota rest.identity.config.pool rest.kept.agrees).shows.stands
+  moments_leave_whole_changes config begun s id tenant view tied (BeforeTheEvent call held) at live =
+      in_a_call config begun s id view tied at live call.token held tenant (its_tenant (BeforeTheEvent call held)) call.before call.after call.old call.new call.actor call.next call.kept call.waiting call.once
+  moments_leave_whole_changes config begun s id tenant view tied (AfterTheEvent call held) at live =
+      in_doubt config begun s id view tied at live call.kept held tenant (its_tenant (AfterTheEvent call held)) call.after call.once.agrees.shows.stands
 
   pub calls_keep_changes : CallsKeepChanges facts
   calls_keep_changes identity first now job old new actor next answered goes files =
@@ -297,15 +338,10 @@ module _ {D : Type 0} (facts : D → Facts) where
       low = tenant_of first now actor.tenant job SaysYes answered
 
   pub moments_keep_changes : (config : Config) (begun : (ℕ → TenantStart) → List WorldEvent → Type 0) → MomentsKeepChanges facts config begun
-  unfolding with_change at_rest in_a_call
-  moments_keep_changes config begun s id other first now view job identity book file_pass tied at live held kept answered goes =
-      let seen = goes.seen file_pass.tenant (tenant_of first now file_pass.tenant job SaysYes answered) in
-      let rest = at_rest config begun s id other view file_pass tied at live held identity book kept in (
-        (with_change first now view file_pass.tenant job (file_kept file_pass).doubt (disk_in book.held) (disk_in book.held) answered seen rest.0, rest.1),
-        λ old new actor next after left waiting once.
-            let during = in_a_call config begun s id other view file_pass tied at live held book after old new actor next left waiting once in
-            (with_change first now view file_pass.tenant job (stake_by once.end once.called (file_kept file_pass)) (disk_in book.held) (disk_in after.held) answered seen during.0, during.1),
-      )
+  unfolding with_change
+  moments_keep_changes config begun s id tenant first now view job tied crash at live answered goes =
+      let left = (moments_leave_whole_changes config begun s id tenant view tied crash at live).0 in
+      (with_change first now view tenant job (stake_at facts crash) (first_disk facts crash) (last_disk facts crash) answered (goes.seen tenant (tenant_of first now tenant job SaysYes answered)) left.0, left.1)
 
   -- the change of a request that was answered is among whole changes wholly or not at all
   wholly : (first now view : View) (tenant : ℕ) (job : Job) (reply : Reply) (more : List Entry) (old new : Option D) (answered : IsAnswered first now tenant job reply) → ExtendsView now view
@@ -345,11 +381,7 @@ module _ {D : Type 0} (facts : D → Facts) where
       )
 
   pub moments_leave_wholly_or_not : (config : Config) (begun : (ℕ → TenantStart) → List WorldEvent → Type 0) → MomentsLeaveWhollyOrNot facts config begun
-  unfolding wholly at_rest in_a_call
-  moments_leave_wholly_or_not config begun s id other first now view job reply identity book file_pass tied at live held kept answered goes =
-      let rest = at_rest config begun s id other view file_pass tied at live held identity book kept in (
-        (wholly first now view file_pass.tenant job reply (file_kept file_pass).doubt (disk_in book.held) (disk_in book.held) answered goes rest.0, rest.1),
-        λ old new actor next after left waiting once.
-            let during = in_a_call config begun s id other view file_pass tied at live held book after old new actor next left waiting once in
-            (wholly first now view file_pass.tenant job reply (stake_by once.end once.called (file_kept file_pass)) (disk_in book.held) (disk_in after.held) answered goes during.0, during.1),
-      )
+  unfolding wholly
+  moments_leave_wholly_or_not config begun s id tenant first now view job reply tied crash at live answered goes =
+      let left = (moments_leave_whole_changes config begun s id tenant view tied crash at live).0 in
+      (wholly first now view tenant job reply (stake_at facts crash) (first_disk facts crash) (last_disk facts crash) answered goes left.0, left.1)

@@ -1,6 +1,6 @@
 -- From the arrival of a request on, no other worker has a request of its tenant under its number. So the reply that is handed out under
 -- this number is handed out by the worker to which the request came.
--- Used by: AnswerMomentLaws. It may change freely as long as this crate checks.
+-- Used by: AnswerMomentLaws, CauseMoments. It may change freely as long as this crate checks.
 use Rattle.std.specs.Prelude.{ℕ, ◌≡◌, ◌≢◌, ◌<◌, ◌≤◌, ◌==◌, ◌++◌, if◌then◌else◌, Bool, true, false, List, [], ◌∷◌, Option, Some, None}
 use Rattle.std.specs.Option.{option_map}
 use Rattle.std.proofs.Common.{refl, sym, ap, subst, ◌∙◌, inl, inr, arith}
@@ -123,7 +123,7 @@ module _ (config : Config) (openings : ℕ → TenantStart) (tenant n worker : �
           let on = on_with config state next by before sits event no_start is after there in
           lack by before apart sits (sym on.tenant ∙ its) (sym on.number ∙ same)
 
-  given_next : (events : List WorldEvent) (event : WorldEvent) (state next : State) → IsExecution config openings events state → IsExecution config openings (events ++ event ∷ []) next
+  pub given_next : (events : List WorldEvent) (event : WorldEvent) (state next : State) → IsExecution config openings events state → IsExecution config openings (events ++ event ∷ []) next
       → n < (state.tenant_states tenant).asked → n < (next.tenant_states tenant).asked
   given_next events event state next played played_next given =
       let was = asked_in_run config openings events state tenant played in

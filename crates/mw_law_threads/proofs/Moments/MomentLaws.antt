@@ -1,5 +1,5 @@
 -- Each reply was true at a moment of its call. The number of sealed changes grows one by one from the arrival of the request to
--- its reply. So it is at some moment the number of changes that are sealed before the request's mark.
+-- its reply. So it is at some moment the number of changes that are sealed before the request's mark. Of BUSY and FAULT see CauseMoments.
 -- Used by: the law replies_have_moments, mw_law_threads. Its statements may change with mw_law_threads; its proofs may change
 -- freely.
 use Rattle.std.specs.Prelude.{ℕ, zero, suc, ◌≡◌, ◌<◌, ◌≤◌, ◌⊎◌, ◌+◌, ◌==◌, ◌++◌, if◌then◌else◌, Bool, true, false, List, [], ◌∷◌, length, slice_get, Option, Some, None}
@@ -41,6 +41,7 @@ use Rattle.mw_law_store.specs.AbstractStates.{AbstractState, SealedChange, HasPl
 use Rattle.mw_law_store.specs.History.{AreNoStarts, AsksStandOnce, HasNoStart, IsBeginning, RepliesHavePlaces, SealsFit, SealsHaveGoneOn, SealsStayLong, put_sealed}
 use Rattle.mw_law_store.specs.ReplyPlaces.{HasBegun, sealed_of}
 use Rattle.mw_law_store.specs.Simulation.{start_of}
+use Rattle.mw_law_threads.proofs.Moments.CauseMoments.{HasCause, has_cause}
 use Rattle.mw_law_threads.specs.Moments.Moments.{HasMoment, IsDuring, RepliesHaveMoments, SharedWordsAreTheFiles, words_then}
 
 -- Runs.
@@ -353,8 +354,8 @@ module _ (config : Config) (openings : ℕ → TenantStart) (tenant : ℕ) (low 
                 ∙ ap (λ (words : List ℕ). put words one.entries) (sym were) ∙ ap (put (words_then at.moment tenant)) seal.its_entries;
           }
 
-      has_moment : (reply : Reply) → HasPlace start lines n job reply → At reply
-      has_moment (Val value) look =
+      has_moment : (reply : Reply) → HasPlace start lines n job reply → HasCause config between later tenant reply → At reply
+      has_moment (Val value) look caused =
           let then_so = matches look.place (since look.place look.could.asked) in
           record {
             moment = then_so.moment;
@@ -365,7 +366,7 @@ module _ (config : Config) (openings : ℕ → TenantStart) (tenant : ℕ) (low 
             reads = look.could.reads;
             says = ap (λ (words : List ℕ). word_at words look.could.address) then_so.words ∙ look.could.says;
           }
-      has_moment (SaysNo address value) miss =
+      has_moment (SaysNo address value) miss caused =
           let then_so = matches miss.place (since miss.place miss.could.asked) in
           record {
             moment = then_so.moment;
@@ -379,10 +380,10 @@ module _ (config : Config) (openings : ℕ → TenantStart) (tenant : ℕ) (low 
             says = ap (λ (words : List ℕ). word_at words address) then_so.words ∙ miss.could.says;
             differs = miss.could.differs;
           }
-      has_moment SaysYes seal = changed seal
-      has_moment SaysBusy at = tt
-      has_moment SaysFault at = tt
-      has_moment SaysWorn at = tt
+      has_moment SaysYes seal caused = changed seal
+      has_moment SaysBusy at caused = caused
+      has_moment SaysFault at caused = caused
+      has_moment SaysWorn at caused = tt
 
 -- The same by the worker that has the reply.
 of_worker : (config : Config) (openings : ℕ → TenantStart) (events later : List WorldEvent) (state between last : State) (worker tenant by : ℕ) (job : Job) (actor : ActorState) (reply : Reply)
@@ -391,6 +392,7 @@ of_worker : (config : Config) (openings : ℕ → TenantStart) (events later : L
     → HasMoment config openings between later last tenant (last.worker_states by).request job reply
 of_worker config openings events later state between last worker tenant by job actor reply played comes none goes sits of_it same_number stands =
     has_moment config openings tenant low call later between last played_between none goes number job new.ask at (omega (arith, as_many)) reply place
+    (has_cause config openings events later state between last worker tenant by job actor reply played comes none goes sits of_it same_number stands)
   where
     call : List WorldEvent
     call = events ++ Come worker tenant job ∷ []

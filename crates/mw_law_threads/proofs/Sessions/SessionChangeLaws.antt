@@ -78,11 +78,11 @@ since_answer identity before after old new borrows keeps calls kept goes =
 
 module _ {D : Type 0} (facts : D → Facts) (config : Config) (begun : (ℕ → TenantStart) → List WorldEvent → Type 0) where
   pub keep_changes : SessionsKeepChanges facts config begun
-  keep_changes identity old new job calls kept s id other view book file_pass tied its goes at live knows file_at is_kept =
+  keep_changes identity old new job calls kept s id tenant view tied crash its goes at live knows =
       let on = since_answer identity its.0 its.1 old new its.2.borrows its.2.answered.keeps calls kept goes in
-      moments_keep_changes facts config begun s id other its.2.borrows.learned.seat.me.0 its.1.seat.me.0 view job identity book file_pass tied at live file_at is_kept its.2.answered (keeps_on its.1.seat.me.0 (said_in kept) view on knows)
+      moments_keep_changes facts config begun s id tenant its.2.borrows.learned.seat.me.0 its.1.seat.me.0 view job tied crash at live its.2.answered (keeps_on its.1.seat.me.0 (said_in kept) view on knows)
 
   pub leave_wholly_or_not : SessionsLeaveWhollyOrNot facts config begun
-  leave_wholly_or_not identity old new job reply calls kept s id other view book file_pass tied its goes at live knows file_at is_kept =
+  leave_wholly_or_not identity old new job reply calls kept s id tenant view tied crash its goes at live knows =
       let on = since_answer identity its.0 its.1 old new its.2.borrows its.2.answered.keeps calls kept goes in
-      moments_leave_wholly_or_not facts config begun s id other its.2.borrows.learned.seat.me.0 its.1.seat.me.0 view job reply identity book file_pass tied at live file_at is_kept its.2.answered (keeps_on its.1.seat.me.0 (said_in kept) view on knows)
+      moments_leave_wholly_or_not facts config begun s id tenant its.2.borrows.learned.seat.me.0 its.1.seat.me.0 view job reply tied crash at live its.2.answered (keeps_on its.1.seat.me.0 (said_in kept) view on knows)

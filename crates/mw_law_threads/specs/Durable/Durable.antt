@@ -23,15 +23,14 @@ use Rattle.mw_rule.specs.Prefixes.{Gave, opening_at, seen_at}
 use Rattle.mw_rule.specs.Rule.{AreRight, IsLive, TableInvariant, words_given}
 use Rattle.mw_rule.specs.Steps.{ExtendsView}
 use Rattle.mw_rule.specs.declared.views.View.{View}
-use Rattle.mw_book.specs.declared.book.Book.{Book}
 use Rattle.mw_book.specs.Crashes.{LeavesEither}
 use Rattle.mw_book.specs.OpenFile.{OnDisk, disk_in}
-use Rattle.mw_core.specs.FileCalls.{FilesOnce, stake_by}
-use Rattle.mw_core.specs.FromTable.{FilePass, FileToken, Pass, file_kept}
+use Rattle.mw_core.specs.FileCalls.{stake_by}
+use Rattle.mw_core.specs.FromTable.{Pass, file_kept}
 use Rattle.mw_engine.specs.Brand.{Identity}
 use Rattle.mw_engine.specs.FileCalls.{FilesOne}
-use Rattle.mw_engine.specs.GuardedFile.{IsKept}
 use Rattle.mw_engine.specs.History.{IsAnswered}
+use Rattle.mw_law_threads.specs.Durable.CrashMoments.{CrashMoment, first_disk, last_disk, stake_at, token_at}
 
 -- Exactly these changes of the tenant were sealed since the latest start, in this order, in one run of the world. The run goes on
 -- from the known one. Its latest start gave the tenant what is known. The changes that were seen come first. Each change fits the
@@ -122,38 +121,23 @@ module _ {D : Type 0} (facts : D → Facts) where
     abbrev pub LeavesWhollyOrNotInRun : {s : Table ActorState View} → TableInvariant config begun s → View → ℕ → ℕ → List Entry → List Entry → Option D → Option D → Type 0
     LeavesWhollyOrNotInRun tied view tenant request entries more old new = (left : LeavesWhollyOrNot view tenant request entries more old new) × AreOfRun tied left.whole
 
-    -- The table is under the rule, by this run. One thread of it has this live view. The tenant's file pass is of it too, and is kept
-    -- with this book: no call on the file is under way. A crash now leaves whole changes, those of the run. No change of the request is
-    -- sealed whose change is in doubt.
+    -- The table is under the rule, by this run. One thread of it has this live view. A crash at this moment leaves whole changes, those
+    -- of the run. No change of the request is sealed whose change is in doubt then.
     abbrev pub MomentsLeaveWholeChanges : Type 0
-    MomentsLeaveWholeChanges = (s : Table ActorState View) (id other : ℕ) (view : View) (identity : Identity) (book : Book D) (file_pass : FilePass) (tied : TableInvariant config begun s)
-        → get_elem? s.views id ≡ some view → IsLive view → get_elem? s.views other ≡ some file_pass.seat.me.0 → IsKept facts identity book file_pass
-        → LeavesChangesOfRun tied view file_pass.tenant (file_kept file_pass).doubt (disk_in book.held) (disk_in book.held)
-        × IsWholeChange tied.past.openings tied.state file_pass.tenant (file_kept file_pass).doubt
+    MomentsLeaveWholeChanges = (s : Table ActorState View) (id tenant : ℕ) (view : View) (tied : TableInvariant config begun s) (crash : CrashMoment facts s tenant)
+        → get_elem? s.views id ≡ some view → IsLive view
+        → LeavesChangesOfRun tied view tenant (stake_at facts crash) (first_disk facts crash) (last_disk facts crash)
+        × IsWholeChange tied.past.openings tied.state tenant (token_at facts crash).doubt
 
-    -- The same if any pass makes a call on that file then: at each moment since the call began.
-    abbrev pub MomentsLeaveWholeChangesInACall : Type 0
-    MomentsLeaveWholeChangesInACall = (s : Table ActorState View) (id other : ℕ) (view : View) (identity : Identity) (book : Book D) (file_pass : FilePass) (tied : TableInvariant config begun s)
-        → get_elem? s.views id ≡ some view → IsLive view → get_elem? s.views other ≡ some file_pass.seat.me.0 → IsKept facts identity book file_pass
-        → (old new : Pass) (actor next : ActorState) (after : Book D) (kept : FileToken) (waiting : ℕ) (once : FilesOnce facts waiting old new actor next book after (file_kept file_pass) kept)
-        → LeavesChangesOfRun tied view file_pass.tenant (stake_by once.end once.called (file_kept file_pass)) (disk_in book.held) (disk_in after.held)
-
-    -- If the thread was answered YES for that tenant, and its knowledge has only grown since, the change is among the words: while no
-    -- call is under way, and at each moment of any pass's call.
+    -- If the thread was answered YES for that tenant, and its knowledge has only grown since, the change is among the words.
     abbrev pub MomentsKeepChanges : Type 0
-    MomentsKeepChanges = (s : Table ActorState View) (id other : ℕ) (first now view : View) (job : Job) (identity : Identity) (book : Book D) (file_pass : FilePass) (tied : TableInvariant config begun s)
-        → get_elem? s.views id ≡ some view → IsLive view → get_elem? s.views other ≡ some file_pass.seat.me.0 → IsKept facts identity book file_pass
-        → (answered : IsAnswered first now file_pass.tenant job SaysYes) → ExtendsView now view
-        → LeavesChangeOfRun tied view file_pass.tenant answered.token.request (entries_of job) answered.answered.place (file_kept file_pass).doubt (disk_in book.held) (disk_in book.held)
-        × ((old new : Pass) (actor next : ActorState) (after : Book D) (kept : FileToken) (waiting : ℕ) (once : FilesOnce facts waiting old new actor next book after (file_kept file_pass) kept)
-        → LeavesChangeOfRun tied view file_pass.tenant answered.token.request (entries_of job) answered.answered.place (stake_by once.end once.called (file_kept file_pass)) (disk_in book.held) (disk_in after.held))
+    MomentsKeepChanges = (s : Table ActorState View) (id tenant : ℕ) (first now view : View) (job : Job) (tied : TableInvariant config begun s) (crash : CrashMoment facts s tenant)
+        → get_elem? s.views id ≡ some view → IsLive view → (answered : IsAnswered first now tenant job SaysYes) → ExtendsView now view
+        → LeavesChangeOfRun tied view tenant answered.token.request (entries_of job) answered.answered.place (stake_at facts crash) (first_disk facts crash) (last_disk facts crash)
 
     -- If the thread was answered for that tenant, with any reply, also FAULT, and its knowledge has only grown since, the change of
-    -- that request is there wholly or not at all: while no call is under way, and at each moment of any pass's call.
+    -- that request is there wholly or not at all.
     abbrev pub MomentsLeaveWhollyOrNot : Type 0
-    MomentsLeaveWhollyOrNot = (s : Table ActorState View) (id other : ℕ) (first now view : View) (job : Job) (reply : Reply) (identity : Identity) (book : Book D) (file_pass : FilePass) (tied : TableInvariant config begun s)
-        → get_elem? s.views id ≡ some view → IsLive view → get_elem? s.views other ≡ some file_pass.seat.me.0 → IsKept facts identity book file_pass
-        → (answered : IsAnswered first now file_pass.tenant job reply) → ExtendsView now view
-        → LeavesWhollyOrNotInRun tied view file_pass.tenant answered.token.request (entries_of job) (file_kept file_pass).doubt (disk_in book.held) (disk_in book.held)
-        × ((old new : Pass) (actor next : ActorState) (after : Book D) (kept : FileToken) (waiting : ℕ) (once : FilesOnce facts waiting old new actor next book after (file_kept file_pass) kept)
-        → LeavesWhollyOrNotInRun tied view file_pass.tenant answered.token.request (entries_of job) (stake_by once.end once.called (file_kept file_pass)) (disk_in book.held) (disk_in after.held))
+    MomentsLeaveWhollyOrNot = (s : Table ActorState View) (id tenant : ℕ) (first now view : View) (job : Job) (reply : Reply) (tied : TableInvariant config begun s) (crash : CrashMoment facts s tenant)
+        → get_elem? s.views id ≡ some view → IsLive view → (answered : IsAnswered first now tenant job reply) → ExtendsView now view
+        → LeavesWhollyOrNotInRun tied view tenant answered.token.request (entries_of job) (stake_at facts crash) (first_disk facts crash) (last_disk facts crash)

@@ -1,5 +1,5 @@
 -- Defines the moment of a reply in one run: between the arrival of its request and the event that hands the reply out, the tenant's
--- words were as the reply says.
+-- words, or its door, were as the reply says.
 -- Used by: the laws of src/history_laws.rt, mw_law_threads. A change here changes what these laws say.
 use Rattle.std.specs.Prelude.{ℕ, ◌≡◌, ◌++◌, true, List, [], ◌∷◌, slice_get, Some}
 use mathlib.Core.Option.{some}
@@ -21,8 +21,8 @@ use Rattle.mw_rule.specs.declared.views.View.{View}
 use Rattle.mw_rule.specs.declared.views.WorkerToken.{WorkerToken}
 
 -- In this run the request of this worker comes, under this number, after all that its thread knew before. Other events follow, and
--- then the worker hands out its reply. Between the two, in the world after some of these events, a VAL, a NO or a YES was true: the
--- words of the tenant's file had these values, or this change was sealed.
+-- then the worker hands out its reply. Between the two, in the world after some of these events, the reply was true: the words of the
+-- tenant's file had these values, this change was sealed, or the tenant's door had the cause of BUSY or FAULT.
 pub record HasMomentInRun (config : Config) (openings : ℕ → TenantStart) (before events : List WorldEvent) (first : View) (worker tenant request : ℕ) (job : Job) (reply : Reply) : Type 0 where
   pub until : List WorldEvent
   pub later : List WorldEvent

@@ -1,12 +1,13 @@
--- Defines the moment of a VAL, a NO or a YES: between the arrival of the request and its reply, the tenant's words were as the reply
--- says. A mark of the request, which is an entry of the tenant's history, stands where as many changes are sealed as at this moment.
+-- Defines the moment of a reply, between the arrival of the request and the reply. Of a VAL, a NO or a YES: the tenant's words were as
+-- the reply says. A mark of the request, which is an entry of the tenant's history, stands where as many changes are sealed as at this
+-- moment. Of BUSY and FAULT: the tenant's door, the shared word that counts its slots, had the cause.
 -- Used by: the law of src/moment_laws.rt, mw_law_threads. A change here changes what their laws say.
-use Rattle.std.specs.Prelude.{ℕ, ◌≡◌, ◌≢◌, ◌<◌, ◌++◌, true, List, [], ◌∷◌, slice_get, Some}
+use Rattle.std.specs.Prelude.{ℕ, ◌≡◌, ◌≢◌, ◌<◌, ◌++◌, true, false, List, [], ◌∷◌, slice_get, Some}
 use Rattle.mw_words.specs.declared.jobs.Entry.{Entry}
 use Rattle.mw_words.specs.declared.jobs.Job.{Job}
 use Rattle.mw_words.specs.declared.jobs.Job.TheVariants.{Get}
 use Rattle.mw_words.specs.declared.replies.Reply.{Reply}
-use Rattle.mw_words.specs.declared.replies.Reply.TheVariants.{Val, Yes as SaysYes, No as SaysNo}
+use Rattle.mw_words.specs.declared.replies.Reply.TheVariants.{Val, Yes as SaysYes, No as SaysNo, Busy as SaysBusy, Fault as SaysFault}
 use Rattle.mw_words.specs.Change.{fits, put, word_at}
 use Rattle.mw_lone.specs.declared.marks.Mark.{Mark}
 use Rattle.mw_lone.specs.declared.marks.Mark.TheVariants.{Look, Miss, Seal}
@@ -33,6 +34,19 @@ pub record IsDuring (config : Config) (between : State) (later : List WorldEvent
   pub rest : List WorldEvent
   pub parted : later ≡ first ++ rest
   pub reached : run config between first ≡ Some moment
+
+-- At a moment of the call the tenant's door counted as many slots in use as its quota allows, and had no fault.
+pub record WasFull (config : Config) (between : State) (later : List WorldEvent) (tenant : ℕ) : Type 0 where
+  pub moment : State
+  pub during : IsDuring config between later moment
+  pub full : (moment.cells.doors tenant).used ≡ (moment.tenant_states tenant).quota
+  pub no_fault : (moment.cells.doors tenant).fault ≡ false
+
+-- At a moment of the call the tenant's door had the fault: its file had failed, or had not opened.
+pub record HadFault (config : Config) (between : State) (later : List WorldEvent) (tenant : ℕ) : Type 0 where
+  pub moment : State
+  pub during : IsDuring config between later moment
+  pub fault : (moment.cells.doors tenant).fault ≡ true
 
 -- The mark of this request stands for a moment: it is on this line of the tenant's history since the last start, after the line
 -- with which the request came. Before it the same changes are sealed as at that moment.
@@ -83,15 +97,17 @@ module _ (config : Config) (openings : ℕ → TenantStart) (between : State) (l
     pub expected : fits (words_then moment tenant) (entries_of job) ≡ true
     pub made : words_then next tenant ≡ put (words_then moment tenant) (entries_of job)
 
-  -- A VAL, a NO or a YES has a moment of the call. Of BUSY, FAULT and WORN this says nothing: they tell of no word.
+  -- Each reply but WORN has a moment of the call. Of WORN this says nothing.
   abbrev pub HasMoment : Reply → Type 0
   HasMoment (Val value) = WasRead value
   HasMoment (SaysNo address value) = WasRefused address value
   HasMoment SaysYes = WasChanged
+  HasMoment SaysBusy = WasFull config between later tenant
+  HasMoment SaysFault = HadFault config between later tenant
   HasMoment reply = Unit {0}
 
 -- A request comes, events follow that are not starts, and then an event hands out the reply to this request, by its tenant and
--- number. If it is a VAL, a NO or a YES, it has a moment between the two. A start drops all requests, so none lies between.
+-- number. If it is not WORN, it has a moment between the two. A start drops all requests, so none lies between.
 abbrev pub RepliesHaveMoments : Type 0
 RepliesHaveMoments = (config : Config) (openings : ℕ → TenantStart) (events later : List WorldEvent) (event : WorldEvent) (state between last : State) (worker tenant : ℕ) (job : Job) (reply : Reply)
     → IsExecution config openings events state → step config state (Come worker tenant job) ≡ Some between → AreNoStarts later → run config between later ≡ Some last

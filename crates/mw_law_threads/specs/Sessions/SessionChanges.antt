@@ -17,36 +17,27 @@ use Rattle.mw_world.specs.Definition.State.{TenantStart}
 use Rattle.mw_rule.specs.Rule.{IsLive, TableInvariant}
 use Rattle.mw_rule.specs.Steps.{ExtendsView}
 use Rattle.mw_rule.specs.declared.views.View.{View}
-use Rattle.mw_book.specs.declared.book.Book.{Book}
-use Rattle.mw_book.specs.OpenFile.{disk_in}
-use Rattle.mw_core.specs.FileCalls.{FilesOnce, stake_by}
-use Rattle.mw_core.specs.FromTable.{FilePass, FileToken, Pass, file_kept}
 use Rattle.mw_session.specs.Talk.{Call}
 use Rattle.mw_session.specs.Transitions.{GoesThrough}
 use Rattle.mw_engine.specs.Brand.{Identity}
 use Rattle.mw_engine.specs.FromBelow.{Note, said_in}
-use Rattle.mw_engine.specs.GuardedFile.{IsKept}
 use Rattle.mw_service.specs.Borrowed.{AnswersWith, IsAnsweredWith}
+use Rattle.mw_law_threads.specs.Durable.CrashMoments.{CrashMoment, first_disk, last_disk, stake_at}
 use Rattle.mw_law_threads.specs.Durable.Durable.{LeavesChangeOfRun, LeavesWhollyOrNotInRun}
 
 module _ {D : Type 0} (facts : D → Facts) (config : Config) (begun : (ℕ → TenantStart) → List WorldEvent → Type 0) where
   -- A session was answered YES, whichever pass it borrowed. By these later calls, whichever passes it borrows for them, it has come to
   -- this note. One thread of the table is live and knows all that the note tells: that of the note itself, or of a pass that has
-  -- learned it. The tenant's file pass is of the table too, and is kept with this book: no call on the file is under way. A crash now
-  -- leaves the change among the words; so does a crash at each moment of any pass's call that comes next.
+  -- learned it. A crash at this moment leaves the change among the words.
   abbrev pub SessionsKeepChanges : Type 0
-  SessionsKeepChanges = (identity : Identity) (old new : Option Note) (job : Job) (calls : List Call) (kept : Note) (s : Table ActorState View) (id other : ℕ) (view : View) (book : Book D) (file_pass : FilePass)
-      (tied : TableInvariant config begun s) (its : IsAnsweredWith identity old file_pass.tenant job SaysYes new) → GoesThrough (AnswersWith identity) new calls (Some kept)
-      → get_elem? s.views id ≡ some view → IsLive view → ExtendsView (said_in kept) view → get_elem? s.views other ≡ some file_pass.seat.me.0 → IsKept facts identity book file_pass
-      → LeavesChangeOfRun facts config begun tied view file_pass.tenant its.2.answered.token.request (entries_of job) its.2.answered.answered.place (file_kept file_pass).doubt (disk_in book.held) (disk_in book.held)
-      × ((before after : Pass) (actor next : ActorState) (later : Book D) (token : FileToken) (waiting : ℕ) (once : FilesOnce facts waiting before after actor next book later (file_kept file_pass) token)
-      → LeavesChangeOfRun facts config begun tied view file_pass.tenant its.2.answered.token.request (entries_of job) its.2.answered.answered.place (stake_by once.end once.called (file_kept file_pass)) (disk_in book.held) (disk_in later.held))
+  SessionsKeepChanges = (identity : Identity) (old new : Option Note) (job : Job) (calls : List Call) (kept : Note) (s : Table ActorState View) (id tenant : ℕ) (view : View)
+      (tied : TableInvariant config begun s) (crash : CrashMoment facts s tenant) (its : IsAnsweredWith identity old tenant job SaysYes new) → GoesThrough (AnswersWith identity) new calls (Some kept)
+      → get_elem? s.views id ≡ some view → IsLive view → ExtendsView (said_in kept) view
+      → LeavesChangeOfRun facts config begun tied view tenant its.2.answered.token.request (entries_of job) its.2.answered.answered.place (stake_at facts crash) (first_disk facts crash) (last_disk facts crash)
 
   -- The same of a request that the session was answered with any reply, also FAULT: its change is there wholly or not at all.
   abbrev pub SessionsLeaveWhollyOrNot : Type 0
-  SessionsLeaveWhollyOrNot = (identity : Identity) (old new : Option Note) (job : Job) (reply : Reply) (calls : List Call) (kept : Note) (s : Table ActorState View) (id other : ℕ) (view : View) (book : Book D) (file_pass : FilePass)
-      (tied : TableInvariant config begun s) (its : IsAnsweredWith identity old file_pass.tenant job reply new) → GoesThrough (AnswersWith identity) new calls (Some kept)
-      → get_elem? s.views id ≡ some view → IsLive view → ExtendsView (said_in kept) view → get_elem? s.views other ≡ some file_pass.seat.me.0 → IsKept facts identity book file_pass
-      → LeavesWhollyOrNotInRun facts config begun tied view file_pass.tenant its.2.answered.token.request (entries_of job) (file_kept file_pass).doubt (disk_in book.held) (disk_in book.held)
-      × ((before after : Pass) (actor next : ActorState) (later : Book D) (token : FileToken) (waiting : ℕ) (once : FilesOnce facts waiting before after actor next book later (file_kept file_pass) token)
-      → LeavesWhollyOrNotInRun facts config begun tied view file_pass.tenant its.2.answered.token.request (entries_of job) (stake_by once.end once.called (file_kept file_pass)) (disk_in book.held) (disk_in later.held))
+  SessionsLeaveWhollyOrNot = (identity : Identity) (old new : Option Note) (job : Job) (reply : Reply) (calls : List Call) (kept : Note) (s : Table ActorState View) (id tenant : ℕ) (view : View)
+      (tied : TableInvariant config begun s) (crash : CrashMoment facts s tenant) (its : IsAnsweredWith identity old tenant job reply new) → GoesThrough (AnswersWith identity) new calls (Some kept)
+      → get_elem? s.views id ≡ some view → IsLive view → ExtendsView (said_in kept) view
+      → LeavesWhollyOrNotInRun facts config begun tied view tenant its.2.answered.token.request (entries_of job) (stake_at facts crash) (first_disk facts crash) (last_disk facts crash)

@@ -30,8 +30,7 @@ run_in None = None
 run_in (Some kept) = (said_in kept).known_run
 
 -- The run that the session's note tells with the reply goes back to the engine's start. In this run the request comes after all
--- that the session's note told before. Then its worker hands out the reply, and between the two a VAL, a NO or a YES was true
--- (`HasMomentInRun`).
+-- that the session's note told before. Then its worker hands out the reply, and between the two it was true (`HasMomentInRun`).
 pub record IsTimed (identity : Identity) (before with_it : Option KnownRun) (tenant : ℕ) (job : Job) (reply : Reply) : Type 0 where
   pub openings : ℕ → TenantStart
   pub past : List WorldEvent

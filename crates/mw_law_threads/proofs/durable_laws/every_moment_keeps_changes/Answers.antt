@@ -1,13 +1,10 @@
 -- Proves the law `every_moment_keeps_changes` (src/durable_laws.rt): at every moment a crash leaves the changes that were answered YES. Used
 -- by: that law alone. It may change freely as long as this crate checks.
-use Rattle.mw_law_threads.proofs.Durable.DurableLaws.{moments_keep_changes, moments_leave_whole_changes, moments_leave_whole_changes_in_a_call, moments_leave_wholly_or_not}
+use Rattle.mw_law_threads.proofs.Durable.DurableLaws.{moments_keep_changes, moments_leave_whole_changes, moments_leave_wholly_or_not}
 use Rattle.mw_law_threads.proofs.durable_laws.every_moment_keeps_changes.Goals as goal
 
 pub returns-clause-whole : goal.returns-clause-whole
 returns-clause-whole g c key = moments_leave_whole_changes g.D.Disk.facts (g.B.Begins.config key) (g.B.Begins.begun key)
-
-pub returns-clause-in_a_call : goal.returns-clause-in_a_call
-returns-clause-in_a_call g c key = moments_leave_whole_changes_in_a_call g.D.Disk.facts (g.B.Begins.config key) (g.B.Begins.begun key)
 
 pub returns-clause-kept : goal.returns-clause-kept
 returns-clause-kept g c key = moments_keep_changes g.D.Disk.facts (g.B.Begins.config key) (g.B.Begins.begun key)

@@ -1,0 +1,4 @@
+-- The proofs that one store alone goes on over a start. This page only lists its modules.
+pub mod LaterStoreLaws
+pub mod OneStoreLaws
+pub mod FoundAfterCrashLaws

@@ -1,0 +1,4 @@
+-- One store alone over a start. This page only lists its modules.
+pub mod LaterStores
+pub mod OneStore
+pub mod FoundAfterCrashes
