@@ -9,6 +9,7 @@ use mw_disk::MemDisk;
 use mw_file::TenantFile;
 use mw_look::Call;
 use mw_words::is_change;
+use std::alloc::Global;
 use std::process::Abort;
 
 /// Prepares in a new file of two words and six places, a call of whose device fails.
@@ -89,15 +90,20 @@ fn waiting_of<R: Abort + AllocGlobal>(rt: &R, row: Row) -> Vec<Waiting> {
     waiting
 }
 
-/// Makes the book of a row's file. Gives `None` if the file doesn't open, or has fewer places than are used.
-fn book_of<R: Abort + AllocGlobal>(rt: &R, row: Row) -> Option<Book<MemDisk>> {
+/// Makes the disk of a row's file.
+fn disk_of<R: Abort + AllocGlobal>(rt: &R, row: Row) -> MemDisk {
     let mut disk = disk_with(rt, &new_bytes(rt, 2, 3));
     disk.fail_next(row.fails).expect(rt, MEMORY);
-    match TenantFile::open(rt.alloc(), disk) {
+    disk
+}
+
+/// Makes the book of the file on a disk, with so many places. Gives `None` if the file doesn't open, or has fewer.
+fn book_of(alloc: Global, disk: MemDisk, places: u16) -> Option<Book<MemDisk>> {
+    match TenantFile::open(alloc, disk) {
         Ok(opened) => {
             let (file, _) = opened;
-            if file.places() >= row.places {
-                Some(Book::new(file, row.places))
+            if file.places() >= places {
+                Some(Book::new(file, places))
             } else {
                 None
             }
@@ -115,15 +121,20 @@ fn prepare(book: &mut Book<MemDisk>, slot: u8, waiting: &[Waiting]) -> Option<Fi
     Some(book.call(Call::Prepare, slot, &entries, waiting))
 }
 
-/// A row's prepares end as it says.
-fn end_so<R: Abort + AllocGlobal>(rt: &R, row: Row) {
-    let mut book = book_of(rt, row).expect(rt, row.name);
-    let mut waiting = waiting_of(rt, row);
+/// A row's prepares in its book end as it says.
+fn end_in<R: Abort>(rt: &R, row: Row, book: &mut Book<MemDisk>, waiting: &mut Vec<Waiting>) {
     for (slot, wanted) in row.prepares {
-        let found = prepare(&mut book, *slot, &waiting);
+        let found = prepare(book, *slot, waiting);
         same(rt, row.name, u64::from(*slot), &found, wanted);
         waiting.clear();
     }
+}
+
+/// A row's prepares end as it says.
+fn end_so<R: Abort + AllocGlobal>(rt: &R, row: Row) {
+    let disk = disk_of(rt, row);
+    let mut book = book_of(rt.alloc(), disk, row.places).expect(rt, row.name);
+    end_in(rt, row, &mut book, &mut waiting_of(rt, row));
 }
 
 #[test]

@@ -16,7 +16,7 @@
 //!
 //! Nothing else uses it: it may change with what it tests.
 use crate::calls::{Ahead, Step, Writes, tell};
-use crate::files::{disk_with, opened, opening};
+use crate::files::{byte_at, disk_with, opened, opening, set_byte};
 use crate::same::{MEMORY, same};
 use mw_disk::{Disk, MemDisk};
 use std::process::Abort;
@@ -42,10 +42,10 @@ const TORN: u8 = 0xee;
 
 /// Puts these bytes at an offset.
 fn put(bytes: &mut Vec<u8>, at: usize, part: &[u8]) {
-    for (index, new) in part.iter().enumerate() {
-        if let Some(byte) = bytes.get_mut(at.saturating_add(index)) {
-            *byte = *new;
-        }
+    let mut end = at;
+    for byte in part {
+        set_byte(bytes, end, *byte);
+        end = end.saturating_add(1);
     }
 }
 
@@ -63,9 +63,7 @@ fn fill<R: Abort + AllocGlobal>(rt: &R, bytes: &mut Vec<u8>, at: usize, count: u
         bytes.resize(end, 0).expect(rt, MEMORY);
     }
     for index in at..end {
-        if let Some(old) = bytes.get_mut(index) {
-            *old = byte;
-        }
+        set_byte(bytes, index, byte);
     }
 }
 
@@ -91,15 +89,19 @@ fn make<R: Abort + AllocGlobal>(rt: &R, bytes: &mut Bytes, call: Called) {
     }
 }
 
-/// Gives the first offset at which these bytes differ, with both bytes.
-fn difference(found: &[u8], wanted: &[u8]) -> Option<(usize, Option<u8>, Option<u8>)> {
-    for at in 0..found.len().max(wanted.len()) {
-        let (one, other) = (found.get(at).copied(), wanted.get(at).copied());
-        if one != other {
-            return Some((at, one, other));
+/// Gives the first offset at which these bytes differ, or one has ended.
+fn difference(found: &[u8], wanted: &[u8]) -> Option<usize> {
+    let shared = found.len().min(wanted.len());
+    for at in 0..shared {
+        if byte_at(found, at) != byte_at(wanted, at) {
+            return Some(at);
         }
     }
-    None
+    if found.len() == wanted.len() {
+        None
+    } else {
+        Some(shared)
+    }
 }
 
 /// A file, what is done with it, and the calls that this makes on the device.

@@ -255,6 +255,15 @@ fn changes_of<R: Abort + AllocGlobal>(rt: &R, ahead: Ahead) -> Vec<NewChange> {
     changes
 }
 
+/// Makes a call that prepares these changes, if it may be made.
+fn tell_ahead(file: &mut TenantFile<MemDisk>, step: Step, changes: &[NewChange]) -> Told {
+    match step {
+        Step::SealWith(place, _) => seal_with(file, Place(place), changes),
+        Step::SettleAll(_) => settle_all(file, changes),
+        _ => prepare_all(file, changes),
+    }
+}
+
 /// Makes a call, if it may be made.
 pub(crate) fn tell<R: Abort + AllocGlobal>(
     rt: &R,
@@ -263,11 +272,11 @@ pub(crate) fn tell<R: Abort + AllocGlobal>(
 ) -> Told {
     match step {
         Step::Prepare(writes) => prepare(file, &change(writes)),
-        Step::PrepareAll(ahead) => prepare_all(file, &changes_of(rt, ahead)),
         Step::Seal(place) => seal(file, Place(place)),
-        Step::SealWith(place, ahead) => seal_with(file, Place(place), &changes_of(rt, ahead)),
         Step::Settle(place) => settle(file, Place(place)),
-        Step::SettleAll(ahead) => settle_all(file, &changes_of(rt, ahead)),
         Step::Cancel(place) => cancel(file, Place(place)),
+        Step::PrepareAll(ahead) | Step::SealWith(_, ahead) | Step::SettleAll(ahead) => {
+            tell_ahead(file, step, &changes_of(rt, ahead))
+        }
     }
 }

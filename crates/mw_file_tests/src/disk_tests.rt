@@ -10,7 +10,7 @@ use std::io::ErrorKind;
 use std::os::unix::fs::FileExt;
 use std::path::PathBuf;
 use std::process::Abort;
-use std::test::Fail;
+use std::rt::{Env, Files};
 use std::{env, fs, io, process};
 
 /// A call on a disk, and what it must answer.
@@ -167,20 +167,21 @@ fn a_disk_in_memory_fails_and_stops_when_told(rt: HostRuntime) {
     same(&rt, "a disk that has stopped", 0, &disk.faults(), &4);
 }
 
-/// Gives the path of a file that only this process uses.
-fn path_of_test(rt: &HostRuntime) -> Result<PathBuf, Fail> {
-    let name = format!(in rt.alloc(); "mw_disk-test-{}", process::id(rt.process()))?;
-    Ok(env::temp_dir(rt)?.join(rt.alloc(), name.as_str())?)
+/// Gives the path of a file that only the process of this number uses.
+fn path_of<R: Abort + AllocGlobal + Env>(rt: &R, id: u32) -> PathBuf {
+    let name = format!(in rt.alloc(); "mw_disk-test-{id}").expect(rt, MEMORY);
+    let folder = env::temp_dir(rt).expect(rt, MEMORY);
+    folder.join(rt.alloc(), name.as_str()).expect(rt, MEMORY)
 }
 
 /// Makes a new file, open for reading and writing, and removes its name.
-fn nameless_file(rt: &HostRuntime) -> Result<File, Fail> {
-    let path = path_of_test(rt)?;
+fn nameless_file<R: Abort + AllocGlobal + Env + Files<File = File>>(rt: &R, id: u32) -> File {
+    let path = path_of(rt, id);
     let mut options = OpenOptions::new();
     options.read(true).write(true).create(true);
-    let file = options.open(rt, path.as_path())?;
-    fs::remove_file(rt, path.as_path())?;
-    Ok(file)
+    let file = options.open(rt, path.as_path()).expect(rt, "a file");
+    fs::remove_file(rt, path.as_path()).expect(rt, "a file");
+    file
 }
 
 /// A disk of no bytes gives what is written to it. It refuses reads past it, and writes past every file's end.
@@ -196,13 +197,12 @@ const USE: [Turn; 8] = [
 ];
 
 #[test]
-fn a_disk_in_memory_and_one_over_a_file_are_used_alike(rt: HostRuntime) -> Result<(), Fail> {
+fn a_disk_in_memory_and_one_over_a_file_are_used_alike(rt: HostRuntime) {
     play(&rt, "a disk in memory", &mut disk_with(&rt, &[]), &USE);
-    let mut disk = FileDisk::new(nameless_file(&rt)?);
+    let mut disk = FileDisk::new(nameless_file(&rt, process::id(rt.process())));
     play(&rt, "a disk over a file", &mut disk, &USE);
-    let len = disk.into_file().metadata()?.len();
-    same(&rt, "the file's length", 0, &len, &7);
-    Ok(())
+    let told = disk.into_file().metadata().expect(&rt, "a file");
+    same(&rt, "the file's length", 0, &told.len(), &7);
 }
 
 /// A file of 8 bytes. Each call takes one byte, and every third call is interrupted.

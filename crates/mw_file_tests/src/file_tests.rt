@@ -3,8 +3,8 @@
 //! Used by: `opening_tests` and `power_tests`. It may change freely as long as this crate checks and its tests pass.
 use crate::calls::{Step, Told, tell};
 use crate::files::{
-    TORN, Trouble, WRITTEN, bring_trouble, disk_with, faults, left, new_bytes, new_file, opened,
-    opens_with,
+    OFTEN, TORN, Trouble, WRITTEN, bring_trouble, disk_with, faults, leaves, left, new_bytes,
+    new_file, opened, opens_with, over_and_over,
 };
 use crate::same::{MEMORY, holds, same};
 use crate::turn_tests::WAITING;
@@ -77,37 +77,26 @@ fn words_after(calls: u8, trouble: Trouble, torn: &[u8]) -> [u64; 2] {
     }
 }
 
-/// Crashes of this file leave the right words, whatever is torn.
+/// Crashes of this file leave the right words with each of these torn bytes, so often.
 fn leaves_words<R: Abort + AllocGlobal>(
     rt: &R,
     file: &TenantFile<MemDisk>,
     calls: u8,
     trouble: Trouble,
+    torn: (&[&[u8]], u16),
 ) {
-    for torn in TORN {
+    let (rows, times) = torn;
+    for torn in rows {
         let words = words_after(calls, trouble, torn);
-        let is_right = opens_with(rt, &left(rt, file, torn), &[&words]);
-        holds(rt, "any torn bytes", u64::from(calls), is_right);
+        let bytes = over_and_over(rt, torn, times);
+        let image = file.crash(&bytes).expect(rt, MEMORY);
+        let is_right = opens_with(rt, &image, &[&words]);
+        holds(rt, "torn bytes", u64::from(calls), is_right);
     }
 }
 
 /// Torn bytes that are shorter than most writes.
 const SHORT: [&[u8]; 3] = [&[], &[0x00], &[0xa5]];
-
-/// The same if a single byte is torn at most.
-fn leaves_words_of_one<R: Abort + AllocGlobal>(
-    rt: &R,
-    file: &TenantFile<MemDisk>,
-    calls: u8,
-    trouble: Trouble,
-) {
-    for torn in SHORT {
-        let words = words_after(calls, trouble, torn);
-        let image = file.crash(torn).expect(rt, MEMORY);
-        let is_right = opens_with(rt, &image, &[&words]);
-        holds(rt, "one torn byte", u64::from(calls), is_right);
-    }
-}
 
 /// A file whose device has trouble after so many calls answers as it must, twice. After each, crashes leave
 /// the right words.
@@ -118,10 +107,10 @@ fn crash_in_a_call<R: Abort + AllocGlobal>(rt: &R, row: &str, calls: u8, trouble
     let failed = if calls < 9 { 1 } else { 0 };
     same(rt, row, at, &answers(rt, &mut file), &first);
     same(rt, row, at, &faults(rt, &file), &failed);
-    leaves_words_of_one(rt, &file, calls, trouble);
+    leaves_words(rt, &file, calls, trouble, (&SHORT, 1));
     same(rt, row, at, &answers(rt, &mut file), &again);
     same(rt, row, at, &faults(rt, &file), &1);
-    leaves_words(rt, &file, calls, trouble);
+    leaves_words(rt, &file, calls, trouble, (&TORN, OFTEN));
 }
 
 #[test]
@@ -155,10 +144,7 @@ fn crash_in_a_seal<R: Abort + AllocGlobal>(rt: &R, calls: u8, may: &[&[u64]]) {
     let mut file = troubled_file(rt, calls, Trouble::Stop);
     let _ = tell(rt, &mut file, FIRST_WORD);
     let _ = tell(rt, &mut file, SEAL_WITH);
-    for torn in TORN {
-        let is_right = opens_with(rt, &left(rt, &file, torn), may);
-        holds(rt, "a seal", u64::from(calls), is_right);
-    }
+    leaves(rt, "a seal", u64::from(calls), &file, may);
 }
 
 #[test]

@@ -5,7 +5,7 @@ ghost use Rattle.std.specs.Prelude.{◌≤◌};
 ghost use Rattle.mw_words.specs.declared.limits.TheConstants.{MAX_WORDS};
 ghost use Rattle.mw_record.specs.declared.layout.TheConstants.{FIRST_PLACES};
 
-use crate::same::MEMORY;
+use crate::same::{MEMORY, holds};
 use mw_disk::{Disk, MemDisk};
 use mw_file::{OpenFault, TenantFile};
 use mw_record::{header, size};
@@ -43,12 +43,25 @@ pub(crate) fn new_bytes<R: Abort + AllocGlobal>(rt: &R, words: u16, places: u16)
     bytes
 }
 
+/// Changes the byte at an offset, if there is one.
+pub(crate) fn set_byte(bytes: &mut Vec<u8>, at: usize, byte: u8) {
+    if at < bytes.len() {
+        bytes[at] = byte;
+    }
+}
+
 /// Changes some of these bytes.
 pub(crate) fn set_bytes(bytes: &mut Vec<u8>, changes: &[(usize, u8)]) {
     for change in changes {
-        if let Some(byte) = bytes.get_mut(change.0) {
-            *byte = change.1;
-        }
+        set_byte(bytes, change.0, change.1);
+    }
+}
+
+/// Gives the byte at an offset, 0 past the end.
+pub(crate) fn byte_at(bytes: &[u8], at: usize) -> u8 {
+    match bytes.get(at) {
+        Some(byte) => *byte,
+        None => 0,
     }
 }
 
@@ -164,10 +177,13 @@ pub(crate) fn opens_with<R: Abort + AllocGlobal>(rt: &R, image: &[u8], may: &[&[
     }
 }
 
-/// Repeats these torn bytes, to more than any one write has.
-fn over_and_over<R: Abort + AllocGlobal>(rt: &R, torn: &[u8]) -> Vec<u8> {
+/// How often torn bytes are repeated, to more than any one write has.
+pub(crate) const OFTEN: u16 = 300;
+
+/// Repeats these torn bytes so often.
+pub(crate) fn over_and_over<R: Abort + AllocGlobal>(rt: &R, torn: &[u8], times: u16) -> Vec<u8> {
     let mut bytes = Vec::new(rt.alloc());
-    for _ in 0..300 {
+    for _ in 0..times {
         bytes.extend_from_slice(torn).expect(rt, MEMORY);
     }
     bytes
@@ -175,7 +191,8 @@ fn over_and_over<R: Abort + AllocGlobal>(rt: &R, torn: &[u8]) -> Vec<u8> {
 
 /// Gives what a crash leaves of a disk, with these torn bytes again and again.
 pub(crate) fn left_on<R: Abort + AllocGlobal>(rt: &R, disk: &MemDisk, torn: &[u8]) -> Vec<u8> {
-    disk.crash(&over_and_over(rt, torn)).expect(rt, MEMORY)
+    disk.crash(&over_and_over(rt, torn, OFTEN))
+        .expect(rt, MEMORY)
 }
 
 /// Gives what a crash leaves of a file, with these torn bytes again and again.
@@ -184,7 +201,36 @@ pub(crate) fn left<R: Abort + AllocGlobal>(
     file: &TenantFile<MemDisk>,
     torn: &[u8],
 ) -> Vec<u8> {
-    file.crash(&over_and_over(rt, torn)).expect(rt, MEMORY)
+    file.crash(&over_and_over(rt, torn, OFTEN))
+        .expect(rt, MEMORY)
+}
+
+/// Crashes of a file leave one of these lists of words, whatever is torn.
+pub(crate) fn leaves<R: Abort + AllocGlobal>(
+    rt: &R,
+    row: &str,
+    at: u64,
+    file: &TenantFile<MemDisk>,
+    may: &[&[u64]],
+) {
+    for torn in &TORN {
+        holds(rt, row, at, opens_with(rt, &left(rt, file, torn), may));
+    }
+}
+
+/// Crashes of a disk with any of these torn bytes leave these words.
+pub(crate) fn disk_leaves<R: Abort + AllocGlobal>(
+    rt: &R,
+    row: &str,
+    at: u64,
+    disk: &MemDisk,
+    torn: &[&[u8]],
+    words: &[u64],
+) {
+    for torn in torn {
+        let is_right = opens_with(rt, &left_on(rt, disk, torn), &[words]);
+        holds(rt, row, at, is_right);
+    }
 }
 
 /// Gives how many device calls of a file have failed.

@@ -4,8 +4,8 @@
 //! Used by: `power_tests` and `damage_tests`. It may change freely as long as this crate checks and its tests pass.
 use crate::file_tests::{answers, answers_to, troubled_file};
 use crate::files::{
-    SET_FIRST, TORN, Trouble, WRITTEN, disk_with, left, left_on, new_bytes, opened, opening,
-    opens_with, set_bytes, troubled,
+    SET_FIRST, TORN, Trouble, WRITTEN, disk_leaves, disk_with, left, left_on, new_bytes, opened,
+    opening, set_bytes, troubled,
 };
 use crate::same::{MEMORY, holds, same};
 use crate::turn_tests::with_two_records;
@@ -212,10 +212,7 @@ fn bytes_of<R: Abort + AllocGlobal>(rt: &R, bytes: Bytes) -> Vec<u8> {
 
 /// Crashes of a disk leave a file that opens with these words, whatever is torn.
 fn keeps_words<R: Abort + AllocGlobal>(rt: &R, file: &File, calls: u8, disk: &MemDisk) {
-    for torn in TORN {
-        let is_right = opens_with(rt, &left_on(rt, disk, torn), &[file.words]);
-        holds(rt, file.name, u64::from(calls), is_right);
-    }
+    disk_leaves(rt, file.name, u64::from(calls), disk, &TORN, file.words);
 }
 
 /// Tells how an opening ends that makes so many calls at most: with the file's words or not, or with a fault. Tells

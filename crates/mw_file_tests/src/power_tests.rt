@@ -2,17 +2,12 @@
 //!
 //! Used by: `shared_tests`. It may change freely as long as this crate checks and its tests pass.
 use crate::file_tests::{answers, troubled_file};
-use crate::files::{ONES, Trouble, WRITTEN, ZEROS, left, left_on, opening, opens_with, troubled};
+use crate::files::{
+    ONES, Trouble, WRITTEN, ZEROS, byte_at, left, left_on, opening, opens_with, set_byte, troubled,
+};
 use crate::opening_tests::old_bytes;
 use crate::same::{MEMORY, holds, same};
 use std::process::Abort;
-
-/// Puts a byte at an offset.
-fn put(bytes: &mut Vec<u8>, at: usize, byte: u8) {
-    if let Some(old) = bytes.get_mut(at) {
-        *old = byte;
-    }
-}
 
 /// Files with these bytes open with one of these lists of words.
 fn open_with<R: Abort + AllocGlobal>(
@@ -41,13 +36,14 @@ pub(crate) fn torn_anywhere<R: Abort + AllocGlobal>(
     let mut last = taken.to_vec(rt.alloc()).expect(rt, MEMORY);
     let mut one = kept.to_vec(rt.alloc()).expect(rt, MEMORY);
     let mut images: u64 = 0;
-    for (cut, (before, after)) in kept.iter().zip(taken).enumerate() {
+    for cut in 0..kept.len().min(taken.len()) {
+        let (before, after) = (byte_at(kept, cut), byte_at(taken, cut));
         if before != after {
-            put(&mut one, cut, *after);
+            set_byte(&mut one, cut, after);
             open_with(rt, row, cut, [&first, &last, &one], may);
-            put(&mut one, cut, *before);
-            put(&mut first, cut, *after);
-            put(&mut last, cut, *before);
+            set_byte(&mut one, cut, before);
+            set_byte(&mut first, cut, after);
+            set_byte(&mut last, cut, before);
             images = images.saturating_add(3);
         }
     }

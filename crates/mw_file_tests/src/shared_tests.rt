@@ -6,11 +6,11 @@
 //! Nothing else uses it: it may change with what it tests.
 use crate::calls::{Told, change, prepare_all, prepare_at, seal, seal_with, settle_all};
 use crate::files::{
-    ONES, SET_FIRST, TORN, Trouble, WRITTEN, bring_trouble, faults, left, left_on, new_file,
+    ONES, SET_FIRST, Trouble, WRITTEN, bring_trouble, disk_leaves, faults, leaves, left, new_file,
     opening, opens_with, troubled,
 };
 use crate::power_tests::torn_anywhere;
-use crate::same::{MEMORY, holds, same};
+use crate::same::{MEMORY, same};
 use mw_disk::MemDisk;
 use mw_file::{FileFault, NewChange, Place, TenantFile};
 use std::process::Abort;
@@ -57,9 +57,10 @@ impl Case {
     /// Gives the words of a file that has the changes with these letters.
     fn words_with(self, letters: &[u8]) -> Words {
         let mut words = [0; 8];
-        for (letter, writes) in self.places.iter().zip(&CHANGES) {
-            if letters.contains(letter) {
-                put_writes(&mut words, writes);
+        for place in 0..4 {
+            let letter = self.places[place];
+            if letters.contains(&letter) {
+                put_writes(&mut words, &CHANGES[place]);
             }
         }
         words
@@ -74,6 +75,16 @@ impl Case {
             }
         }
         count
+    }
+
+    /// Gives the place whose change the call seals, one that the file doesn't have if there is none.
+    fn sealed(self) -> Place {
+        for place in 0..4 {
+            if self.places[place] == b'c' {
+                return Place(place as u16);
+            }
+        }
+        Place(4)
     }
 
     /// Gives how many device calls the call makes.
@@ -155,7 +166,7 @@ fn make_call<R: Abort + AllocGlobal>(rt: &R, file: &mut TenantFile<MemDisk>, cas
     match case.call {
         Shared::Prepare => prepare_all(file, &ahead),
         Shared::Settle => settle_all(file, &ahead),
-        Shared::Seal => seal_with(file, changes_with(rt, case, b'c').first()?.place, &ahead),
+        Shared::Seal => seal_with(file, case.sealed(), &ahead),
     }
 }
 
@@ -235,10 +246,7 @@ fn fails_at<R: Abort + AllocGlobal>(rt: &R, case: Case, calls: u8) {
     same(rt, case.name, at, &answers, &[disk, failed, failed]);
     same(rt, case.name, at, &faults(rt, &file), &1);
     let (least, most) = case.may(calls.saturating_add(1), calls);
-    for torn in TORN {
-        let is_right = opens_with(rt, &left(rt, &file, torn), &[&least, &most]);
-        holds(rt, case.name, at, is_right);
-    }
+    leaves(rt, case.name, at, &file, &[&least, &most]);
 }
 
 /// The call goes well, and each of its device calls fails in turn.
@@ -263,10 +271,7 @@ fn cut_off<R: Abort + AllocGlobal>(
     words: &[u64],
 ) -> bool {
     let (ended, disk) = opening(rt.alloc(), troubled(rt, image, calls, Trouble::Stop));
-    for torn in MIXED {
-        let is_right = opens_with(rt, &left_on(rt, &disk, torn), &[words]);
-        holds(rt, name, u64::from(calls), is_right);
-    }
+    disk_leaves(rt, name, u64::from(calls), &disk, &MIXED, words);
     ended.is_ok()
 }
 

@@ -2,6 +2,8 @@
 #![tactic(auto)]
 
 #[cfg(test)]
+mod checks;
+#[cfg(test)]
 mod limit_tests;
 #[cfg(test)]
 mod line_tests;

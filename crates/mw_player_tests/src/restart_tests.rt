@@ -3,9 +3,9 @@
 //!
 //! Nothing else uses it: it may change with what it tests.
 
-use crate::replay_tests::play;
+use crate::checks::MEMORY;
+use crate::replay_tests::{add, play};
 use std::process::Abort;
-use std::test::Fail;
 
 /// A start gives a tenant a second slot.
 const QUOTA_AT_RESTART: &str =
@@ -131,34 +131,44 @@ restart t=-,-,,7/restart t=-,-,7f/
 restart t=-,-,,3/restart t=-,-,ffff,4/restart t=-,-,ffffffffffffffffffff,5/restart t=-,-,ff,6/restart t=-,-,01,7/restart t=-,-,00/
 restart t=-,-,,7/restart t=-,-,a5,2/restart/";
 
-/// Plays schedules, one a line, between these two other texts. After a schedule, each after a `|`, come what must be
-/// printed and what must be said. Each must end with this status.
+/// Makes a text of three, in which `/` ends a line.
+fn lines_of<R: Abort + AllocGlobal>(rt: &R, before: &str, schedule: &str, after: &str) -> String {
+    let mut case = String::from_str(rt.alloc(), before).expect(rt, MEMORY);
+    add(rt, &mut case, schedule);
+    add(rt, &mut case, after);
+    case.replace(rt.alloc(), "/", "\n").expect(rt, MEMORY)
+}
+
+/// Plays a schedule. After it, each after a `|`, come what must be printed and what must be said.
+fn play_case<R: Abort + AllocGlobal>(rt: &R, what: &str, status: u8, case: &str) {
+    let (text, told) = case.split_once('|').expect(rt, "what is printed");
+    let (out, err) = told.split_once('|').expect(rt, "what is said");
+    play(rt, what, text, false, (status, out, err));
+}
+
+/// Plays schedules, one a line, between these two other texts. Each must end with this status.
 fn play_cases<R: Abort + AllocGlobal>(
     rt: &R,
     status: u8,
     before: &str,
     schedules: &str,
     after: &str,
-) -> Result<(), Fail> {
+) {
     for schedule in schedules.split('\n') {
-        let case = format!(in rt.alloc(); "{before}{schedule}{after}")?;
-        let lines = case.replace(rt.alloc(), "/", "\n")?;
-        let (text, told) = lines.split_once('|').expect(rt, "what is printed");
-        let (out, err) = told.split_once('|').expect(rt, "what is said");
-        play(rt, schedule, text, false, (status, out, err))?;
+        let case = lines_of(rt, before, schedule, after);
+        play_case(rt, schedule, status, &case);
     }
-    Ok(())
 }
 
 #[test]
-fn restarts_and_first_lines(rt: HostRuntime) -> Result<(), Fail> {
-    play_cases(&rt, 0, "", QUOTA_AT_RESTART, "")?;
-    play_cases(&rt, 3, "", NO_PLACE_AT_RESTART, "")?;
-    play_cases(&rt, 0, "", QUOTAS, "")?;
-    play_cases(&rt, 0, "", LOWERED, "")?;
-    play_cases(&rt, 3, "", NOT_ENABLED, "")?;
-    play_cases(&rt, 2, BEFORE_ITEM, WRONG_ITEMS, AFTER_ITEM)?;
-    play_cases(&rt, 0, "", FIRST_LINES, "")?;
-    play_cases(&rt, 2, "", WRONG_FIRST_LINES, "")?;
-    play_cases(&rt, 0, OLD_FILE, OPENINGS, OLD_WORDS)
+fn restarts_and_first_lines(rt: HostRuntime) {
+    play_cases(&rt, 0, "", QUOTA_AT_RESTART, "");
+    play_cases(&rt, 3, "", NO_PLACE_AT_RESTART, "");
+    play_cases(&rt, 0, "", QUOTAS, "");
+    play_cases(&rt, 0, "", LOWERED, "");
+    play_cases(&rt, 3, "", NOT_ENABLED, "");
+    play_cases(&rt, 2, BEFORE_ITEM, WRONG_ITEMS, AFTER_ITEM);
+    play_cases(&rt, 0, "", FIRST_LINES, "");
+    play_cases(&rt, 2, "", WRONG_FIRST_LINES, "");
+    play_cases(&rt, 0, OLD_FILE, OPENINGS, OLD_WORDS);
 }

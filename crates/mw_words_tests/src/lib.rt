@@ -3,6 +3,8 @@
 #![tactic(auto)]
 
 #[cfg(test)]
+mod checks;
+#[cfg(test)]
 mod frame_tests;
 #[cfg(test)]
 mod line_tests;

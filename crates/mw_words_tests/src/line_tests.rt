@@ -1,6 +1,7 @@
 //! Tests how lines are read, and how replies are written.
 //!
 //! Nothing else uses it: it may change with what it tests.
+use crate::checks::holds;
 use mw_line::*;
 use mw_words::{Entries, Entry, Job, MAX_LINE, Name, Reply};
 use std::process::Abort;
@@ -64,7 +65,7 @@ const SIXTEEN: [(u16, u64); 16] = [
 ];
 
 /// Lines, and what they ask for.
-const READ: [(&str, Asked); 12] = [
+static READ: [(&str, Asked); 12] = [
     ("TENANT t", Asked::Tenant(b"t")),
     (
         "TENANT abc-0123456789-z",
@@ -88,14 +89,18 @@ const READ: [(&str, Asked); 12] = [
     ),
 ];
 
+/// Tells whether a line asks for this.
+fn is_read(line: &[u8], asked: Asked) -> bool {
+    match (read_line(line), request_of(asked)) {
+        (Ok(request), Some(wanted)) => request == wanted,
+        _ => false,
+    }
+}
+
 #[test]
 fn lines_are_read(rt: HostRuntime) {
-    for (line, asked) in READ {
-        let request = request_of(asked);
-        assert!(rt;
-            request.is_some() && read_line(line.as_bytes()).ok() == request,
-            "{line}"
-        );
+    for (line, asked) in &READ {
+        holds(&rt, line, 0, is_read(line.as_bytes(), *asked));
     }
 }
 
@@ -125,11 +130,11 @@ TENANT abc-0123456789-yz
 ADMIN\x20
 CAS 0:0:1 0:0:1 0:0:1 0:0:1 0:0:1 0:0:1 0:0:1 0:0:1 0:0:1 0:0:1 0:0:1 0:0:1 0:0:1 0:0:1 0:0:1 0:0:1 0:0:01";
 
-/// Faults, and lines that have them.
-const FAULTS: [(LineFault, &str); 5] = [
-    (LineFault::NotACommand, NO_COMMANDS),
+/// The numbers of faults, and lines that have them, one a line.
+static FAULTS: [(u8, &str); 5] = [
+    (2, NO_COMMANDS),
     (
-        LineFault::AddressRange,
+        6,
         "\
 GET 4096
 GET 5000
@@ -138,97 +143,113 @@ GET 18446744073709551616
 CAS 3:0:1 3:0:1 5000:0:1",
     ),
     (
-        LineFault::AddressOrder,
+        7,
         "\
 CAS 3:0:1 3:1:2
 CAS 4:0:1 3:1:2
 CAS 0:0:1 0:0:1 0:0:1 0:0:1 0:0:1 0:0:1 0:0:1 0:0:1 0:0:1",
     ),
     (
-        LineFault::ValueRange,
+        9,
         "\
 CAS 0:0:281474976710656
 CAS 0:18446744073709551616:0
 CAS 5000:0:281474976710656",
     ),
     (
-        LineFault::TooManyEntries,
+        8,
         "CAS 0:0:1 0:0:1 0:0:1 0:0:1 0:0:1 0:0:1 0:0:1 0:0:1 0:0:1 0:0:1 0:0:1 0:0:1 0:0:1 0:0:1 0:0:1 0:0:1 0:0:1",
     ),
 ];
 
-/// Each of these lines has this fault.
-fn have_fault<R: Abort>(rt: &R, fault: LineFault, lines: &str) {
-    for line in lines.split('\n') {
-        assert!(rt; read_line(line.as_bytes()) == Err(fault), "{line}");
+/// Gives the number of a line's fault, 0 if it has none.
+fn fault_of(line: &[u8]) -> u8 {
+    match read_line(line) {
+        Ok(_) => 0,
+        Err(fault) => ErrCode::from(fault).number(),
     }
 }
 
-/// Lines of the greatest length are read to their end.
-fn have_faults_at_the_end<R: Abort>(rt: &R) {
-    assert!(rt;
-        read_line(&[b'A'; MAX_LINE]) == Err(LineFault::NotACommand),
-        "letters"
-    );
+/// Each of these lines has the fault with this number.
+fn have_fault<R: Abort>(rt: &R, number: u8, lines: &str) {
+    for line in lines.split('\n') {
+        holds(rt, line, 0, fault_of(line.as_bytes()) == number);
+    }
+}
+
+/// Gives the faults of lines of the greatest length: letters, a long address, and the same with a letter at its end.
+fn faults_at_the_end() -> [u8; 3] {
+    let letters = fault_of(&[b'A'; MAX_LINE]);
     let mut line = [b'7'; MAX_LINE];
     line[..4].copy_from_slice(b"GET ");
-    assert!(rt;
-        read_line(&line) == Err(LineFault::AddressRange),
-        "a long address"
-    );
+    let address = fault_of(&line);
     line[MAX_LINE - 1] = b'x';
-    assert!(rt;
-        read_line(&line) == Err(LineFault::NotACommand),
-        "a letter at the end"
-    );
+    [letters, address, fault_of(&line)]
 }
 
 #[test]
 fn lines_are_refused(rt: HostRuntime) {
-    for (fault, lines) in FAULTS {
-        have_fault(&rt, fault, lines);
+    for (number, lines) in &FAULTS {
+        have_fault(&rt, *number, lines);
     }
-    have_faults_at_the_end(&rt);
+    holds(
+        &rt,
+        "long lines",
+        MAX_LINE,
+        faults_at_the_end() == [2, 6, 2],
+    );
 }
+
+/// What is said, and its text.
+static SAYINGS: [(Say, &str); 13] = [
+    (Say::Ok(1), "OK 1\n"),
+    (Say::Ok(4096), "OK 4096\n"),
+    (Say::OkAdmin, "OK ADMIN\n"),
+    (Say::Store(Reply::Val(0)), "VAL 0\n"),
+    (Say::Store(Reply::Yes), "YES\n"),
+    (Say::Store(Reply::No(3, 7)), "NO 3 7\n"),
+    (
+        Say::Store(Reply::No(u16::MAX, u64::MAX)),
+        "NO 65535 18446744073709551615\n",
+    ),
+    (Say::Store(Reply::Busy), "BUSY\n"),
+    (Say::Store(Reply::Fault), "FAULT\n"),
+    (Say::Store(Reply::Worn), "WORN\n"),
+    (Say::Bye, "BYE\n"),
+    (Say::Err(ErrCode::LineTooLong), "ERR 1\n"),
+    (Say::Err(ErrCode::WrongSession), "ERR 10\n"),
+];
 
 #[test]
 fn replies_are_written(rt: HostRuntime) {
-    let cases: [(Say, &[u8]); 13] = [
-        (Say::Ok(1), b"OK 1\n"),
-        (Say::Ok(4096), b"OK 4096\n"),
-        (Say::OkAdmin, b"OK ADMIN\n"),
-        (Say::Store(Reply::Val(0)), b"VAL 0\n"),
-        (Say::Store(Reply::Yes), b"YES\n"),
-        (Say::Store(Reply::No(3, 7)), b"NO 3 7\n"),
-        (
-            Say::Store(Reply::No(u16::MAX, u64::MAX)),
-            b"NO 65535 18446744073709551615\n",
-        ),
-        (Say::Store(Reply::Busy), b"BUSY\n"),
-        (Say::Store(Reply::Fault), b"FAULT\n"),
-        (Say::Store(Reply::Worn), b"WORN\n"),
-        (Say::Bye, b"BYE\n"),
-        (Say::Err(ErrCode::LineTooLong), b"ERR 1\n"),
-        (Say::Err(ErrCode::WrongSession), b"ERR 10\n"),
-    ];
-    for (say, text) in &cases {
-        assert!(rt; say.text().as_slice() == *text, "{say:?}");
+    for (say, text) in &SAYINGS {
+        holds(&rt, text, 0, say.text().as_slice() == text.as_bytes());
     }
+}
+
+/// Faults of lines, and their numbers.
+static LINE_FAULTS: [(LineFault, u8); 5] = [
+    (LineFault::NotACommand, 2),
+    (LineFault::AddressRange, 6),
+    (LineFault::AddressOrder, 7),
+    (LineFault::TooManyEntries, 8),
+    (LineFault::ValueRange, 9),
+];
+
+/// Gives the numbers of the faults that are no fault of a line alone.
+fn other_numbers() -> [u8; 3] {
+    [
+        ErrCode::NotBound.number(),
+        ErrCode::AlreadyBound.number(),
+        ErrCode::NoSuchTenant.number(),
+    ]
 }
 
 #[test]
 fn faults_have_numbers(rt: HostRuntime) {
-    let cases = [
-        (ErrCode::from(LineFault::NotACommand), 2),
-        (ErrCode::NotBound, 3),
-        (ErrCode::AlreadyBound, 4),
-        (ErrCode::NoSuchTenant, 5),
-        (ErrCode::from(LineFault::AddressRange), 6),
-        (ErrCode::from(LineFault::AddressOrder), 7),
-        (ErrCode::from(LineFault::TooManyEntries), 8),
-        (ErrCode::from(LineFault::ValueRange), 9),
-    ];
-    for (fault, number) in cases {
-        assert_eq!(rt; fault.number(), number);
+    for (fault, number) in &LINE_FAULTS {
+        let found = ErrCode::from(*fault).number();
+        holds(&rt, "a fault", usize::from(*number), found == *number);
     }
+    holds(&rt, "other faults", 3, other_numbers() == [3, 4, 5]);
 }

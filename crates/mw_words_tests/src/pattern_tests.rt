@@ -1,6 +1,7 @@
 //! Tests the bits of the shared words, kind by kind.
 //!
 //! Nothing else uses it: it may change with what it tests.
+use crate::checks::holds;
 use mw_words::*;
 
 /// A shared word of one of the kinds.
@@ -44,7 +45,7 @@ fn has_bits(shared: Shared, bits: u64) -> bool {
 }
 
 /// Shared words, and their bits.
-const PATTERNS: [(Shared, u64); 25] = [
+static PATTERNS: [(Shared, u64); 25] = [
     (Shared::Word(Word::Plain(5)), 0x0000_0000_0000_0005),
     (Shared::Word(Word::Plain(MAX_VALUE)), 0x0000_ffff_ffff_ffff),
     (
@@ -181,13 +182,13 @@ const PATTERNS: [(Shared, u64); 25] = [
 #[test]
 fn patterns_of_shared_words(rt: HostRuntime) {
     for (at, (shared, bits)) in PATTERNS.iter().enumerate() {
-        assert!(rt; has_bits(*shared, *bits), "row {at}: {bits}");
+        holds(&rt, "a row", at, has_bits(*shared, *bits));
     }
 }
 
 /// Shared words that are out of range by one of their fields: the worker, the value, the pins of a gate that is not
 /// taken, and the entry of a status and of a row.
-const BEYOND: [(&str, Shared); 5] = [
+static BEYOND: [(&str, Shared); 5] = [
     (
         "worker",
         Shared::Word(Word::Planted {
@@ -223,8 +224,8 @@ const BEYOND: [(&str, Shared); 5] = [
 
 #[test]
 fn what_is_out_of_range(rt: HostRuntime) {
-    for (field, shared) in BEYOND {
-        assert!(rt; !is_in_range(shared), "{field}");
+    for (field, shared) in &BEYOND {
+        holds(&rt, field, 0, !is_in_range(*shared));
     }
 }
 
@@ -250,7 +251,7 @@ fn is_nothing(kind: Kind, bits: u64) -> bool {
 }
 
 /// Bits that are of no shared word of this kind.
-const NOTHING: [(Kind, u64); 16] = [
+static NOTHING: [(Kind, u64); 16] = [
     (Kind::Word, 0x0001_0000_0000_0005),
     (Kind::Word, 0x4040_0000_0000_0009),
     (Kind::Word, 0x8100_0000_0000_0001),
@@ -272,14 +273,14 @@ const NOTHING: [(Kind, u64); 16] = [
 #[test]
 fn bits_of_nothing(rt: HostRuntime) {
     for (at, (kind, bits)) in NOTHING.iter().enumerate() {
-        assert!(rt; is_nothing(*kind, *bits), "row {at}: {bits}");
+        holds(&rt, "a row", at, is_nothing(*kind, *bits));
     }
 }
 
 #[test]
 fn places(rt: HostRuntime) {
     let first = At::Addr { slot: 1, entry: 0 };
-    assert_eq!(rt; first, At::Addr { slot: 1, entry: 0 });
-    assert_ne!(rt; first, At::New { slot: 1, entry: 0 });
-    assert_ne!(rt; At::Door(1), At::Gate(1));
+    let is_itself = first == At::Addr { slot: 1, entry: 0 };
+    let is_another = first == At::New { slot: 1, entry: 0 } || At::Door(1) == At::Gate(1);
+    holds(&rt, "places", 1, is_itself && !is_another);
 }

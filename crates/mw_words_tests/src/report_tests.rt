@@ -1,76 +1,68 @@
 //! Tests the text of reports.
 //!
 //! Nothing else uses it: it may change with what it tests.
-ghost use Rattle.std.specs.Prelude.{◌≤◌};
 ghost use Rattle.mw_report.specs.Table.{IsWithinLimits};
 
+use crate::checks::holds;
 use mw_report::*;
-use mw_words::{MAX_PLACES, MAX_QUOTA, MAX_WORDS, Name};
-use std::process::Abort;
+use mw_words::{MAX_PLACES, MAX_POOL, MAX_QUOTA, MAX_WORDS, Name};
 
-/// Makes the figures of a tenant with no slot in use.
-fn tenant(name: &[u8], words: u16, quota: u8, places: u8) -> TenantFigures
-    requires words { words ≤ MAX_WORDS }
-    requires quota { quota ≤ MAX_QUOTA }
-    requires places { places ≤ MAX_PLACES }
+/// A tenant's figures: its name, words, quota, places and slots in use, and whether its file takes changes.
+type Tenant = (&'static str, u16, u8, u8, u8, bool);
+
+/// Makes figures. None is above the limit of a report.
+fn figures(tenant: &Tenant) -> TenantFigures
     ensures { IsWithinLimits result }
 {
+    let (name, words, quota, places, used, up) = *tenant;
     TenantFigures {
-        name: Name::try_from(name).unwrap_or_default(),
-        words,
-        quota,
-        places,
-        used: 0,
-        up: true,
+        name: Name::try_from(name.as_bytes()).unwrap_or_default(),
+        words: words.min(MAX_WORDS),
+        quota: quota.min(MAX_QUOTA),
+        places: places.min(MAX_PLACES as u8),
+        used: used.min(MAX_QUOTA),
+        up,
     }
 }
 
-/// The report of a tenant, with so many free slots, has this text.
+/// Tenants, how many slots are free, and the report of one tenant.
+static ROWS: [(Tenant, u16, &str); 3] = [
+    (
+        ("t", 2, 1, 2, 0, true),
+        256,
+        "t                   2  1  2  0 up\nfree 256\n",
+    ),
+    (
+        ("abcdefghijklmno-", 4096, 64, 64, 63, false),
+        0,
+        "abcdefghijklmno- 4096 64 64 63 down\nfree 0\n",
+    ),
+    (
+        ("t", 2, 1, 0, 0, false),
+        255,
+        "t                   2  1  0  0 down\nfree 255\n",
+    ),
+];
+
+/// Tells whether this is the report of one tenant.
 #[tactic(auto, using(crate::proofs::Within::within))]
-fn is_told<R: Abort>(rt: &R, figures: TenantFigures, free: u16, wanted: &[u8])
-    requires within { IsWithinLimits figures }
-    requires free { free ≤ 256 }
-{
-    let text = report_text(&[figures], free);
-    assert!(rt; text.as_slice() == wanted, "{free} free");
+fn is_told(tenant: &Tenant, free: u16, wanted: &str) -> bool {
+    report_text(&[figures(tenant)], free.min(MAX_POOL)).as_slice() == wanted.as_bytes()
 }
 
 #[test]
 fn reports_of_one_tenant(rt: HostRuntime) {
-    let usual = tenant(b"t", 2, 1, 2);
-    is_told(
-        &rt,
-        usual,
-        256,
-        b"t                   2  1  2  0 up\nfree 256\n",
-    );
-    let widest = TenantFigures {
-        used: 63,
-        up: false,
-        ..tenant(b"abcdefghijklmno-", 4096, 64, 64)
-    };
-    is_told(
-        &rt,
-        widest,
-        0,
-        b"abcdefghijklmno- 4096 64 64 63 down\nfree 0\n",
-    );
-    let without_a_file = TenantFigures {
-        up: false,
-        ..tenant(b"t", 2, 1, 0)
-    };
-    is_told(
-        &rt,
-        without_a_file,
-        255,
-        b"t                   2  1  0  0 down\nfree 255\n",
-    );
+    for (tenant, free, wanted) in &ROWS {
+        holds(&rt, wanted, 1, is_told(tenant, *free, wanted));
+    }
 }
 
 #[test]
 #[tactic(auto, using(crate::proofs::Within::within))]
 fn report_two_tenants(rt: HostRuntime) {
-    let text = report_text(&[tenant(b"t", 2, 1, 2), tenant(b"u", 4096, 32, 64)], 33);
-    let wanted = b"t                   2  1  2  0 up\nu                4096 32 64  0 up\nfree 33\n";
-    assert!(rt; text.as_slice() == wanted.as_slice());
+    let first = figures(&("t", 2, 1, 2, 0, true));
+    let second = figures(&("u", 4096, 32, 64, 0, true));
+    let text = report_text(&[first, second], 33);
+    let wanted = "t                   2  1  2  0 up\nu                4096 32 64  0 up\nfree 33\n";
+    holds(&rt, "a report", 2, text.as_slice() == wanted.as_bytes());
 }

@@ -1,6 +1,7 @@
 //! Tests which changes are well formed, and which texts are names.
 //!
 //! Nothing else uses it: it may change with what it tests.
+use crate::checks::holds;
 use mw_words::*;
 
 fn entry(addr: u16, new: u64) -> Entry {
@@ -21,11 +22,28 @@ fn is_so(entries: &[Entry], wanted: bool) -> bool {
     is_so && Job::Cas(entries).copy().is_well_formed(4) == wanted
 }
 
-/// Tells whether a name with these bytes has the same copy.
-fn is_copied(bytes: &[u8]) -> bool {
+/// Texts, and whether each is a name.
+static NAMES: [(&str, bool); 10] = [
+    ("t", true),
+    ("a-0", true),
+    ("abcdefghijklmnop", true),
+    ("", false),
+    ("T", false),
+    ("0a", false),
+    ("-a", false),
+    ("a b", false),
+    ("aB", false),
+    ("abcdefghijklmnopq", false),
+];
+
+/// Tells whether these bytes are a name, or none, as is wanted, and a copy of a name is the same.
+fn is_right(bytes: &[u8], wanted: bool) -> bool {
+    if is_name(bytes) != wanted {
+        return false;
+    }
     match Name::try_from(bytes) {
-        Ok(name) => copy_of_name(&name) == name,
-        Err(_) => false,
+        Ok(name) => !wanted || copy_of_name(&name) == name,
+        Err(_) => !wanted,
     }
 }
 
@@ -39,20 +57,17 @@ fn changes_that_are_well_formed_and_not(rt: HostRuntime) {
         (&[entry(4, 1)], false),
         (&[entry(2, 1), entry(2, 1)], false),
     ];
-    for (entries, wanted) in cases {
-        assert!(rt; is_so(entries, wanted), "{entries:?}");
+    for (at, (entries, wanted)) in cases.iter().enumerate() {
+        holds(&rt, "a change", at, is_so(entries, *wanted));
     }
-    assert!(rt; Job::Get(3).is_well_formed(4));
-    assert!(rt; !Job::Get(4).copy().is_well_formed(4));
+    let (last, past) = (Job::Get(3), Job::Get(4).copy());
+    let is_right = last.is_well_formed(4) && !past.is_well_formed(4);
+    holds(&rt, "a read", 4, is_right);
 }
 
 #[test]
 fn names(rt: HostRuntime) {
-    for name in ["t", "a-0", "abcdefghijklmnop"] {
-        assert!(rt; is_name(name.as_bytes()), "{name}");
-        assert!(rt; is_copied(name.as_bytes()), "{name}");
-    }
-    for text in ["", "T", "0a", "-a", "a b", "aB", "abcdefghijklmnopq"] {
-        assert!(rt; !is_name(text.as_bytes()), "{text}");
+    for (text, wanted) in &NAMES {
+        holds(&rt, text, 0, is_right(text.as_bytes(), *wanted));
     }
 }

@@ -3,11 +3,11 @@
 //!
 //! Nothing else uses it: it may change with what it tests.
 
+use crate::checks::{MEMORY, holds};
 use mw_line::{Request, read_line};
 use mw_lone::{Lone, Mark};
 use mw_words::Reply;
 use std::process::Abort;
-use std::test::Fail;
 
 /// A mark of a run. A job is a text, and beside the mark of a reply is the reply that the store must hand out.
 #[derive(Clone, Copy)]
@@ -117,36 +117,30 @@ fn mark_of(row: Row) -> Option<Mark> {
     })
 }
 
-/// A new store with these words and this quota takes the marks of an example run, and hands out the replies beside them, or none.
-fn plays<R: Abort + AllocGlobal>(
-    rt: &R,
-    name: &str,
-    words: &[u64],
-    quota: u8,
-    rows: &[Row],
-) -> Result<(), Fail> {
-    let mut lone = Lone::new(rt.alloc(), words, quota, false)?;
-    for (index, row) in rows.iter().enumerate() {
-        let wanted = match row {
-            Row::Reply(_, reply) => Some(*reply),
-            _ => None,
-        };
-        let is_taken = match mark_of(*row) {
-            Some(mark) => match lone.mark(mark) {
-                Ok(found) => found == wanted,
-                Err(_) => false,
-            },
-            None => false,
-        };
-        assert!(rt; is_taken, "{name}, row {index}");
+/// Tells whether a store takes the mark of a row, and hands out the reply beside it, or none.
+fn is_taken(lone: &mut Lone, row: Row) -> bool {
+    let wanted = match row {
+        Row::Reply(_, reply) => Some(reply),
+        _ => None,
+    };
+    match mark_of(row) {
+        Some(mark) => lone.mark(mark) == Ok(wanted),
+        None => false,
     }
-    Ok(())
+}
+
+/// A new store with these words and this quota takes the marks of an example run, and hands out the replies beside them, or none.
+fn plays<R: Abort + AllocGlobal>(rt: &R, name: &str, words: &[u64], quota: u8, rows: &[Row]) {
+    let mut lone = Lone::new(rt.alloc(), words, quota, false).expect(rt, MEMORY);
+    for (index, row) in rows.iter().enumerate() {
+        holds(rt, name, index as u64, is_taken(&mut lone, *row));
+    }
 }
 
 #[test]
-fn marks_of_examples(rt: HostRuntime) -> Result<(), Fail> {
-    plays(&rt, "late finisher", &[0, 0], 3, &LATE_FINISHER)?;
-    plays(&rt, "stale refusal", &[0], 2, &STALE_REFUSAL)?;
-    plays(&rt, "failed seal", &[0], 1, &FAILED_SEAL)?;
-    plays(&rt, "torn gate", &[0, 0], 1, &TORN_GATE)
+fn marks_of_examples(rt: HostRuntime) {
+    plays(&rt, "late finisher", &[0, 0], 3, &LATE_FINISHER);
+    plays(&rt, "stale refusal", &[0], 2, &STALE_REFUSAL);
+    plays(&rt, "failed seal", &[0], 1, &FAILED_SEAL);
+    plays(&rt, "torn gate", &[0, 0], 1, &TORN_GATE);
 }

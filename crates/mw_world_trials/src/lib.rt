@@ -10,6 +10,8 @@
 #![tactic(auto)]
 
 #[cfg(test)]
+mod checks;
+#[cfg(test)]
 mod dice;
 #[cfg(test)]
 mod example_marks_tests;

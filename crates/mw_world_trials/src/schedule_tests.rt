@@ -1,11 +1,11 @@
 //! Tests which texts are schedules, and what they say.
 //!
 //! Nothing else uses it: it may change with what it tests.
+use crate::checks::{MEMORY, holds};
 use mw_look::{Call, Kind};
 use mw_schedule::*;
 use mw_words::Job;
-use mw_world::{Interrupted, Outcome, Stop, Tenant};
-use std::alloc::{AllocError, Global};
+use mw_world::{Config, Interrupted, Outcome, Stop, Tenant};
 use std::process::Abort;
 
 /// The first lines of some schedules below. The line after them is the sixth. In the texts of this page `/` ends a
@@ -146,8 +146,8 @@ tenant v 1 1";
 struct Texts {
     head: &'static str,
     end: &'static str,
-    /// The number of the first line that is wrong, or `None` if these are schedules.
-    wrong: Option<u64>,
+    /// The number of the first line that is wrong, 0 if these are schedules.
+    wrong: u64,
     texts: &'static str,
 }
 
@@ -155,19 +155,19 @@ static TEXTS: [Texts; 11] = [
     Texts {
         head: HEAD,
         end: "/",
-        wrong: None,
+        wrong: 0,
         texts: RIGHT_LINES,
     },
     Texts {
         head: HEAD,
         end: "/",
-        wrong: Some(6),
+        wrong: 6,
         texts: WRONG_LINES,
     },
     Texts {
         head: "",
         end: "",
-        wrong: Some(1),
+        wrong: 1,
         texts: "\
 /
 pool 1
@@ -184,7 +184,7 @@ workers 1/pool 1/
     Texts {
         head: "",
         end: "",
-        wrong: Some(2),
+        wrong: 2,
         texts: "\
 pool 1/
 pool 1/pool 1/
@@ -196,7 +196,7 @@ pool 1/workers 1",
     Texts {
         head: "",
         end: "",
-        wrong: Some(3),
+        wrong: 3,
         texts: "\
 pool 1/workers 1/
 pool 1/workers 1/step 0/
@@ -219,7 +219,7 @@ pool 1/workers 1/tenant  1 1/",
     Texts {
         head: "",
         end: "",
-        wrong: Some(4),
+        wrong: 4,
         texts: "\
 pool 1/workers 1/seq 0/
 pool 1/workers 1/seq 0/seq 0/tenant t 1 1/
@@ -233,7 +233,7 @@ pool 1/workers 1/tenant t 1 1//",
     Texts {
         head: "",
         end: "",
-        wrong: Some(5),
+        wrong: 5,
         texts: "\
 pool 2/workers 1/tenant t 1 1/step 0/tenant u 1 1/
 pool 1/workers 1/tenant t 1 1/step 0/step 64/step/",
@@ -241,7 +241,7 @@ pool 1/workers 1/tenant t 1 1/step 0/step 64/step/",
     Texts {
         head: "",
         end: "/",
-        wrong: None,
+        wrong: 0,
         texts: "\
 pool 1/workers 1/tenant t 1 1
 pool 256/workers 64/seq 281474976710654/tenant abcdefghijklmnop 4096 64",
@@ -249,55 +249,65 @@ pool 256/workers 64/seq 281474976710654/tenant abcdefghijklmnop 4096 64",
     Texts {
         head: HEAD,
         end: "",
-        wrong: None,
+        wrong: 0,
         texts: "",
     },
     Texts {
         head: SIXTEEN,
         end: "",
-        wrong: None,
+        wrong: 0,
         texts: "",
     },
     Texts {
         head: SIXTEEN,
         end: "/",
-        wrong: Some(19),
+        wrong: 19,
         texts: "tenant q 1 1",
     },
 ];
 
 /// Adds a text, with a line feed for each `/`.
-fn add(whole: &mut Vec<u8>, text: &str) -> Result<(), AllocError> {
+fn add<R: Abort>(rt: &R, whole: &mut Vec<u8>, text: &str) {
     for byte in text.as_bytes() {
-        whole.push(if *byte == b'/' { b'\n' } else { *byte })?;
+        let byte = if *byte == b'/' { b'\n' } else { *byte };
+        whole.push(byte).expect(rt, MEMORY);
     }
-    Ok(())
 }
 
 /// Reads the schedule of a text between two others.
-fn read(alloc: Global, head: &str, text: &str, end: &str) -> Result<Schedule, ScheduleFault> {
-    let mut whole = Vec::new(alloc);
-    add(&mut whole, head)?;
-    add(&mut whole, text)?;
-    add(&mut whole, end)?;
-    read_schedule(alloc, &whole)
+fn read<R: Abort + AllocGlobal>(
+    rt: &R,
+    head: &str,
+    text: &str,
+    end: &str,
+) -> Result<Schedule, ScheduleFault> {
+    let mut whole = Vec::new(rt.alloc());
+    add(rt, &mut whole, head);
+    add(rt, &mut whole, text);
+    add(rt, &mut whole, end);
+    read_schedule(rt.alloc(), &whole)
+}
+
+/// Gives the number of the first line of a text that is wrong, 0 if none is.
+fn first_wrong<R: Abort + AllocGlobal>(rt: &R, texts: &Texts, text: &str) -> u64 {
+    match read(rt, texts.head, text, texts.end) {
+        Ok(_) => 0,
+        Err(ScheduleFault::Wrong(number)) => number,
+        Err(ScheduleFault::Memory) => u64::MAX,
+    }
 }
 
 /// In each of these texts the first wrong line is the one that is told, or none is wrong.
-fn are_so<R: Abort + AllocGlobal>(rt: &R, texts: Texts) {
+fn are_so<R: Abort + AllocGlobal>(rt: &R, texts: &Texts) {
     for text in texts.texts.split('\n') {
-        let found = match read(rt.alloc(), texts.head, text, texts.end) {
-            Ok(_) => None,
-            Err(ScheduleFault::Wrong(number)) => Some(number),
-            Err(ScheduleFault::Memory) => Some(0),
-        };
-        assert!(rt; found == texts.wrong, "{text}: {found:?}");
+        let found = first_wrong(rt, texts, text);
+        holds(rt, text, found, found == texts.wrong);
     }
 }
 
 #[test]
 fn texts_that_are_schedules(rt: HostRuntime) {
-    for texts in TEXTS {
+    for texts in &TEXTS {
         are_so(&rt, texts);
     }
 }
@@ -329,8 +339,8 @@ static NAMES: [(&str, Option<StepKind>); 21] = [
 
 #[test]
 fn names_of_steps(rt: HostRuntime) {
-    for (name, kind) in NAMES {
-        assert!(rt; StepKind::named(name.as_bytes()) == kind, "{name}");
+    for (name, kind) in &NAMES {
+        holds(&rt, name, 0, StepKind::named(name.as_bytes()) == *kind);
     }
 }
 
@@ -389,29 +399,28 @@ fn are_tenants(tenants: &[Tenant]) -> bool {
         && (second.words, second.quota) == (4096, 32)
 }
 
+/// Tells whether the first lines of a schedule are those of [`HEAD`].
+fn is_head(config: &Config) -> bool {
+    config.pool == 33 && config.workers == 2 && config.seq == 7 && are_tenants(&config.tenants)
+}
+
 #[test]
 fn what_is_to_happen(rt: HostRuntime) {
-    let schedule = read(rt.alloc(), HEAD, COMMANDS, "").expect(&rt, "a schedule");
-    let config = &schedule.config;
-    assert!(rt;
-        (config.pool, config.workers, config.seq) == (33, 2, 7),
-        "the first lines"
-    );
-    assert!(rt; are_tenants(&config.tenants), "tenants");
+    let schedule = read(&rt, HEAD, COMMANDS, "").expect(&rt, "a schedule");
+    holds(&rt, "the first lines", 1, is_head(&schedule.config));
     let mut number: u64 = 6;
     for line in &schedule.lines {
         let is_so = line.number == number && is_command(number, &line.command);
-        assert!(rt; is_so, "line {number}");
+        holds(&rt, "a line", number, is_so);
         number = number.saturating_add(1);
     }
-    assert!(rt; number == 15, "how many lines");
+    holds(&rt, "how many lines", number, number == 15);
 }
 
 #[test]
 fn a_world_without_a_first_number(rt: HostRuntime) {
-    let schedule = read(rt.alloc(), "", "pool 1/workers 1/tenant t 1 1/", "").expect(
-        &rt,
-        "a schedule",
-    );
-    assert!(rt; (schedule.config.seq, schedule.lines.len()) == (0, 0));
+    let text = "pool 1/workers 1/tenant t 1 1/";
+    let schedule = read(&rt, "", text, "").expect(&rt, "a schedule");
+    let is_so = schedule.config.seq == 0 && schedule.lines.is_empty();
+    holds(&rt, "no first number", 0, is_so);
 }

@@ -5,6 +5,7 @@
 ghost use Rattle.std.specs.Prelude.{◌≡◌, ◌<◌, length};
 ghost use Rattle.mw_world.specs.Definition.State.{IsConfig};
 
+use crate::checks::{fail, holds};
 use crate::fault::Fault;
 use arrayvec::ArrayVec;
 use mw_lone::Lone;
@@ -170,8 +171,8 @@ fn late_plant(alloc: Global) -> Result<Vec<Event>, Fault> {
         world: World::new(alloc, world_of_three())?,
         events: Vec::new(alloc),
     };
-    for (worker, what) in SCHEDULE {
-        plan.follow(worker, what)?;
+    for (worker, what) in &SCHEDULE {
+        plan.follow(*worker, *what)?;
     }
     Ok(plan.events)
 }
@@ -192,30 +193,28 @@ fn replies_of(alloc: Global, world: &World) -> Result<Vec<Reply>, Fault>
     Ok(replies)
 }
 
-/// Runs the events of the schedule in a new world. Gives how many attempts each worker has made, and what a store
-/// alone replies.
-fn left_by_late_plant(alloc: Global) -> Result<(u64, u64, u64, Vec<Reply>), Fault> {
+/// Runs the events of the schedule in a new world. Tells whether worker 0 has made two attempts and each other one has
+/// made one, and what a store alone replies.
+fn left_by_late_plant(alloc: Global) -> Result<(bool, Vec<Reply>), Fault> {
     let events = late_plant(alloc)?;
     let mut world = World::new(alloc, world_of_three())?;
     if let Err((_, fault)) = world.run(&events) {
         return Err(Fault::from(fault));
     }
-    let (first, second, third) = (world.attempt(0), world.attempt(1), world.attempt(2));
-    let replies = replies_of(alloc, &world)?;
-    Ok((first, second, third, replies))
+    let are_so = world.attempt(0) == 2 && world.attempt(1) == 1 && world.attempt(2) == 1;
+    Ok((are_so, replies_of(alloc, &world)?))
 }
+
+/// The replies of the schedule's requests.
+static REPLIES: [Reply; 4] = [Reply::Yes, Reply::Yes, Reply::No(0, 1), Reply::Val(0)];
 
 #[test]
 fn late_finisher(rt: HostRuntime) {
     match left_by_late_plant(rt.alloc()) {
-        Ok((first, second, third, replies)) => {
-            let wanted = [Reply::Yes, Reply::Yes, Reply::No(0, 1), Reply::Val(0)];
-            assert!(rt; (first, second, third) == (2, 1, 1), "attempts");
-            assert!(rt; replies.as_slice() == wanted.as_slice(), "replies");
+        Ok((are_so, replies)) => {
+            holds(&rt, "attempts", 0, are_so);
+            holds(&rt, "replies", 0, replies.as_slice() == REPLIES.as_slice());
         }
-        Err(fault) => {
-            let (wrong, _) = fault.told();
-            assert!(rt; false, "late finisher: {wrong}");
-        }
+        Err(fault) => fail(&rt, 0, fault),
     }
 }

@@ -2,6 +2,7 @@
 //!
 //! Nothing else uses it: it may change with what it tests.
 
+use crate::checks::{fail, holds};
 use crate::dice::Dice;
 use crate::fault::Fault;
 use crate::jobs::small_world;
@@ -32,6 +33,19 @@ fn play(alloc: Global, seed: u64, events: u64, tally: Tally) -> Result<Tally, Fa
     Ok(run.tally)
 }
 
+/// In so many trials there were many interruptions, failures, refusals and gifts.
+fn has_many<R: Abort>(rt: &R, trials: u64, tally: Tally) {
+    holds(
+        rt,
+        "interruptions",
+        trials,
+        tally.interruptions > trials / 4,
+    );
+    holds(rt, "failures", trials, tally.failures > trials / 8);
+    holds(rt, "refusals", trials, tally.refusals > trials / 4);
+    holds(rt, "gifts", trials, tally.gifts > trials / 4);
+}
+
 /// Plays so many trials of so many events. All of them must succeed, and in them there must be many
 /// interruptions, failures, refusals and gifts.
 fn play_all<R: Abort + AllocGlobal>(rt: &R, trials: u64, events: u64) {
@@ -39,16 +53,10 @@ fn play_all<R: Abort + AllocGlobal>(rt: &R, trials: u64, events: u64) {
     for seed in 0..trials {
         match play(rt.alloc(), seed, events, tally) {
             Ok(sum) => tally = sum,
-            Err(fault) => {
-                let (wrong, _) = fault.told();
-                assert!(rt; false, "seed {seed}: {wrong}");
-            }
+            Err(fault) => fail(rt, seed, fault),
         }
     }
-    assert!(rt; tally.interruptions > trials / 4, "interruptions");
-    assert!(rt; tally.failures > trials / 8, "failures");
-    assert!(rt; tally.refusals > trials / 4, "refusals");
-    assert!(rt; tally.gifts > trials / 4, "gifts");
+    has_many(rt, trials, tally);
 }
 
 #[test]

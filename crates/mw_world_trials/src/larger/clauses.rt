@@ -80,16 +80,16 @@ pub(crate) static GROUPS: [(Group, &str); 13] = [
 
 /// Gives the name of the first group that doesn't hold.
 pub(crate) fn broken(seen: &Seen) -> Option<&'static str> {
-    for (group, name) in GROUPS {
-        if !holds(seen, group) {
-            return Some(name);
+    for (group, name) in &GROUPS {
+        if !group_holds(seen, *group) {
+            return Some(*name);
         }
     }
     None
 }
 
 /// Tells whether a group holds.
-pub(crate) fn holds(seen: &Seen, group: Group) -> bool {
+pub(crate) fn group_holds(seen: &Seen, group: Group) -> bool {
     match group {
         Group::Bits => !seen.is_junk,
         Group::Requests => workers_hold(seen, group),

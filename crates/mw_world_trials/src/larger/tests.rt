@@ -10,10 +10,11 @@
 //!
 //! The words of a file are those with which the tenant started and what was sealed since.
 
+use crate::checks::{fail, holds};
 use crate::dice::Dice;
 use crate::fault::Fault;
 use crate::jobs::large_world;
-use crate::larger::clauses::{GROUPS, Group, broken, holds};
+use crate::larger::clauses::{GROUPS, Group, broken, group_holds};
 use crate::larger::past::Change;
 use crate::larger::planted_faults::spoil;
 use crate::larger::seen::Seen;
@@ -21,6 +22,7 @@ use crate::run::Run;
 use mw_words::{Status, Word};
 use mw_world::Phase;
 use std::alloc::Global;
+use std::process::Abort;
 
 /// How many runs there are, and how many events each has.
 const RUNS: u64 = 2_000;
@@ -80,20 +82,24 @@ fn check(alloc: Global, run: &mut Run, dice: &mut Dice, tally: &mut Tally) -> Re
     Ok(())
 }
 
+/// In the runs there were many words held, written and planted, refusals, and failed files.
+fn has_many<R: Abort>(rt: &R, tally: Tally) {
+    holds(rt, "held", RUNS, tally.held > RUNS);
+    holds(rt, "written", RUNS, tally.written > RUNS);
+    holds(rt, "planted", RUNS, tally.planted > RUNS);
+    holds(rt, "refused", RUNS, tally.refused > RUNS);
+    holds(rt, "failed", RUNS, tally.failed > RUNS);
+}
+
 #[test]
 fn the_invariant_holds_of_larger_worlds(rt: HostRuntime) {
     let mut tally = Tally::default();
     for seed in 0..RUNS {
         if let Err(fault) = play(rt.alloc(), seed, &mut tally) {
-            let (wrong, event) = fault.told();
-            assert!(rt; false, "seed {seed}: {wrong} {event}");
+            fail(&rt, seed, fault);
         }
     }
-    assert!(rt; tally.held > RUNS);
-    assert!(rt; tally.written > RUNS);
-    assert!(rt; tally.planted > RUNS);
-    assert!(rt; tally.refused > RUNS);
-    assert!(rt; tally.failed > RUNS);
+    has_many(&rt, tally);
 }
 
 /// Tells whether a change is open, with no word held yet.
@@ -132,15 +138,15 @@ fn is_noticed(alloc: Global, group: Group) -> Result<bool, Fault> {
     let mut dice = Dice::new(1);
     let mut run = Run::new(alloc, large_world(&mut dice), true)?;
     open(alloc, &mut run, &mut dice)?;
-    let held = holds(&run.seen, group);
+    let held = group_holds(&run.seen, group);
     spoil(&mut run.seen, group);
-    Ok(held && !holds(&run.seen, group))
+    Ok(held && !group_holds(&run.seen, group))
 }
 
 #[test]
 fn what_is_wrong_is_noticed(rt: HostRuntime) {
-    for (group, name) in GROUPS {
-        let is_noticed = matches!(is_noticed(rt.alloc(), group), Ok(true));
-        assert!(rt; is_noticed, "{name}");
+    for (group, name) in &GROUPS {
+        let is_noticed = matches!(is_noticed(rt.alloc(), *group), Ok(true));
+        holds(&rt, name, 1, is_noticed);
     }
 }
