@@ -9,8 +9,6 @@ import sys
 from pathlib import Path
 from typing import Callable, List, NamedTuple, Sequence
 
-import mondlexi
-import mondlexi.aio
 from package_parts import clients as packed
 
 TOP = Path(__file__).resolve().parent.parent.parent
@@ -25,12 +23,11 @@ class NotBuilt(Exception):
 
 
 class Program(NamedTuple):
-    """A program that makes the calls of clients/cases, how it is called, and which calls its client doesn't have.
+    """A program that makes the calls of clients/cases, and how it is called.
 
     `is_slow`: whether it takes long to begin, so that one process plays all cases."""
     name: str
     words: Sequence[str]
-    without: Sequence[str] = ()
     is_slow: bool = False
 
 
@@ -56,17 +53,12 @@ def ran(*words: object, at: Path) -> str:
 
 def of_python(_: Path) -> List[Program]:
     """Nothing is built."""
-    return [Program("python", [sys.executable, str(PLAY)], not_of(mondlexi.Client))]
+    return [Program("python", [sys.executable, str(PLAY)])]
 
 
 def of_asyncio(_: Path) -> List[Program]:
     """Nothing is built."""
-    return [Program("asyncio", [sys.executable, str(PLAY), "--asyncio"], not_of(mondlexi.aio.Client))]
-
-
-def not_of(kind: type) -> List[str]:
-    """The calls that a client in Python doesn't have."""
-    return [call for call in ("stable",) if not hasattr(kind, call)]
+    return [Program("asyncio", [sys.executable, str(PLAY), "--asyncio"])]
 
 
 def example(readme: Path) -> str:

@@ -10,7 +10,7 @@ from typing import Dict, List
 
 from .server import PATIENCE, TYPES, Server, Wrong, answer_of, connected, figures, get, heard, said, same
 
-END = b" HTTP/1.1\r\nHost: a\r\n\r\n"
+END = b" HTTP/1.1\r\nHost: localhost\r\n\r\n"
 LONGEST = 8192
 """The most bytes of a head."""
 FILE = "/tenants/a/file"
@@ -23,6 +23,8 @@ WRONG = [
     (b"GET / HTTP/1.1\r\n\r\n", 400), (b"GET / HTTP/1.1\r\nHost: a\r\nHost: b\r\n\r\n", 400), (b"GET / HTTP/2.0\r\nHost: a\r\n\r\n", 400),
     (b"GET / HTTP/1.1\r\nHost : a\r\n\r\n", 400), (b"GET / HTTP/1.1\r\nHost: a\r\n b\r\n\r\n", 400), (b"\0\1\2\r\n\r\n", 400),
     (b"GET / HTTP/1.1\r\nHost: a\r\nContent-Length: 1\r\nContent-Length: 2\r\n\r\n", 400),
+    (b"GET / HTTP/1.1\r\nHost: a\r\n\r\n", 421), (b"GET /tenants/a/file HTTP/1.1\r\nHost: 127.0.0.1.example:80\r\n\r\n", 421),
+    (b"GET /metrics HTTP/1.0\r\nHost: localhost.\r\n\r\n", 421), (b"POST /nothing HTTP/1.1\r\nHost: w.example\r\n\r\n", 421),
     (b"GET /" + b"a" * LONGEST, 414), (b"GET / HTTP/1.1\r\nHost: a\r\nX: " + b"a" * LONGEST, 431),
 ]
 """Requests that are refused, and by which status."""
@@ -46,6 +48,16 @@ def right(server: Server) -> None:
     for part in ("<script", "src=", "http://", "https://", "@import"):
         if part in page:
             raise Wrong(f"the status page has {part!r}")
+
+
+def by_name(server: Server, *names: str) -> None:
+    """A page to whoever calls the server by an address, by localhost, by no name, or by one of these names, and to nobody else."""
+    called = ["localhost", "LocalHost:80", "127.0.0.1:7002", "10.0.0.7", "[::1]", "[fe80::1]:80", ""]
+    hosts = [(name, 200) for name in [*called, *names, *(f"{name.upper()}:7002" for name in names)]]
+    hosts += [(f"{name}.", 421) for name in names] + [(f"a{name}", 421) for name in names] + [("a", 421)]
+    for host, status in hosts:
+        same(answer_of(said(server.pages, f"GET /healthz HTTP/1.1\r\nHost: {host}\r\n\r\n".encode())).status, status, f"Host: {host}")
+    same(answer_of(said(server.pages, b"GET /healthz HTTP/1.0\r\n\r\n")).status, 200, "no Host")
 
 
 def right_file(server: Server) -> None:

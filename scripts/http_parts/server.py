@@ -11,7 +11,7 @@ from typing import Dict, List, NamedTuple, Optional, Sequence, Tuple, Union
 
 PATIENCE = 60
 """For how many seconds an answer or an end is waited for. What needs longer hangs."""
-STATUSES = {200, 400, 404, 405, 408, 414, 431, 500, 501, 503}
+STATUSES = {200, 400, 404, 405, 408, 414, 421, 431, 500, 501, 503}
 TYPES = {"/": "text/html; charset=utf-8", "/metrics": "text/plain; version=0.0.4; charset=utf-8", "/healthz": "text/plain; charset=utf-8"}
 SAMPLE = re.compile(r'(\w+)(?:\{(.*)\})? (\S+)')
 
@@ -151,8 +151,13 @@ class Server:
         assert self.process and self.process.stdout
         return self.process.stdout.readline()
 
+    def note(self) -> str:
+        """The next line of its notes."""
+        assert self.process and self.process.stderr
+        return self.process.stderr.readline()
+
     def end(self) -> str:
-        """Kills it. Gives its notes."""
+        """Kills it. Gives its notes that were not read before."""
         assert self.process
         self.process.kill()
         return self.process.communicate(timeout=PATIENCE)[1]

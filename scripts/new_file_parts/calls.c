@@ -1,12 +1,15 @@
-/* Loaded into mwinit by LD_PRELOAD: writes down its writes and syncs, a line each into the file that CALLS_LOG names:
+/* Loaded into mwinit and mwserve by LD_PRELOAD: writes down their writes and syncs, a line each into the file that CALLS_LOG names:
        write PATH COUNT     a write that went well, of so many bytes
        sync PATH            an fsync or fdatasync that went well
-   PATH is that of the open file. Used by: scripts/check-new-file, which reads these lines: change both together. */
+   PATH is that of the open file. A sync of the file or folder that CALLS_FAIL names, if it is set, fails instead.
+   Used by: scripts/check-new-file, which reads these lines: change both together. */
 #define _GNU_SOURCE
 #include <dlfcn.h>
+#include <errno.h>
 #include <fcntl.h>
 #include <stdio.h>
 #include <stdlib.h>
+#include <string.h>
 #include <unistd.h>
 
 static ssize_t (*next_write)(int, const void *, size_t);
@@ -22,13 +25,25 @@ __attribute__((constructor)) static void begin(void) {
     if (records < 0 || !next_write || !next_fsync || !next_fdatasync) abort();
 }
 
-static void record(const char *what, int descriptor, long count) {
-    char link[64], path[4096], line[4400];
-    int length;
+static void path_of(int descriptor, char *path, size_t size) {
+    char link[64];
     ssize_t found;
     snprintf(link, sizeof link, "/proc/self/fd/%d", descriptor);
-    found = readlink(link, path, sizeof path - 1);
+    found = readlink(link, path, size - 1);
     path[found < 0 ? 0 : found] = 0;
+}
+
+static int must_fail(int descriptor) {
+    char path[4096];
+    const char *failing = getenv("CALLS_FAIL");
+    path_of(descriptor, path, sizeof path);
+    return failing && strcmp(failing, path) == 0;
+}
+
+static void record(const char *what, int descriptor, long count) {
+    char path[4096], line[4400];
+    int length;
+    path_of(descriptor, path, sizeof path);
     length = snprintf(line, sizeof line, count < 0 ? "%s %s\n" : "%s %s %ld\n", what, path, count);
     if (next_write(records, line, (size_t)length) != length) abort();
 }
@@ -39,14 +54,17 @@ ssize_t write(int descriptor, const void *bytes, size_t count) {
     return written;
 }
 
-int fsync(int descriptor) {
-    int synced = next_fsync(descriptor);
+static int sync_by(int (*next)(int), int descriptor) {
+    int synced;
+    if (must_fail(descriptor)) {
+        errno = EIO;
+        return -1;
+    }
+    synced = next(descriptor);
     if (synced == 0) record("sync", descriptor, -1);
     return synced;
 }
 
-int fdatasync(int descriptor) {
-    int synced = next_fdatasync(descriptor);
-    if (synced == 0) record("sync", descriptor, -1);
-    return synced;
-}
+int fsync(int descriptor) { return sync_by(next_fsync, descriptor); }
+
+int fdatasync(int descriptor) { return sync_by(next_fdatasync, descriptor); }

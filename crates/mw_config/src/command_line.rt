@@ -2,7 +2,7 @@
 //!
 //! mw_programs calls [`read_args`] for `mwserve`. A new option needs a field here, its use in mw_programs, a clause
 //! in `specs/CommandLine` if it has limits, and its row in docs/OPERATING.
-ghost use Rattle.std.specs.Prelude.{ℕ, ◌≤◌, IfOk, IfSome};
+ghost use Rattle.std.specs.Prelude.{ℕ, ◌≡◌, ◌≤◌, IfOk, IfSome, length, vec_len};
 ghost use Rattle.mw_config.specs.CommandLine.{ArePermittedArgs, AreSharedWell, IsPermittedMode, IsUpTo, SuitsWorkers};
 
 use clap::builder::ValueParser;
@@ -49,6 +49,9 @@ pub struct Listening {
     pub admin: Option<String>,
     /// The address at which a browser and a scraper find the server's pages over HTTP. None: it has no pages.
     pub http: Option<String>,
+    /// The names by which clients may call the pages, beside addresses and `localhost`: at most [`MAX_HTTP_NAMES`], and each one
+    /// has letters, digits, dots and hyphens. There are none without an address for the pages.
+    pub http_names: Vec<String>,
     /// The server ends after so many connections to the first address, 1 to [`MAX_CONNECTIONS`]. None: it
     /// serves on.
     pub connections: Option<u32>,
@@ -64,6 +67,10 @@ pub struct Listening {
     /// A session ends if a line takes its client more than so many seconds from the first byte to the last, or
     /// if a reply does, 1 to [`MAX_IDLE`]. None: they may take for ever.
     pub line_time: Option<u32>,
+    /// A session ends after so many lines that are answered by `ERR`, 1 to [`MAX_FAULTS`]. None: it doesn't end for this.
+    pub faults: Option<u32>,
+    /// If set, it is meant that clients of other machines may connect, and no note says that they may.
+    pub open: bool,
     /// The file mode of each local socket, at most [`MAX_SOCKET_MODE`]. Who may write to the socket's file
     /// may connect.
     pub socket_mode: u32,
@@ -87,6 +94,15 @@ const WORKERS_A_READER: u8 = 4;
 /// The largest limit of silence, of a line's time and of waiting, in seconds: a day.
 pub const MAX_IDLE: u32 = 86_400;
 
+/// The largest number of lines with a fault after which a session ends.
+pub const MAX_FAULTS: u32 = 1_000_000;
+
+/// How many names for the pages may be given.
+pub const MAX_HTTP_NAMES: usize = 16;
+
+/// The most bytes of such a name.
+pub const MAX_HTTP_NAME: usize = 253;
+
 /// The file mode of local sockets if none is given: only the server's own user may connect.
 const OWNERS_MODE: u32 = 0o600;
 
@@ -105,6 +121,13 @@ pub enum OptionRule {
     /// A file mode is at most [`MAX_SOCKET_MODE`], in octal digits.
     #[error("--mode is 0 to 777, in octal digits")]
     FileMode,
+    /// Names are for pages alone.
+    #[error("--http-name needs --http")]
+    Pages,
+    /// A name has letters, digits, dots and hyphens, and at most [`MAX_HTTP_NAME`] of them. There are at most
+    /// [`MAX_HTTP_NAMES`].
+    #[error("--http-name is a name of letters, digits, dots and hyphens, without a port, and comes at most {MAX_HTTP_NAMES} times")]
+    HttpName,
     /// Readers are for shared workers alone.
     #[error("--readers needs --clients")]
     Shared,
@@ -149,11 +172,14 @@ impl From<clap::Error> for ArgFault {
 /// Reads the command line `args`. Its first argument is the program's own name.
 ///
 /// The form is `mwserve --tenants FILE [--pool P] [--workers N] [--strict] [--verbose]` with either
-/// `--listen ADDR` or `--script FILE`. After `--listen` there may be `[--admin ADDR] [--http ADDR] [--connections C]
-/// [--clients M [--readers R]] [--wait SECONDS] [--idle SECONDS] [--line-time SECONDS] [--mode MODE]`.
+/// `--listen ADDR` or `--script FILE`. After `--listen` there may be `[--admin ADDR] [--http ADDR [--http-name NAME ..]]
+/// [--connections C] [--clients M [--readers R]] [--wait SECONDS] [--idle SECONDS] [--line-time SECONDS] [--faults F] [--open]
+/// [--mode MODE]`.
 /// - P is 1 to [`MAX_POOL`], and [`MAX_POOL`] if it isn't given.
 /// - N is 1 to [`MAX_WORKERS`], and 4 if it isn't given.
 /// - C is 1 to [`MAX_CONNECTIONS`], and SECONDS 1 to [`MAX_IDLE`]. `--line-time` is `--idle` if it isn't given.
+/// - F is 1 to [`MAX_FAULTS`]. A NAME has 1 to [`MAX_HTTP_NAME`] letters, digits, dots and hyphens, and there are at most
+///   [`MAX_HTTP_NAMES`] of them.
 /// - M is 1 to [`MAX_CLIENTS`]. R is at least 1 and below N; if it isn't given, a quarter of N, and at least 1.
 /// - MODE has octal digits, is at most [`MAX_SOCKET_MODE`], and 0600 if it isn't given.
 ///
@@ -161,8 +187,8 @@ impl From<clap::Error> for ArgFault {
 ///
 /// [`ArgFault::Refused`] if clap refuses them, or they ask for the help or the version. [`ArgFault::Mode`], with the
 /// rule that they break, if they haven't exactly one of `--listen` and `--script`, have an option of `--listen` with
-/// `--script`, have a `--mode` that is no file mode, have `--readers` without `--clients`, or would leave no worker
-/// for changes. [`ArgFault::Memory`] if memory was refused. `args` is only read.
+/// `--script`, have a `--mode` that is no file mode, have `--http-name` without `--http`, with no name, or too often, have
+/// `--readers` without `--clients`, or would leave no worker for changes. [`ArgFault::Memory`] if memory was refused. `args` is only read.
 pub fn read_args(alloc: Global, args: &[String]) -> Result<Args, ArgFault>
     ensures permitted { IfOk result (λ args. ArePermittedArgs args) }
 {
@@ -208,9 +234,10 @@ fn mode_of(alloc: Global, matches: &ArgMatches<'_>, workers: u8) -> Result<Mode,
 
 /// Tells whether there is an option for connections only, other than `--listen`.
 fn tell_of_connections(matches: &ArgMatches<'_>) -> bool {
-    TEXTS_OF_CONNECTIONS
-        .iter()
-        .any(|name| matches.get_str(name).is_some())
+    matches.get_flag("open")
+        || TEXTS_OF_CONNECTIONS
+            .iter()
+            .any(|name| matches.get_str(name).is_some())
         || OF_CONNECTIONS
             .iter()
             .any(|name| matches.get_one::<u32>(name).is_some())
@@ -228,6 +255,7 @@ fn listen_mode(
     ensures suits { IfOk result (λ mode. SuitsWorkers workers mode) }
 {
     let socket_mode = socket_mode_of(matches.get_str("mode"))?;
+    let http_names = names_of(alloc, matches)?;
     let shared = shared_of(matches, workers)?;
     let idle = number_of(matches, "idle", MAX_IDLE);
     let address = String::from_str(alloc, address)?;
@@ -235,13 +263,57 @@ fn listen_mode(
         address,
         admin: copy_of(alloc, matches.get_str("admin"))?,
         http: copy_of(alloc, matches.get_str("http"))?,
+        http_names,
         connections: number_of(matches, "connections", MAX_CONNECTIONS),
         shared,
         wait: number_of(matches, "wait", MAX_IDLE),
         idle,
         line_time: number_of(matches, "line-time", MAX_IDLE).or(idle),
+        faults: number_of(matches, "faults", MAX_FAULTS),
+        open: matches.get_flag("open"),
         socket_mode,
     }))
+}
+
+/// Gives the names for the pages.
+fn names_of(alloc: Global, matches: &ArgMatches<'_>) -> Result<Vec<String>, ArgFault>
+    ensures { IfOk result (λ names. vec_len names ≤ MAX_HTTP_NAMES) }
+{
+    let Some(names) = matches.get_strs("http-name") else {
+        return Ok(Vec::new(alloc));
+    };
+    if matches.get_str("http").is_none() {
+        return Err(ArgFault::Mode(OptionRule::Pages));
+    }
+    if names.len() > MAX_HTTP_NAMES {
+        return Err(ArgFault::Mode(OptionRule::HttpName));
+    }
+    copies_of(alloc, names)
+}
+
+/// Copies these names.
+fn copies_of(alloc: Global, names: &[&str]) -> Result<Vec<String>, ArgFault>
+    ensures { IfOk result (λ copies. vec_len copies ≡ length names.now) }
+{
+    let mut copies = Vec::new(alloc);
+    for name in names {
+        if !is_host_name(name.as_bytes()) {
+            return Err(ArgFault::Mode(OptionRule::HttpName));
+        }
+        if copies.push(String::from_str(alloc, name)?).is_err() {
+            return Err(ArgFault::Memory);
+        }
+    }
+    Ok(copies)
+}
+
+/// Tells whether a text is a name by which the pages may be called.
+fn is_host_name(text: &[u8]) -> bool {
+    (1..=MAX_HTTP_NAME).contains(&text.len()) && text.iter().all(|byte| is_name_byte(*byte))
+}
+
+fn is_name_byte(byte: u8) -> bool {
+    byte.is_ascii_alphanumeric() || byte == b'-' || byte == b'.'
 }
 
 /// Gives how many clients share the passes of so many workers, if the command line says it.
@@ -316,6 +388,8 @@ enum Given {
     Needed(&'static str),
     /// A text, which the help calls so.
     Text(&'static str),
+    /// The same, as often as it is given.
+    Texts(&'static str),
     /// A number from 1 to the second part. The help calls it by the first part.
     Number(&'static str, u32),
     /// The same. If none is given, it is the third part.
@@ -325,20 +399,21 @@ enum Given {
 }
 
 /// The options with a text that need `--listen`.
-const TEXTS_OF_CONNECTIONS: [&str; 3] = ["admin", "http", "mode"];
+const TEXTS_OF_CONNECTIONS: [&str; 4] = ["admin", "http", "http-name", "mode"];
 
 /// The options with a number that need `--listen`.
-const OF_CONNECTIONS: [&str; 6] = [
+const OF_CONNECTIONS: [&str; 7] = [
     "connections",
     "clients",
     "readers",
     "wait",
     "idle",
     "line-time",
+    "faults",
 ];
 
 /// The options, in the order of the help.
-const CHOICES: [Choice; 16] = [
+const CHOICES: [Choice; 19] = [
     Choice {
         name: "tenants",
         given: Given::Needed("FILE"),
@@ -368,6 +443,11 @@ const CHOICES: [Choice; 16] = [
         name: "http",
         given: Given::Text("ADDR"),
         help: "where to show the server's pages and figures over HTTP: HOST:PORT or unix:PATH; without it, nowhere",
+    },
+    Choice {
+        name: "http-name",
+        given: Given::Texts("NAME"),
+        help: "a name by which the pages may be called, beside addresses and localhost; it may be given 16 times",
     },
     Choice {
         name: "script",
@@ -403,6 +483,16 @@ const CHOICES: [Choice; 16] = [
         name: "line-time",
         given: Given::Number("SECONDS", MAX_IDLE),
         help: "how many seconds a line or a reply may take from its first byte to its last, 1 to 86400; without it, as --idle",
+    },
+    Choice {
+        name: "faults",
+        given: Given::Number("F", MAX_FAULTS),
+        help: "after how many lines that are answered ERR to end a session, 1 to 1000000; without it, never",
+    },
+    Choice {
+        name: "open",
+        given: Given::Flag,
+        help: "say no note on an address at which other machines may connect",
     },
     Choice {
         name: "mode",
@@ -449,6 +539,7 @@ fn arg_of<'a>(alloc: Global, choice: Choice) -> Arg<'a> {
     match choice.given {
         Given::Needed(value) => arg.value_name(value).action(ArgAction::Set).required(true),
         Given::Text(value) => arg.value_name(value).action(ArgAction::Set),
+        Given::Texts(value) => arg.value_name(value).action(ArgAction::Append),
         Given::Number(value, most) => arg_to(arg, value, most),
         Given::NumberOr(value, most, usual) => arg_to(arg, value, most).default_value(usual),
         Given::Flag => arg.action(ArgAction::SetTrue),

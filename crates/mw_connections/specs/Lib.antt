@@ -2,3 +2,4 @@ pub mod Sessions
 pub mod Pauses
 pub mod TimesLeft
 pub mod Metered
+pub mod FaultLimits

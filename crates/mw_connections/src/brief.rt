@@ -64,6 +64,15 @@ impl<K> BriefListener<'_, K> {
         self.door.closer()
     }
 
+    /// Tells whether clients of other machines may come: it listens over TCP, and not at a loopback address.
+    ///
+    /// # Errors
+    ///
+    /// The system doesn't tell.
+    pub fn is_open(&self) -> io::Result<bool> {
+        self.door.is_open()
+    }
+
     /// Gives the port at which clients over TCP find the listener, and None for a local socket.
     ///
     /// # Errors

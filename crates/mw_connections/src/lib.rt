@@ -7,6 +7,9 @@
 //! long, or if a line or a reply takes longer from its first byte to its last. Clients that send whole lines and take
 //! whole replies cost no reading of a clock for this.
 //!
+//! With [`ClientListener::with_faults`] a session by a socket ends after so many lines with a fault, so that a program which
+//! speaks another protocol isn't served on.
+//!
 //! A connection is closed so that the client can read all that it was told. After the session's end,
 //! [`Connection::leave`] reads and drops what the client sends until the client closes its side, for a second at most.
 //!
@@ -27,6 +30,7 @@
 #![tactic(auto)]
 
 mod brief;
+mod fault_limit;
 mod listening_socket;
 mod local;
 mod metered;

@@ -77,6 +77,18 @@ impl ListeningSocket {
         }
     }
 
+    /// Tells whether clients of other machines may come: it listens over TCP, and not at a loopback address.
+    ///
+    /// # Errors
+    ///
+    /// The system doesn't tell.
+    pub(crate) fn is_open(&self) -> io::Result<bool> {
+        match self {
+            ListeningSocket::Tcp(listener) => Ok(!listener.local_addr()?.ip().is_loopback()),
+            ListeningSocket::Local(_) => Ok(false),
+        }
+    }
+
     /// Gives what ends the wait for clients: a second handle to the socket, by which it can be shut down.
     ///
     /// # Errors

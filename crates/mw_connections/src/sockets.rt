@@ -5,6 +5,7 @@
 ghost use Rattle.std.specs.Prelude.{◌≡◌, None};
 ghost use Rattle.mw_session.specs.KnownStreams.{reads_of, writes_of};
 
+use crate::fault_limit::FaultLimit;
 use crate::listening_socket::{Closer, ListeningSocket, listening};
 use crate::local::listen_local;
 use crate::peer::{Connection, Listener};
@@ -35,6 +36,8 @@ pub struct ClientListener<'a, K> {
     door: ListeningSocket,
     clock: &'a K,
     limits: WaitLimits,
+    /// After how many lines with a fault a session ends. None: after no such line.
+    faults: Option<u32>,
     /// What counts the bytes of its clients, if they are counted.
     counters: Option<&'a ServerCounters>,
 }
@@ -42,7 +45,7 @@ pub struct ClientListener<'a, K> {
 /// A client's connection, over TCP or by a local socket.
 #[derive(Drop)]
 pub struct Client<'a, K> {
-    stream: RecordedStream<TimedStream<'a, K>>,
+    stream: RecordedStream<FaultLimit<TimedStream<'a, K>>>,
 }
 
 /// Listens at an address. At `127.0.0.1:7000` it listens over TCP; at port 0 the system picks a free port.
@@ -68,6 +71,7 @@ where
         door,
         clock: rt,
         limits: limits.of_a_session(),
+        faults: None,
         counters: None,
     })
 }
@@ -97,10 +101,26 @@ pub fn port_of<K>(clients: &ClientListener<'_, K>) -> io::Result<Option<u16>> {
 }
 
 impl<'a, K> ClientListener<'a, K> {
+    /// Has the session of each client that it gives from now on end after so many lines that are answered by `ERR`: what the
+    /// client sent after the last of them isn't looked at. None: it doesn't end for this.
+    pub fn with_faults(mut self, faults: Option<u32>) -> Self {
+        self.faults = faults;
+        self
+    }
+
     /// Has these counters count the bytes of all clients that it gives from now on.
     pub fn counted_by(mut self, counters: &'a ServerCounters) -> Self {
         self.counters = Some(counters);
         self
+    }
+
+    /// Tells whether clients of other machines may come: it listens over TCP, and not at a loopback address.
+    ///
+    /// # Errors
+    ///
+    /// The system doesn't tell.
+    pub fn is_open(&self) -> io::Result<bool> {
+        self.door.is_open()
     }
 
     /// Gives what ends the wait for these clients.
@@ -126,7 +146,7 @@ impl<'a, K: Clock + Sync> Listener for ClientListener<'a, K> {
         }
         let stream = TimedStream::new(stream, self.clock, self.limits, self.counters);
         Ok(Client {
-            stream: RecordedStream::new(stream),
+            stream: RecordedStream::new(FaultLimit::new(stream, self.faults)),
         })
     }
 }

@@ -17,4 +17,5 @@ pub mod FiguresSoFar
 pub mod FigureLoads
 pub mod OpenedParts
 pub mod StepOrFileCall
+pub mod CallsOfRequests
 pub mod RequestsGoOn

@@ -1,7 +1,7 @@
 -- After one step without a reply, or before a call on its file, a request is the same and under way.
 -- Used by: the proof of Engine::go_on. It may change freely as long as this crate checks.
-use Rattle.std.specs.Prelude.{◌≡◌, false, Option, Some, None, if◌then◌else◌, is_some}
-use Rattle.std.proofs.Common.{refl, subst}
+use Rattle.std.specs.Prelude.{◌≡◌, false, Option, None, if◌then◌else◌, is_some}
+use Rattle.std.proofs.Common.{refl}
 use Rattle.mw_look.specs.declared.steps.Call.{Call}
 use Rattle.mw_actor.specs.ActorState.{ActorState}
 use Rattle.mw_actor.specs.Program.{replied}
@@ -12,8 +12,8 @@ use Rattle.mw_core.specs.Steps.{Advances, Steps, answer_of}
 use Rattle.mw_core.proofs.StepEnds.{advanced}
 use Rattle.mw_engine.specs.History.{IsInProgress}
 use Rattle.mw_engine.specs.Replies.{IsOnItsWay}
-use Rattle.mw_engine.specs.Steps.{IsAtCall, IsSameRequest}
-use Rattle.mw_engine.proofs.RequestAfterStep.{at_call, same_request}
+use Rattle.mw_engine.specs.Steps.{IsSameRequest}
+use Rattle.mw_engine.proofs.RequestAfterStep.{same_request}
 use Rattle.mw_engine.proofs.Histories.{advanced_serves}
 use Rattle.mw_engine.proofs.PassAfterCall.{advanced_files}
 use Rattle.mw_engine.proofs.RepliesOfJobs.{advanced_way}
@@ -38,8 +38,3 @@ module _ (old new : Pass) (actor next : ActorState) (call : Option Call) (runnin
 
   pub stepped_way : IsCarried old actor → IsOnItsWay actor.job actor.point → IsOnItsWay next.job next.point
   stepped_way carried way = advanced_way old new actor next answer carried advances way
-
--- if a call is next, the request has come to it
-pub stepped_to : (old new : Pass) (actor next : ActorState) (result : Option Call) (call : Call) → replied actor ≡ None → Steps old new actor next result → result ≡ Some call → IsAtCall next
-stepped_to old new actor next result call running steps is =
-    at_call false old new actor next NeedsFile (advanced old new actor next (Some call) NeedsFile running (subst (λ (one : Option Call). Steps old new actor next one) is steps) refl) refl

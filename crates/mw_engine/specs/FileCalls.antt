@@ -1,6 +1,6 @@
 -- Defines what a call on a tenant's file does, as an engine makes it.
--- Used by: the contracts of src/file_calls.rt and src/serving.rt. A change here changes what these contracts say.
-use Rattle.std.specs.Prelude.{◌≡◌, ℕ}
+-- Used by: the contracts of src/file_calls.rt and src/file_lock/one_call.rt, specs/Errands. A change here changes what these contracts say.
+use Rattle.std.specs.Prelude.{◌≡◌, ℕ, zero, suc}
 use Rattle.mw_actor.specs.ActorState.{ActorState}
 use Rattle.mw_disk.specs.Facts.{Facts}
 use Rattle.mw_book.specs.declared.book.Book.{Book}
@@ -27,3 +27,14 @@ pub record FilesOne {D : Type 0} (facts : D → Facts) (identity : Identity) (ol
   -- how many changes waited, whose records the call may have written too
   pub waiting : ℕ
   pub once : FilesOnce facts waiting old new actor next before after (file_kept file_pass) (file_kept returned)
+
+module _ {D : Type 0} (facts : D → Facts) (identity : Identity) where
+  -- So many calls were made on the request's file, one after another. Nothing else was done to the request: no atomic step was made.
+  abbrev pub MadeByCalls : ℕ → Pass → ActorState → Pass → ActorState → Type 0
+  MadeByCalls zero old actor new next = (new ≡ old) × (next ≡ actor)
+  MadeByCalls (suc more) old actor new next = (pass : Pass) × (between : ActorState) × FilesOne facts identity old pass actor between × MadeByCalls more pass between new next
+
+  -- Calls on its file were made for the request, or none. No atomic step was made.
+  pub record IsMadeByCalls (old : Pass) (actor : ActorState) (new : Pass) (next : ActorState) : Type 0 where
+    pub count : ℕ
+    pub calls : MadeByCalls count old actor new next

@@ -23,29 +23,28 @@
 //! all woke at once, the first reply would wait for a processor. A worker whose change another one has sealed sleeps on
 //! until the settle of all.
 //!
-//! Used by: `serving`; `copies` calls `wake_next`. Its contracts use `specs/Errands`: change them together.
-ghost use Rattle.std.specs.Prelude.{◌≢◌, None, IfOk, IfErr};
-ghost use Rattle.mw_world.specs.Definition.Calls.{called_at};
+//! The calls themselves are in `file_lock/one_call`, which takes the lock.
+//!
+//! Used by: `one_call`, which sends requests here; `serving` calls `depart`, and `copies` `wake_next`. Its contracts use
+//! `specs/Errands`: change them together.
+ghost use Rattle.std.specs.Prelude.{IfOk, IfErr};
 ghost use Rattle.mw_loan.specs.Loans.{IsReceiptFor, IsReceiptOf};
 ghost use Rattle.mw_engine.specs.declared.errand.Errand.{Errand as ErrandOf};
-ghost use Rattle.mw_engine.specs.Errands.{CarriesRequest, GoesOn, IsCarriedHere, RequestGoesOn};
+ghost use Rattle.mw_engine.specs.Errands.{GoesOn, IsCarriedHere};
 
 use crate::brand::EngineBrand;
 use crate::engine::Engine;
 use crate::errand::Errand;
 use crate::errand_boxes::ErrandBox;
-use crate::file_calls::{DueCall, due_call};
+use crate::file_calls::due_call;
 use crate::file_lock::FileLock;
-use crate::guarded_file::GuardedFile;
 use crate::hold::Hold;
 use crate::order::{Choosing, Waiter};
 use crate::waiting_room::{Look, Workers};
-use core::mem::replace_with;
-use mw_actor::Actor;
-use mw_core::{Pass, waiting_change};
+use mw_core::waiting_change;
 use mw_disk::Disk;
 use mw_loan::{Kept, Receipt};
-use mw_turns::{FairGuard, Heard};
+use mw_turns::Heard;
 use std::sync::Wait;
 
 /// How many microseconds a worker sleeps at most before it tries the lock again.
@@ -82,74 +81,16 @@ struct Stay {
 }
 
 impl<J: EngineBrand, D: Disk + Drop, H: Hold + Drop> Engine<J, D, H> {
-    /// Makes the call on its tenant's file to which the pass's request has come, or has another thread make it. No
-    /// contract says that it is made: `serve` calls this again.
-    pub(crate) fn combine(&self, rt: &impl Wait, pass: &mut Pass, actor: &mut Actor, due: DueCall)
-        requires here { CarriesRequest J.identity pass.old actor.old }
-        requires call { called_at actor.old.point ≢ None }
-        ensures { RequestGoesOn J.identity pass.old actor.old pass.new actor.new }
-    {
-        let Some(lock) = self.lock_of(actor.tenant()) else {
-            self.file(rt, pass, actor);
-            return;
-        };
-        let waiter = Waiter::new(pass.worker(), due);
-        if let Some(guard) = lock.lock_for(&waiter) {
-            self.make_own(rt, lock, guard, pass, actor, &waiter);
-            return;
-        }
-        // `replace_with` moves one value out of a `&mut`. A pass can't be copied, so the machine is.
-        let own = actor.copy();
-        *actor = replace_with(pass, own, |pass, actor| {
-            let Errand { pass, actor } = self.send(rt, lock, Errand { pass, actor }, waiter);
-            (pass, actor)
-        });
-    }
-
-    /// Makes the call of a worker's own request with the file's lock, and releases it. If others are there it then
-    /// makes calls of theirs.
-    fn make_own(
-        &self,
-        rt: &impl Wait,
-        lock: &FileLock<J, D>,
-        guard: FairGuard<'_, GuardedFile<J, D>>,
-        pass: &mut Pass,
-        actor: &mut Actor,
-        waiter: &Waiter,
-    )
-        requires here { CarriesRequest J.identity pass.old actor.old }
-        ensures { RequestGoesOn J.identity pass.old actor.old pass.new actor.new }
-    {
-        let mut guard = guard;
-        self.make_with_lock(rt, lock, &mut guard.value, pass, actor, waiter);
-        drop(guard);
-        if !lock.room.is_empty() {
-            self.leave(rt, lock, waiter);
-        }
-    }
-
-    /// Makes the call of a worker's own request on this file, and notes it in the file's room.
-    fn make_with_lock(
-        &self,
-        rt: &impl Wait,
-        lock: &FileLock<J, D>,
-        file: &mut GuardedFile<J, D>,
-        pass: &mut Pass,
-        actor: &mut Actor,
-        waiter: &Waiter,
-    )
-        requires here { CarriesRequest J.identity pass.old actor.old }
-        ensures { RequestGoesOn J.identity pass.old actor.old pass.new actor.new }
-    {
-        lock.room.begin(waiter);
-        self.make(file, pass, actor);
-        lock.room.end(rt, waiter, &file.book, &mut file.called);
-    }
-
     /// Leaves a request in its worker's box, and waits until its call is made.
-    fn send(&self, rt: &impl Wait, lock: &FileLock<J, D>, errand: Errand, waiter: Waiter) -> Errand
+    pub(crate) fn send(
+        &self,
+        rt: &impl Wait,
+        lock: &FileLock<J, D>,
+        errand: Errand,
+        waiter: Waiter,
+    ) -> Errand
         requires here { IsCarriedHere J.identity errand }
-        ensures { GoesOn J.identity errand result }
+        ensures { GoesOn D.facts J.identity errand result }
     {
         let Some(own_box) = self.errands.get(usize::from(waiter.worker)) else {
             return self.go_oneself(rt, errand);
@@ -168,9 +109,10 @@ impl<J: EngineBrand, D: Disk + Drop, H: Hold + Drop> Engine<J, D, H> {
     /// Makes the next call of a request on its file alone, and waits for the lock. It is for a box that isn't at its
     /// number or isn't empty, and for a request of which no other worker knows. None of these happens, but no type says
     /// so.
+    #[tactic(auto, using(crate::proofs::RequestsGoOn::called, crate::proofs::RequestsGoOn::stays))]
     fn go_oneself(&self, rt: &impl Wait, errand: Errand) -> Errand
         requires here { IsCarriedHere J.identity errand }
-        ensures { GoesOn J.identity errand result }
+        ensures { GoesOn D.facts J.identity errand result }
     {
         let Errand {
             mut pass,
@@ -189,12 +131,12 @@ impl<J: EngineBrand, D: Disk + Drop, H: Hold + Drop> Engine<J, D, H> {
         &self,
         rt: &impl Wait,
         lock: &FileLock<J, D>,
-        own_box: &ErrandBox<J>,
+        own_box: &ErrandBox<J, D>,
         waiter: &Waiter,
         receipt: Receipt<Errand>,
     ) -> Errand
         requires own { IsReceiptOf own_box.now.loan.table.shared.table_id receipt }
-        ensures { (left : ErrandOf) → IsReceiptFor own_box.now.loan.table.shared.table_id left receipt → GoesOn J.identity left result }
+        ensures { (left : ErrandOf) → IsReceiptFor own_box.now.loan.table.shared.table_id left receipt → GoesOn D.facts J.identity left result }
     {
         let mut receipt = receipt;
         let mut stay = Stay {
@@ -218,13 +160,13 @@ impl<J: EngineBrand, D: Disk + Drop, H: Hold + Drop> Engine<J, D, H> {
         &self,
         rt: &impl Wait,
         lock: &FileLock<J, D>,
-        own_box: &ErrandBox<J>,
+        own_box: &ErrandBox<J, D>,
         waiter: &Waiter,
         receipt: Receipt<Errand>,
         stay: Stay,
     ) -> Result<Errand, Receipt<Errand>>
         requires own { IsReceiptOf own_box.now.loan.table.shared.table_id receipt }
-        ensures gone_on { (left : ErrandOf) → IsReceiptFor own_box.now.loan.table.shared.table_id left receipt → IfOk result (λ errand. GoesOn J.identity left errand) }
+        ensures gone_on { (left : ErrandOf) → IsReceiptFor own_box.now.loan.table.shared.table_id left receipt → IfOk result (λ errand. GoesOn D.facts J.identity left errand) }
         ensures kept { (left : ErrandOf) → IsReceiptFor own_box.now.loan.table.shared.table_id left receipt → IfErr result (λ same. IsReceiptFor own_box.now.loan.table.shared.table_id left same) }
     {
         if own_box.is_done() {
@@ -251,7 +193,7 @@ impl<J: EngineBrand, D: Disk + Drop, H: Hold + Drop> Engine<J, D, H> {
         &self,
         rt: &impl Wait,
         lock: &FileLock<J, D>,
-        own_box: &ErrandBox<J>,
+        own_box: &ErrandBox<J, D>,
         heard: Heard,
         stay: Stay,
         worker: u8,
@@ -290,14 +232,12 @@ impl<J: EngineBrand, D: Disk + Drop, H: Hold + Drop> Engine<J, D, H> {
         worker: u8,
     ) -> Served {
         for _ in rt.forever() {
-            let Some(guard) = lock.try_lock() else {
+            let Some(is_made) = self.try_next(rt, lock, choosing, worker) else {
                 return Served::Busy;
             };
-            let mut guard = guard;
-            if self.make_next(rt, lock, &mut guard.value, choosing, worker) {
+            if is_made {
                 return Served::One;
             }
-            drop(guard);
             // Whoever came meanwhile found the lock held, and sleeps. So this one looks again.
             match lock.room.look(rt, choosing) {
                 Look::Ready => {}
@@ -306,59 +246,6 @@ impl<J: EngineBrand, D: Disk + Drop, H: Hold + Drop> Engine<J, D, H> {
             }
         }
         unreachable!()
-    }
-
-    /// Makes the next call of those that wait on this file, if one may be made. Tells whether it was chosen.
-    fn make_next(
-        &self,
-        rt: &impl Wait,
-        lock: &FileLock<J, D>,
-        file: &mut GuardedFile<J, D>,
-        choosing: Choosing,
-        worker: u8,
-    ) -> bool {
-        let mut woken = Workers::new();
-        let Some(waiter) = lock.room.choose(rt, choosing, &mut file.called, &mut woken) else {
-            return false;
-        };
-        self.ring_all(&woken);
-        lock.room.begin(&waiter);
-        match self.make_for(file, waiter.worker) {
-            Some(own_box) if waiter.worker != worker => {
-                lock.room
-                    .end_for(rt, &waiter, &file.book, &mut file.called, own_box);
-            }
-            Some(own_box) => {
-                lock.room.end(rt, &waiter, &file.book, &mut file.called);
-                own_box.end();
-            }
-            None => lock.room.end(rt, &waiter, &file.book, &mut file.called),
-        }
-        true
-    }
-
-    /// Makes the call of the request that waits in a worker's box. Gives the box, if the request was there.
-    fn make_for(&self, file: &mut GuardedFile<J, D>, worker: u8) -> Option<&ErrandBox<J>> {
-        let own_box = self.errands.get(usize::from(worker))?;
-        let is_lent = own_box.loan.lend(Kept::Waiting, |errand| {
-            self.make(file, &mut errand.pass, &mut errand.actor)
-        });
-        if is_lent { Some(own_box) } else { None }
-    }
-
-    /// Makes the call on this file to which a request has come. Does nothing if it has come to none, or the file is
-    /// another tenant's.
-    fn make(&self, file: &mut GuardedFile<J, D>, pass: &mut Pass, actor: &mut Actor)
-        requires here { CarriesRequest J.identity pass.old actor.old }
-        ensures { RequestGoesOn J.identity pass.old actor.old pass.new actor.new }
-    {
-        let Some(due) = due_call(actor) else {
-            return;
-        };
-        if file.is_of(actor) {
-            file.strike_off(due);
-            file.file(&self.words.core, pass, actor);
-        }
     }
 
     /// A worker has taken its request back, and goes: it wakes the next of those whose calls were made. If it made
@@ -374,7 +261,7 @@ impl<J: EngineBrand, D: Disk + Drop, H: Hold + Drop> Engine<J, D, H> {
 
     /// A worker whose call was made goes, while others are in the room. It makes those of their calls that need no sync
     /// and, if it comes back soon, the seals. Else it wakes the one that came first.
-    fn leave(&self, rt: &impl Wait, lock: &FileLock<J, D>, waiter: &Waiter) {
+    pub(crate) fn leave(&self, rt: &impl Wait, lock: &FileLock<J, D>, waiter: &Waiter) {
         let comes_back = waiter.comes_back();
         let choosing = if comes_back {
             Choosing::Seals
@@ -406,7 +293,7 @@ impl<J: EngineBrand, D: Disk + Drop, H: Hold + Drop> Engine<J, D, H> {
 
 impl<J: EngineBrand, D: Disk, H> Engine<J, D, H> {
     /// The lock of a tenant's file, if it is at the tenant's number.
-    fn lock_of(&self, tenant: u8) -> Option<&FileLock<J, D>> {
+    pub(crate) fn lock_of(&self, tenant: u8) -> Option<&FileLock<J, D>> {
         let lock = self.books.get(usize::from(tenant))?;
         if lock.is_of(tenant) { Some(lock) } else { None }
     }
@@ -424,7 +311,7 @@ impl<J: EngineBrand, D: Disk, H> Engine<J, D, H> {
     }
 
     /// Wakes some workers.
-    fn ring_all(&self, workers: &Workers) {
+    pub(crate) fn ring_all(&self, workers: &Workers) {
         for worker in workers.as_slice() {
             self.ring(*worker);
         }

@@ -35,9 +35,7 @@ impl<J: EngineBrand, D: Disk + Drop, H: Drop> Engine<J, D, H> {
             if index >= self.books.len() {
                 index = 0;
             }
-            let mut guard = self.books[index].lock(rt);
-            let copied = guard.value.copy_of(tenant, alloc);
-            drop(guard);
+            let copied = self.books[index].copy_of(rt, alloc, tenant);
             self.wake_next(rt, &self.books[index]);
             if let Some(copied) = copied {
                 return copied;
@@ -51,7 +49,11 @@ impl<J: EngineBrand, D: Disk + Drop, H: Drop> Engine<J, D, H> {
 impl<J: EngineBrand, D: Disk> GuardedFile<J, D> {
     /// Copies the bytes of this file if it is that of this tenant. Gives None, and does nothing, if it is another
     /// one's.
-    fn copy_of(&mut self, tenant: u8, alloc: Global) -> Option<Result<Vec<u8>, CopyFault>>
+    pub(crate) fn copy_of(
+        &mut self,
+        tenant: u8,
+        alloc: Global,
+    ) -> Option<Result<Vec<u8>, CopyFault>>
         ensures { IfSome result (λ copied. CopiesOne D.facts J.identity tenant copied) }
     {
         if self.tenant != tenant {

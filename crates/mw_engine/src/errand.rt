@@ -1,9 +1,10 @@
 //! A request that is at a call on its tenant's file, which any thread may make: its pass and its machine.
 //!
-//! Used by: `errand_boxes`, `combiner`. `specs/Errands` says how a request comes back: change them together.
+//! Used by: `errand_boxes`, `combiner`, `one_call`. `specs/Errands` says how a request comes back: change them together.
 use crate::brand::EngineBrand;
 use mw_actor::Actor;
 use mw_core::Pass;
+use mw_disk::Disk;
 use mw_loan::Lasting;
 use std::marker::PhantomData;
 
@@ -15,10 +16,10 @@ pub(crate) struct Errand {
 }
 
 /// Relates a request that was left to what it has become: `GoesOn`.
-pub(crate) struct ErrandLasts<J>(PhantomData<J>);
+pub(crate) struct ErrandLasts<J, D>(PhantomData<J>, PhantomData<D>);
 
-impl<J: EngineBrand> Lasting<Errand> for ErrandLasts<J> {
+impl<J: EngineBrand, D: Disk> Lasting<Errand> for ErrandLasts<J, D> {
     ghost use Rattle.mw_engine.specs.Errands.{GoesOn};
 
-    ghost lasts = { GoesOn J.identity };
+    ghost lasts = { GoesOn D.facts J.identity };
 }

@@ -3,6 +3,7 @@
 //! Used by: `engine`; `start`, which makes the boxes; `combiner`; `waiting_room`; `end`.
 use crate::brand::EngineBrand;
 use crate::errand::{Errand, ErrandLasts};
+use mw_disk::Disk;
 use mw_loan::LoanBox;
 use mw_turns::Bell;
 use mw_words::MAX_WORKERS;
@@ -11,21 +12,21 @@ use std::sync::atomic::{AtomicBool, Ordering};
 
 /// A worker's box, and the bell by which it sleeps.
 #[derive(Drop)]
-pub(crate) struct ErrandBox<J: EngineBrand> {
-    pub(crate) loan: LoanBox<Errand, ErrandLasts<J>>,
+pub(crate) struct ErrandBox<J: EngineBrand, D: Disk> {
+    pub(crate) loan: LoanBox<Errand, ErrandLasts<J, D>>,
     pub(crate) bell: Bell,
     /// Whether the request's call was made. Whoever makes it sets this while it holds the file's lock. It is a hint:
     /// the box itself tells whether the request can be taken back.
     is_done: AtomicBool,
 }
 
-impl<J: EngineBrand> ErrandBox<J> {
+impl<J: EngineBrand, D: Disk> ErrandBox<J, D> {
     /// Makes an empty box.
     ///
     /// # Errors
     ///
     /// [`AllocError`] if memory is out.
-    fn new(alloc: Global) -> Result<ErrandBox<J>, AllocError> {
+    fn new(alloc: Global) -> Result<ErrandBox<J, D>, AllocError> {
         Ok(ErrandBox {
             loan: LoanBox::new(alloc)?,
             bell: Bell::new(),
@@ -54,7 +55,9 @@ impl<J: EngineBrand> ErrandBox<J> {
 /// # Errors
 ///
 /// [`AllocError`] if memory is out.
-pub(crate) fn errand_boxes<J: EngineBrand>(alloc: Global) -> Result<Vec<ErrandBox<J>>, AllocError> {
+pub(crate) fn errand_boxes<J: EngineBrand, D: Disk>(
+    alloc: Global,
+) -> Result<Vec<ErrandBox<J, D>>, AllocError> {
     let mut boxes = Vec::with_capacity(alloc, usize::from(MAX_WORKERS))?;
     for _ in 0..MAX_WORKERS {
         boxes.push(ErrandBox::new(alloc)?)?;

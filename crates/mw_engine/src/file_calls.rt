@@ -1,6 +1,6 @@
 //! Makes a call on a tenant's file, under its lock.
 //!
-//! Used by: `serving` and `combiner`, which take the lock. Its contracts use `specs/Brand`, `specs/FileCalls` and
+//! Used by: `one_call`, which takes the lock; `serving` and `combiner` ask for the call that is due. Its contracts use `specs/Brand`, `specs/FileCalls` and
 //! `specs/Passes`: change them together.
 ghost use Rattle.std.specs.Prelude.{◌≡◌, ◌≢◌, ◌↔◌, true, is_some, None, IsTrue};
 ghost use Rattle.mw_world.specs.Definition.Calls.{called_at};

@@ -1,15 +1,22 @@
 //! The lock of a tenant's file, with a room for those that wait for it.
 //!
-//! Used by: `engine`; `start`, which makes it; `serving`, `combiner` and `copies`, which take it; `end`. The contracts
-//! of the file come from its lock. The room has none. Whoever releases the lock then looks into the room, or calls
-//! `wake_next`.
+//! Used by: `engine`; `start`, which makes it; `one_call`, which takes it; `combiner`; `copies`; `end`. The contracts of
+//! the file come from its lock. The room has none. Whoever releases the lock then looks into the room, or calls
+//! `wake_next`. Who takes the lock is private here, so that only `one_call` keeps it over anything.
+ghost use Rattle.std.specs.Prelude.{IfSome};
+ghost use Rattle.mw_engine.specs.Copies.{CopiesOne};
+
 use crate::brand::EngineBrand;
 use crate::guarded_file::GuardedFile;
 use crate::order::Waiter;
 use crate::waiting_room::WaitingRoom;
 use mw_disk::Disk;
+use mw_file::CopyFault;
 use mw_turns::{FairGuard, FairLock};
+use std::alloc::Global;
 use std::sync::Wait;
+
+mod one_call;
 
 /// A tenant's file under its lock, and who waits for it.
 #[derive(Drop)]
@@ -46,14 +53,28 @@ impl<J: EngineBrand, D: Disk> FileLock<J, D> {
         self.tenant == tenant
     }
 
+    /// Copies the bytes of the file between two calls on it, if it is that of this tenant. Gives None if it is another
+    /// one's.
+    pub(crate) fn copy_of(
+        &self,
+        rt: &impl Wait,
+        alloc: Global,
+        tenant: u8,
+    ) -> Option<Result<Vec<u8>, CopyFault>>
+        ensures { IfSome result (λ copied. CopiesOne D.facts J.identity tenant copied) }
+    {
+        let mut guard = self.lock(rt);
+        guard.value.copy_of(tenant, alloc)
+    }
+
     /// Takes the lock, and waits while another thread holds it.
-    pub(crate) fn lock(&self, rt: &impl Wait) -> FairGuard<'_, GuardedFile<J, D>> {
+    fn lock(&self, rt: &impl Wait) -> FairGuard<'_, GuardedFile<J, D>> {
         self.file.lock(rt)
     }
 
     /// Takes the lock for a worker that comes to a call, if its call may be made before others come, and the lock is
     /// free or gets free within some microseconds.
-    pub(crate) fn lock_for(&self, waiter: &Waiter) -> Option<FairGuard<'_, GuardedFile<J, D>>> {
+    fn lock_for(&self, waiter: &Waiter) -> Option<FairGuard<'_, GuardedFile<J, D>>> {
         if self.room.may_try(waiter) {
             self.file.try_lock_for_a_while()
         } else {
@@ -62,7 +83,7 @@ impl<J: EngineBrand, D: Disk> FileLock<J, D> {
     }
 
     /// Takes the lock if it is free.
-    pub(crate) fn try_lock(&self) -> Option<FairGuard<'_, GuardedFile<J, D>>> {
+    fn try_lock(&self) -> Option<FairGuard<'_, GuardedFile<J, D>>> {
         self.file.try_lock()
     }
 }

@@ -1,6 +1,6 @@
 //! What the lock of a tenant's file guards: its book, and the file pass (the capability to call it).
 //!
-//! Used by: `file_lock`; `start`, which makes it; `file_calls`, `combiner`, `copies`, `end`. Its ghost fields use `specs/GuardedFile`:
+//! Used by: `file_lock`, `one_call`; `start`, which makes it; `file_calls`, `copies`, `end`. Its ghost fields use `specs/GuardedFile`:
 //! change them together.
 ghost use Rattle.mw_engine.specs.GuardedFile.{KeepsFor};
 

@@ -3,7 +3,8 @@
 //! [`EngineParts`] are made of the tenants' lines and files, with a pass for each worker.
 //! [`EngineParts::into_engine`] makes them an [`Engine`]. Each worker serves one request at a time with its pass,
 //! by [`Engine::serve`]. The lock of a tenant's file is taken for one call on it at a time, and kept over nothing else.
-//! Whoever has it makes the call of a request that waits for the file, its own or another worker's (`combiner`).
+//! Whoever has it makes the call of a request that waits for the file, its own or another worker's (`combiner`). Only
+//! `file_lock` and its module `one_call` can take it.
 //! [`Engine::file`] makes one call of one request, and [`Engine::copy_file`] copies a file: both take its lock.
 //! Everything else takes none: one step of a request, a read, the figures, the meeting of two passes, a note of what a
 //! pass has seen. The tenants and their numbers of words stay the same for the engine's whole life. So a job that was

@@ -4,7 +4,7 @@
 //! Then comes a settle, which settles all sealed changes at once, and last a prepare whose record nobody has written
 //! yet. A settle and such a prepare wait while a worker is expected to come with its seal soon.
 //!
-//! Used by: `waiting_room`, `combiner`. No contract speaks of the order.
+//! Used by: `waiting_room`, `combiner`, `file_lock`, `one_call`. No contract speaks of the order.
 use crate::file_calls::DueCall;
 use crate::hints::Hints;
 use mw_look::Call;

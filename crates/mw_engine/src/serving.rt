@@ -2,11 +2,9 @@
 //!
 //! mw_service answers each request of a session by `Engine::serve`. docs/PROMISES.md cites its contract: a
 //! change of it, or of `specs/History` or `specs/Replies`, changes what clients are promised.
-ghost use Rattle.std.specs.Prelude.{◌≡◌, ◌≢◌, true, false, None};
+ghost use Rattle.std.specs.Prelude.{◌≡◌, true, false, None};
 ghost use Rattle.mw_actor.specs.Program.{replied};
-ghost use Rattle.mw_core.specs.FromTable.{IsCarried, IsOfSameWorker, IsSamePass, View as Knowledge};
-ghost use Rattle.mw_world.specs.Definition.Calls.{called_at};
-ghost use Rattle.mw_engine.specs.FileCalls.{FilesOne};
+ghost use Rattle.mw_core.specs.FromTable.{IsCarried, IsOfSameWorker, View as Knowledge};
 ghost use Rattle.mw_engine.specs.History.{IsAnswered, IsInProgress};
 ghost use Rattle.mw_engine.specs.Identity.{IsFor};
 ghost use Rattle.mw_engine.specs.Passes.{IsPassOf};
@@ -87,39 +85,6 @@ impl<J: EngineBrand, D: Disk + Drop, H: Hold + Drop> Engine<J, D, H> {
             Call::Settle => self.hold.at(pass.worker(), Point::BeforeSettle),
             Call::Prepare | Call::Cancel => {}
         }
-    }
-
-    /// Makes the call on its tenant's file to which the pass's request has come. Waits for the lock of that file. No
-    /// other thread makes the call. Used by tests that make each step, and where `combine` can't use a box.
-    pub fn file(&self, rt: &impl Wait, pass: &mut Pass, actor: &mut Actor)
-        requires own { IsPassOf J.identity pass.old }
-        requires carried { IsCarried pass.old actor.old }
-        requires call { called_at actor.old.point ≢ None }
-        ensures own { IsPassOf J.identity pass.new }
-        ensures same { IsSamePass pass.old pass.new }
-        ensures carried { IsCarried pass.new actor.new }
-        ensures files { FilesOne D.facts J.identity pass.old pass.new actor.old actor.new }
-        ensures request { IsSameRequest actor.old actor.new }
-        ensures way { IsOnItsWay actor.old.job actor.old.point → IsOnItsWay actor.new.job actor.new.point }
-        ensures call { (first : Knowledge) → IsInProgress first pass.old.seat.me.0 actor.old → IsInProgress first pass.new.seat.me.0 actor.new }
-    {
-        // The first lock that is taken is the tenant's own. The loop is needed because no type of an index can say
-        // so: all locks of a list have one type, and it says the same of what each of them guards.
-        let mut index = usize::from(actor.tenant());
-        for _ in rt.forever() {
-            if index >= self.books.len() {
-                index = 0;
-            }
-            let mut guard = self.books[index].lock(rt);
-            if guard.value.is_of(actor) {
-                guard.value.file(&self.words.core, pass, actor);
-                drop(guard);
-                self.wake_next(rt, &self.books[index]);
-                return;
-            }
-            index += 1;
-        }
-        unreachable!()
     }
 }
 

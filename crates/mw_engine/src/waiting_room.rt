@@ -1,7 +1,7 @@
 //! Who waits for a tenant's file: workers, one of whose calls whoever gets the file's lock makes next, and changes,
 //! whose records a call on the file writes along with its own bytes.
 //!
-//! Used by: `file_lock`, `guarded_file`, `start`, `combiner`. No contract says who is there: a call on a book takes the
+//! Used by: `file_lock`, `one_call`, `guarded_file`, `start`, `combiner`. No contract says who is there: a call on a book takes the
 //! changes that it can use, and leaves the rest to their own prepares. A worker that nobody serves tries the lock
 //! itself.
 use crate::brand::EngineBrand;
@@ -173,7 +173,7 @@ impl WaitingRoom {
         waiter: &Waiter,
         book: &Book<D>,
         called: &mut WaitingChanges,
-        own_box: &ErrandBox<J>,
+        own_box: &ErrandBox<J, D>,
     ) {
         let has_settled = self.note(waiter);
         let mut waits = self.waits.lock(rt);

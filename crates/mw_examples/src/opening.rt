@@ -229,26 +229,92 @@ fn an_error_is_kept_after_calls_that_go_well(rt: HostRuntime) {
     same_at(&rt, 0, &last_of(&last), &Some(DEVICE));
 }
 
-/// Calls on a file of six bytes, one after the other, and the size that it must have after each. The last one fails.
-const SIZES: [(Call, u64); 6] = [
-    (Call::Metadata, 6),
-    (Call::WriteAt(1, 4), 6),
-    (Call::WriteAt(5, 4), 9),
-    (Call::SyncData, 9),
-    (Call::SetLen(3), 3),
-    (Call::WriteAt(9, 4), 3),
+/// Calls on a file of six bytes, one after the other, and after each the size that it must have, and whether it is known to
+/// be replaced. The call below the last one fails.
+const SIZES: [(Call, u64, bool); 11] = [
+    (Call::Metadata, 6, false),
+    (Call::ReadAt(0, 4), 6, false),
+    (Call::WriteAt(1, 4), 6, false),
+    (Call::ReadAt(0, 4), 6, false),
+    (Call::WriteAt(5, 4), 9, false),
+    (Call::Metadata, 9, false),
+    (Call::SetLen(3), 3, false),
+    (Call::Metadata, 3, false),
+    (Call::WriteAt(5, 4), 9, false),
+    (Call::Metadata, 9, false),
+    (Call::WriteAt(9, 4), 9, false),
 ];
+
+/// The same of calls after which others cut the file to two bytes. It stays known even after a write has made it as long
+/// as before.
+const CUTS: [(Call, u64, bool); 4] = [
+    (Call::SyncData, 6, false),
+    (Call::Metadata, 6, true),
+    (Call::WriteAt(4, 4), 8, true),
+    (Call::Metadata, 8, true),
+];
+
+/// How the calls of [`CUTS`] end.
+const CUT_ENDS: [Ended; 4] = [Ok(0), Err(Some(STALE)), Ok(4), Err(Some(STALE))];
+
+/// The same of calls after which others write four bytes from the second one on. A read of the first byte alone shows
+/// nothing.
+const OVERWRITES: [(Call, u64, bool); 4] = [
+    (Call::Metadata, 6, false),
+    (Call::ReadAt(0, 1), 6, false),
+    (Call::ReadAt(0, 4), 6, true),
+    (Call::Metadata, 6, true),
+];
+
+/// How the calls of [`OVERWRITES`] end.
+const OVERWRITE_ENDS: [Ended; 4] = [Ok(6), Ok(1), Err(Some(STALE)), Err(Some(STALE))];
+
+/// Checks what a file's state keeps after each of these calls, and gives how they ended.
+fn check_calls_on<R: Abort, const N: usize>(
+    rt: &R,
+    file: &TrackedFile<'_, &FakeFile>,
+    state: &FileState,
+    calls: &[(Call, u64, bool); N],
+) -> [Ended; N] {
+    let mut all = [Ok(0); N];
+    for (case, ((call, size, is_known), ended)) in (0u8..).zip(calls.iter().zip(all.iter_mut())) {
+        *ended = make(file, *call);
+        let kept = (state.seen().size, state.was_replaced());
+        same_at(rt, case, &kept, &(*size, *is_known));
+    }
+    all
+}
 
 #[test]
 fn the_size_that_a_file_must_have(rt: HostRuntime) {
     let file = FakeFile::new(BYTES);
-    file.fail_at(5, DEVICE);
+    file.fail_at(10, DEVICE);
+    let state = FileState::new();
+    let _ = check_calls_on(&rt, &TrackedFile::new(&file, &state), &state, &SIZES);
+}
+
+/// Makes these calls on a file of which length and front are known, after others have made one on it.
+fn check_after<R: Abort, const N: usize>(
+    rt: &R,
+    theirs: Call,
+    calls: &[(Call, u64, bool); N],
+    wanted: &[Ended; N],
+) {
+    let file = FakeFile::new(BYTES);
     let state = FileState::new();
     let tracked = TrackedFile::new(&file, &state);
-    for (case, (call, size)) in (0u8..).zip(SIZES) {
-        let _ = make(&tracked, call);
-        same_at(&rt, case, &state.seen().size, &size);
-    }
+    let _ = (
+        make(&tracked, Call::Metadata),
+        make(&tracked, Call::ReadAt(0, 4)),
+    );
+    let _ = make(&&file, theirs);
+    same_at(rt, 0, &check_calls_on(rt, &tracked, &state, calls), wanted);
+}
+
+#[test]
+fn a_file_that_others_changed(rt: HostRuntime) {
+    check_after(&rt, Call::SetLen(2), &CUTS, &CUT_ENDS);
+    check_after(&rt, Call::WriteAt(1, 4), &OVERWRITES, &OVERWRITE_ENDS);
 }
 
 /// What was seen of one sync of a disk: how it ended, the calls on the file, and how many faults the disk counts.

@@ -18,7 +18,7 @@ use std::rt::Files;
 use std::time::Clock;
 
 /// A request for the file of the tenant t.
-const FILE_REQUEST: &[u8] = b"GET /tenants/t/file HTTP/1.1\r\nHost: a\r\n\r\n";
+const FILE_REQUEST: &[u8] = b"GET /tenants/t/file HTTP/1.1\r\nHost: localhost\r\n\r\n";
 
 /// Plays a line of a client, or else one that says what a program gave. Gives true if what it says has happened.
 pub(crate) fn play_talk<R>(

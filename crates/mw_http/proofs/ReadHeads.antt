@@ -20,20 +20,20 @@ use Rattle.mw_http.specs.declared.hearing.TheConstants.{MAX_HEAD, MAX_FIELDS}
 use Rattle.mw_http.specs.Hearing.{limits, answer_from, answer_to}
 
 -- the answer to the parts of the head that was read is that to any head that http1 accepts at the front of the bytes
-pub whole_head : (server : Server) (bytes : List ℕ) (spans : List HeaderSpan) (next : Server) (read : Progress RequestSpans) (r : RequestSpans) →
+pub whole_head : (names : List (List ℕ)) (server : Server) (bytes : List ℕ) (spans : List HeaderSpan) (next : Server) (read : Progress RequestSpans) (r : RequestSpans) →
     server ≡ new_server limits → ServerReads server bytes spans next read → read.event ≡ Head r →
     (h : RequestHead) (framing : Framing) (rest : List ℕ) → AcceptsRequest limits bytes h framing rest →
-    answer_from (span_bytes bytes r.method) (span_bytes bytes r.path) (map (header_bytes bytes) (take r.headers spans)) ≡ answer_to h
-whole_head server bytes spans next read r is reads e h framing rest accepted =
+    answer_from names (span_bytes bytes r.method) (span_bytes bytes r.path) (map (header_bytes bytes) (take r.headers spans)) ≡ answer_to names h
+whole_head names server bytes spans next read r is reads e h framing rest accepted =
     let fresh : ServerReads (new_server limits) bytes spans next read = subst (λ (s : Server). ServerReads s bytes spans next read) is reads in
     let taken : TakesHead (new_server limits) bytes spans next read.consumed r
     = subst (λ (ev : Event RequestSpans). ReadsHead (new_server limits) bytes spans next read.consumed ev) e fresh in
     let same : taken.head ≡ h = (request_unique bytes taken.head h _ _ taken.accepts.reads accepted.reads).0 in
     let fields = map (header_bytes bytes) (take r.headers spans) in
-    ap (λ (m : List ℕ). answer_from m (span_bytes bytes r.path) fields) taken.covered.method
-    ∙ ap (λ (t : List ℕ). answer_from taken.head.method t fields) taken.covered.path
-    ∙ ap (λ (f : List Header). answer_from taken.head.method taken.head.target f) taken.covered.fields
-    ∙ ap (λ (k : RequestHead). answer_to k) same
+    ap (λ (m : List ℕ). answer_from names m (span_bytes bytes r.path) fields) taken.covered.method
+    ∙ ap (λ (t : List ℕ). answer_from names taken.head.method t fields) taken.covered.path
+    ∙ ap (λ (f : List Header). answer_from names taken.head.method taken.head.target f) taken.covered.fields
+    ∙ ap (λ (k : RequestHead). answer_to names k) same
 
 -- why a fresh server refuses some bytes
 pub no_head : (server : Server) (bytes : List ℕ) (room : ℕ) (fault : ReadError) → server ≡ new_server limits → ServerRefuses server bytes room fault →

@@ -1,7 +1,7 @@
 -- Defines what is heard from the bytes that a client has sent so far: nothing yet, a request, or why it is refused.
 -- The grammar of a head and the rules on its fields are those of the kit's crates httparse and http1 (RFC 9112).
 -- Used by: the contracts of hearing.rt. A change here changes how clients are answered, and docs/OPERATING with it.
-use Rattle.std.specs.Prelude.{◌≡◌, ℕ, ◌<◌, ◌⊎◌, ◌==◌, Bool, true, false, ◌||◌, List, [], length, map, Option, None, Some, is_some, Result, Ok, Err, codes, bytes_eq, if◌then◌else◌}
+use Rattle.std.specs.Prelude.{◌≡◌, ℕ, ◌<◌, ◌⊎◌, ◌==◌, Bool, true, false, not, ◌||◌, List, [], length, map, Option, None, Some, is_some, Result, Ok, Err, codes, bytes_eq, if◌then◌else◌}
 use Rattle.std.specs.List.{list_all}
 use Rattle.httparse.specs.Grammar.{RequestHead, HasNoRequest, MayBecomeRequest}
 use Rattle.httparse.specs.Spans.{name_and_value}
@@ -13,12 +13,12 @@ use Rattle.http1.specs.Message.{AcceptsRequest}
 use Rattle.http1.specs.ReadError.{RequestError, status_of}
 use Rattle.http1.specs.Server.{HasNoHead}
 use Rattle.mw_http.specs.declared.status.Status.{Status}
-use Rattle.mw_http.specs.declared.status.Status.TheVariants.{BadRequest, NotFound, MethodNotAllowed, UriTooLong, FieldsTooLarge, NotImplemented}
+use Rattle.mw_http.specs.declared.status.Status.TheVariants.{BadRequest, NotFound, MethodNotAllowed, Misdirected, UriTooLong, FieldsTooLarge, NotImplemented}
 use Rattle.mw_http.specs.declared.hearing.Request.{Request}
 use Rattle.mw_http.specs.declared.hearing.Heard.{Heard}
 use Rattle.mw_http.specs.declared.hearing.Heard.TheVariants.{More, Asked, Refused}
 use Rattle.mw_http.specs.declared.hearing.TheConstants.{MAX_HEAD, MAX_FIELDS}
-use Rattle.mw_http.specs.Hosts.{is_valid_field}
+use Rattle.mw_http.specs.Hosts.{is_own_field, is_valid_field}
 use Rattle.mw_http.specs.Targets.{Place, place_of, place_at, is_target}
 
 -- what is asked for, and whether its content is
@@ -67,14 +67,16 @@ answer_line method target =
     else if is_other_method method then Err (if is_some (place_at target) then MethodNotAllowed else NotFound)
     else Err NotImplemented
 
--- the answer to a method, a target and some fields
-unfoldable pub answer_from : List ℕ → List ℕ → List Header → Answer
-answer_from method target fields =
-    if list_all is_valid_field fields then answer_line method target else Err BadRequest
+-- the answer to a method, a target and some fields, of a server with these names
+unfoldable pub answer_from : List (List ℕ) → List ℕ → List ℕ → List Header → Answer
+answer_from names method target fields =
+    if not (list_all is_valid_field fields) then Err BadRequest
+    else if list_all (is_own_field names) fields then answer_line method target
+    else Err Misdirected
 
--- the answer to a head
-abbrev pub answer_to : RequestHead → Answer
-answer_to h = answer_from h.method h.target (map name_and_value h.fields)
+-- the answer to a head, of a server with these names
+abbrev pub answer_to : List (List ℕ) → RequestHead → Answer
+answer_to names h = answer_from names h.method h.target (map name_and_value h.fields)
 
 -- the status that refuses a head that can't be read
 abbrev pub refusal_of : ReadError → Status
@@ -84,12 +86,12 @@ refusal_of fault =
     else BadRequest
 
 -- the bytes begin with a head that http1 accepts, and this is its answer
-pub record IsAnswered (bytes : List ℕ) (given : Answer) : Type 0 where
+pub record IsAnswered (names : List (List ℕ)) (bytes : List ℕ) (given : Answer) : Type 0 where
   pub head : RequestHead
   pub framing : Framing
   pub rest : List ℕ
   pub accepted : AcceptsRequest limits bytes head framing rest
-  pub answer : given ≡ answer_to head
+  pub answer : given ≡ answer_to names head
 
 -- the bytes begin with no head that http1 accepts, whatever follows; it says so for this reason, which has this status
 pub record IsNoHead (bytes : List ℕ) (given : Status) : Type 0 where
@@ -98,12 +100,16 @@ pub record IsNoHead (bytes : List ℕ) (given : Status) : Type 0 where
   pub reason : RequestError MAX_HEAD bytes MAX_FIELDS fault
   pub status : given ≡ refusal_of fault
 
--- What is heard from some bytes. More: no head is there, and one still may be.
-abbrev pub Hears : List ℕ → Heard → Type 0
-Hears bytes More = HasNoRequest bytes × (length bytes < MAX_HEAD) × MayBecomeRequest bytes
-Hears bytes (Asked request) = IsAnswered bytes (Ok (wish_of request))
-Hears bytes (Refused status) = IsAnswered bytes (Err status) ⊎ IsNoHead bytes status
+-- no head is there, and one still may be
+abbrev pub MayBecomeHead : List ℕ → Type 0
+MayBecomeHead bytes = HasNoRequest bytes × (length bytes < MAX_HEAD) × MayBecomeRequest bytes
+
+-- what a server with these names hears from some bytes
+abbrev pub Hears : List (List ℕ) → List ℕ → Heard → Type 0
+Hears names bytes More = MayBecomeHead bytes
+Hears names bytes (Asked request) = IsAnswered names bytes (Ok (wish_of request))
+Hears names bytes (Refused status) = IsAnswered names bytes (Err status) ⊎ IsNoHead bytes status
 
 -- the bytes so far are none, or there is no head yet
 abbrev pub NeedMore : List ℕ → Type 0
-NeedMore bytes = (bytes ≡ []) ⊎ Hears bytes More
+NeedMore bytes = (bytes ≡ []) ⊎ MayBecomeHead bytes

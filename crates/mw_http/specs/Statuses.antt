@@ -2,7 +2,7 @@
 -- Used by: specs/Hearing, specs/Heads, the contracts of status.rt.
 use Rattle.std.specs.Prelude.{ℕ, List, codes}
 use Rattle.mw_http.specs.declared.status.Status.{Status}
-use Rattle.mw_http.specs.declared.status.Status.TheVariants.{Ok, BadRequest, NotFound, MethodNotAllowed, RequestTimeout, UriTooLong, FieldsTooLarge, InternalError, NotImplemented, Unavailable}
+use Rattle.mw_http.specs.declared.status.Status.TheVariants.{Ok, BadRequest, NotFound, MethodNotAllowed, RequestTimeout, UriTooLong, Misdirected, FieldsTooLarge, InternalError, NotImplemented, Unavailable}
 
 -- a status as a number
 unfoldable pub code : Status → ℕ
@@ -12,6 +12,7 @@ code NotFound = 404
 code MethodNotAllowed = 405
 code RequestTimeout = 408
 code UriTooLong = 414
+code Misdirected = 421
 code FieldsTooLarge = 431
 code InternalError = 500
 code NotImplemented = 501
@@ -25,6 +26,7 @@ reason NotFound = codes "Not Found"
 reason MethodNotAllowed = codes "Method Not Allowed"
 reason RequestTimeout = codes "Request Timeout"
 reason UriTooLong = codes "URI Too Long"
+reason Misdirected = codes "Misdirected Request"
 reason FieldsTooLarge = codes "Request Header Fields Too Large"
 reason InternalError = codes "Internal Server Error"
 reason NotImplemented = codes "Not Implemented"

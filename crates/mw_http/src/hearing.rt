@@ -6,8 +6,9 @@ ghost use Rattle.http1.specs.declared.framing.Framing.{Framing};
 ghost use Rattle.http1.specs.Message.{AcceptsRequest};
 ghost use Rattle.mw_http.specs.Hearing.{Hears, limits};
 ghost use Rattle.mw_http.specs.Hearing as spec;
+ghost use Rattle.std.specs.Prelude.{string_bytes};
 
-use crate::hosts::have_valid_hosts;
+use crate::hosts::{have_own_hosts, have_valid_hosts};
 use crate::status::Status;
 use crate::targets::{Route, is_target, route_at};
 use http1::{Event, Limits, ReadError, Server};
@@ -46,7 +47,8 @@ const LIMITS: Limits = Limits {
     max_trailers_len: 2,
 };
 
-/// Hears what a client has sent so far. What comes after a head isn't looked at.
+/// Hears what a client has sent so far. What comes after a head isn't looked at. Clients may call the server by one of these
+/// names, in any case, by an address, by `localhost`, or by no name.
 ///
 /// The status of a refusal is
 ///
@@ -55,20 +57,21 @@ const LIMITS: Limits = Limits {
 /// | 400 | it is no head, its field `Host` or what it says of its content is wrong, or its target is no path |
 /// | 404 | nothing is at the target |
 /// | 405 | something is there, and the method is another one than `GET` and `HEAD` |
+/// | 421 | its field `Host` has another name |
 /// | 414 | its request line has not ended after [`MAX_HEAD`] bytes |
 /// | 431 | its head has not ended then, or has more than [`MAX_FIELDS`] fields |
 /// | 501 | the method is unknown |
-pub fn hear(bytes: &[u8]) -> Heard
-    ensures heard { Hears bytes.now result }
+pub fn hear(bytes: &[u8], names: &[String]) -> Heard
+    ensures heard { Hears (map string_bytes names.now) bytes.now result }
     // A head that http1 accepts is answered by what it says.
     ensures whole { (h : RequestHead) (framing : Framing) (rest : List ℕ) → AcceptsRequest limits bytes.now h framing rest
-        → length h.fields ≤ MAX_FIELDS → spec.told result ≡ Some (spec.answer_to h) }
+        → length h.fields ≤ MAX_FIELDS → spec.told result ≡ Some (spec.answer_to (map string_bytes names.now) h) }
 {
     let mut fields = [EMPTY_HEADER_SPAN; MAX_FIELDS];
     let mut server = Server::new(LIMITS);
     match server.read(bytes, &mut fields) {
         Ok(read) => match read.event {
-            Event::Head(head) => answer(bytes, &head, &fields[..head.headers]),
+            Event::Head(head) => answer(bytes, &head, &fields[..head.headers], names),
             _ => Heard::More,
         },
         Err(fault) => Heard::Refused(refusal_of(fault)),
@@ -88,15 +91,18 @@ fn refusal_of(fault: ReadError) -> Status
 
 /// Answers a head that was read.
 #[tactic(auto, unfolding(crate::specs::Hearing::answer_from))]
-fn answer(bytes: &[u8], head: &RequestSpans, fields: &[HeaderSpan]) -> Heard
+fn answer(bytes: &[u8], head: &RequestSpans, fields: &[HeaderSpan], names: &[String]) -> Heard
     requires method { IsWithin (length bytes.now) head.now.method }
     requires target { IsWithin (length bytes.now) head.now.path }
     requires fields { All (IsHeaderWithin (length bytes.now)) fields.now }
-    ensures { spec.told result ≡ Some (spec.answer_from (span_bytes bytes.now head.now.method) (span_bytes bytes.now head.now.path)
+    ensures { spec.told result ≡ Some (spec.answer_from (map string_bytes names.now) (span_bytes bytes.now head.now.method) (span_bytes bytes.now head.now.path)
         (map (header_bytes bytes.now) fields.now)) }
 {
     if !have_valid_hosts(bytes, fields) {
         return Heard::Refused(Status::BadRequest);
+    }
+    if !have_own_hosts(bytes, fields, names) {
+        return Heard::Refused(Status::Misdirected);
     }
     answer_line(head.method.of(bytes), head.path.of(bytes))
 }

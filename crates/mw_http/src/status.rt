@@ -17,6 +17,8 @@ pub enum Status {
     RequestTimeout,
     /// The request line is too long.
     UriTooLong,
+    /// The request calls the server by a name that isn't its own.
+    Misdirected,
     /// The head is too long, or has too many fields.
     FieldsTooLarge,
     /// The answer could not be made.
@@ -44,6 +46,7 @@ impl Status {
             Status::MethodNotAllowed => 405,
             Status::RequestTimeout => 408,
             Status::UriTooLong => 414,
+            Status::Misdirected => 421,
             Status::FieldsTooLarge => 431,
             Status::InternalError => 500,
             Status::NotImplemented => 501,
@@ -64,6 +67,7 @@ impl Status {
             Status::MethodNotAllowed => b"Method Not Allowed",
             Status::RequestTimeout => b"Request Timeout",
             Status::UriTooLong => b"URI Too Long",
+            Status::Misdirected => b"Misdirected Request",
             Status::FieldsTooLarge => b"Request Header Fields Too Large",
             Status::InternalError => b"Internal Server Error",
             Status::NotImplemented => b"Not Implemented",

@@ -18,7 +18,7 @@ const ANSWER: &[u8] =
     b"HTTP/1.1 200 OK\r\nDate: then\r\nContent-Type: text/plain; charset=utf-8\r\nContent-Length: 3\r\nConnection: close\r\n\r\nok\n";
 
 /// A request.
-const REQUEST: &[u8] = b"GET /healthz HTTP/1.1\r\nHost: a\r\n\r\n";
+const REQUEST: &[u8] = b"GET /healthz HTTP/1.1\r\nHost: localhost\r\n\r\n";
 
 /// The first bytes of a request.
 const BEGINNING: &[u8] = b"GET /healthz HTTP/1.";
@@ -49,7 +49,7 @@ fn run<R: Wait>(
     writer: &mut Page,
 ) -> Exchanged {
     let mut stream = RecordedStream::new(Duplex { reader, writer });
-    exchange(rt, &mut stream, pages)
+    exchange(rt, &mut stream, pages, &[])
 }
 
 /// Tells whether a client that says it in pieces of so many bytes is told just that, and the pages are asked for what it
@@ -70,7 +70,7 @@ fn is_told<R: Wait>(rt: &R, pages: &mut CountedPages, row: &Row, piece: usize) -
         && pages.dates == dates.saturating_add(date)
 }
 
-static ROWS: [Row; 17] = [
+static ROWS: [Row; 18] = [
     Row {
         says: REQUEST,
         fault: None,
@@ -84,37 +84,43 @@ static ROWS: [Row; 17] = [
         pages: 1,
     },
     Row {
-        says: b"GET /metrics?a=b HTTP/1.1\r\nHost: a\r\n\r\n",
+        says: b"GET /metrics?a=b HTTP/1.1\r\nHost: localhost\r\n\r\n",
         fault: None,
         told: ANSWER,
         pages: 1,
     },
     Row {
-        says: b"HEAD / HTTP/1.1\r\nHost: a\r\n\r\n",
+        says: b"HEAD / HTTP/1.1\r\nHost: localhost\r\n\r\n",
         fault: None,
         told: b"HTTP/1.1 200 OK\r\nDate: then\r\nContent-Type: text/plain; charset=utf-8\r\nContent-Length: 3\r\nConnection: close\r\n\r\n",
         pages: 1,
     },
     Row {
-        says: b"GET /tenants/a/file HTTP/1.1\r\nHost: a\r\n\r\n",
+        says: b"GET /tenants/a/file HTTP/1.1\r\nHost: localhost\r\n\r\n",
         fault: None,
         told: b"HTTP/1.1 404 Not Found\r\nDate: then\r\nContent-Type: text/plain; charset=utf-8\r\nContent-Length: 3\r\nConnection: close\r\n\r\nok\n",
         pages: 1,
     },
     Row {
-        says: b"POST / HTTP/1.1\r\nHost: a\r\n\r\n",
+        says: b"POST / HTTP/1.1\r\nHost: localhost\r\n\r\n",
         fault: None,
         told: b"HTTP/1.1 405 Method Not Allowed\r\nDate: then\r\nAllow: GET, HEAD\r\nContent-Length: 0\r\nConnection: close\r\n\r\n",
         pages: 0,
     },
     Row {
-        says: b"BREW / HTTP/1.1\r\nHost: a\r\n\r\n",
+        says: b"BREW / HTTP/1.1\r\nHost: localhost\r\n\r\n",
         fault: None,
         told: b"HTTP/1.1 501 Not Implemented\r\nDate: then\r\nContent-Length: 0\r\nConnection: close\r\n\r\n",
         pages: 0,
     },
     Row {
-        says: b"GET /nothing HTTP/1.1\r\nHost: a\r\n\r\n",
+        says: b"GET /metrics HTTP/1.1\r\nHost: a\r\n\r\n",
+        fault: None,
+        told: b"HTTP/1.1 421 Misdirected Request\r\nDate: then\r\nContent-Length: 0\r\nConnection: close\r\n\r\n",
+        pages: 0,
+    },
+    Row {
+        says: b"GET /nothing HTTP/1.1\r\nHost: localhost\r\n\r\n",
         fault: None,
         told: b"HTTP/1.1 404 Not Found\r\nDate: then\r\nContent-Length: 0\r\nConnection: close\r\n\r\n",
         pages: 0,
@@ -138,7 +144,7 @@ static ROWS: [Row; 17] = [
         pages: 0,
     },
     Row {
-        says: b"GET / HTTP/1.1\r\nHost: a\r\n",
+        says: b"GET / HTTP/1.1\r\nHost: localhost\r\n",
         fault: None,
         told: b"",
         pages: 0,
@@ -198,7 +204,7 @@ const LONG: usize = 9000;
 static LONG_HEADS: [(&str, &str); 2] = [
     ("", "HTTP/1.1 414 URI Too Long\r\n"),
     (
-        "GET / HTTP/1.1\r\nHost: a\r\nX: ",
+        "GET / HTTP/1.1\r\nHost: localhost\r\nX: ",
         "HTTP/1.1 431 Request Header Fields Too Large\r\n",
     ),
 ];

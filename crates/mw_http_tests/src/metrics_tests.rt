@@ -11,7 +11,7 @@ use mw_words::Name;
 use std::alloc::{AllocError, Global};
 
 /// Lines that a scraper reads after `record_all`.
-static LINES: [&str; 22] = [
+static LINES: [&str; 23] = [
     "# HELP mondlexi_build_info The version of the server. The value is always 1.",
     "# TYPE mondlexi_build_info gauge",
     "mondlexi_build_info{version=\"1.\\\"2\\\\\"} 1",
@@ -25,6 +25,7 @@ static LINES: [&str; 22] = [
     "mondlexi_sent_bytes_total 9",
     "mondlexi_words{tenant=\"t\"} 1000",
     "mondlexi_up{tenant=\"t\"} 1",
+    "mondlexi_file_replaced{tenant=\"t\"} 1",
     "mondlexi_requests_total{tenant=\"t\",kind=\"GET\",reply=\"VAL\"} 2",
     "mondlexi_requests_total{tenant=\"t\",kind=\"CAS\",reply=\"BUSY\"} 1",
     "mondlexi_device_failures_total{tenant=\"t\",call=\"sync\"} 1",
@@ -55,6 +56,8 @@ fn record_all(tenant: &TenantCounters, server: &ServerCounters) {
     tenant.record_request(RequestKind::Cas, ReplyKind::Busy, 6_000_000_000);
     tenant.record_call(DeviceCall::Sync, 300_000, true);
     tenant.record_call(DeviceCall::Write, 300_000, false);
+    tenant.record_replaced(true);
+    tenant.record_replaced(false);
     server.record_accepted();
     server.record_accepted();
     server.record_served();
@@ -86,6 +89,7 @@ fn text_of_all(alloc: Global) -> Result<Vec<u8>, AllocError> {
     record_all(&tenant, &server);
     let tenants = [TenantMetrics {
         figures: figures(),
+        place: tenant.place(),
         counts: tenant.counts(),
     }];
     let figures = server.figures(61_000_000_005, 30);

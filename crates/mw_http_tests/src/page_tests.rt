@@ -4,7 +4,7 @@
 use crate::checks::{MEMORY, holds};
 use crate::http_peers::{HandClock, OneFile};
 use mw_http::{ContentType, Route, Status};
-use mw_metrics::Meters;
+use mw_metrics::{FilePlace, Meters, TenantCounters, TenantMetrics};
 use mw_report::TenantFigures;
 use mw_server_pages::{
     Capacity, Curve, LimitKind, NearLimit, NoCopy, Pages, Point, Recent, ServerPages, Version,
@@ -204,23 +204,63 @@ fn each_place_shows_its_page(rt: HostRuntime) {
     }
 }
 
-/// The figures of a tenant of this name, whose other figures are 0.
-fn tenant(name: &[u8], up: bool) -> TenantFigures {
-    TenantFigures {
-        name: Name::try_from(name).unwrap_or_default(),
-        up,
-        ..TenantFigures::default()
+/// The figures of a tenant of this name, whose file is there, and whose other figures are 0.
+fn tenant(name: &[u8], up: bool, place: FilePlace) -> TenantMetrics {
+    TenantMetrics {
+        figures: TenantFigures {
+            name: Name::try_from(name).unwrap_or_default(),
+            up,
+            ..TenantFigures::default()
+        },
+        place,
+        counts: TenantCounters::new().counts(),
     }
 }
 
+/// Six tenants, each up or not, with its file in its place, replaced or given up.
+fn tenants() -> [TenantMetrics; 6] {
+    [
+        tenant(b"a", false, FilePlace::InPlace),
+        tenant(b"b", true, FilePlace::InPlace),
+        tenant(b"c", false, FilePlace::Replaced),
+        tenant(b"d", true, FilePlace::Replaced),
+        tenant(b"e", false, FilePlace::GivenUp),
+        tenant(b"f", true, FilePlace::GivenUp),
+    ]
+}
+
 #[test]
-fn health_names_those_that_are_down(rt: HostRuntime) {
-    let one = [tenant(b"a", true)];
-    let three = [tenant(b"a", false), tenant(b"b", true), tenant(b"c", false)];
+fn health_names_those_that_are_not_well(rt: HostRuntime) {
+    let one = [tenant(b"a", true, FilePlace::InPlace)];
     let is_ok = is_text(&health_text(&[]), "ok\n") && is_text(&health_text(&one), "ok\n");
-    let is_told = is_text(&health_text(&three), "down a\ndown c\n");
-    holds(&rt, "no tenant, and one that is up", 0, is_ok);
-    holds(&rt, "three tenants", 3, is_told);
+    let wanted = "down a\ndown c\nreplaced d\ndown e\ndown f\n";
+    holds(&rt, "no tenant, and one that is well", 0, is_ok);
+    holds(
+        &rt,
+        "six tenants",
+        6,
+        is_text(&health_text(&tenants()), wanted),
+    );
+}
+
+/// Parts of the page of these tenants, and of one whose file was replaced.
+static UNWELL: [&str; 5] = [
+    "<p><strong>Down: a c e f.</strong></p>\n<p><strong>Replaced: d.</strong></p>\n<p>No limit",
+    "<tr class=\"up\"><td>b</td><td>up</td>",
+    "<tr class=\"down\"><td>c</td><td>down</td>",
+    "<tr class=\"down\"><td>d</td><td>replaced</td>",
+    "<tr class=\"down\"><td>f</td><td>down</td>",
+];
+
+static REPLACED: [&str; 1] = ["s.</p>\n<p><strong>Replaced: d.</strong></p>\n<p>No limit"];
+
+#[test]
+fn the_page_names_those_that_are_not_well(rt: HostRuntime) {
+    let page = status_page(rt.alloc(), b"1", 0, &tenants(), &[], &[], 7).expect(&rt, MEMORY);
+    are_in(&rt, &UNWELL, &page);
+    let one = [tenant(b"d", true, FilePlace::Replaced)];
+    let page = status_page(rt.alloc(), b"1", 0, &one, &[], &[], 7).expect(&rt, MEMORY);
+    are_in(&rt, &REPLACED, &page);
 }
 
 /// Tells whether these bytes are this text.
@@ -245,7 +285,7 @@ fn are_in<R: Abort>(rt: &R, parts: &[&str], page: &[u8]) {
 
 #[test]
 fn names_are_escaped(rt: HostRuntime) {
-    let tenants = [tenant(b"<a&\">", false)];
+    let tenants = [tenant(b"<a&\">", false, FilePlace::InPlace)];
     let page = status_page(rt.alloc(), b"<", 90061, &tenants, &[], &[], 7).expect(&rt, MEMORY);
     are_in(&rt, &ESCAPED, &page);
 }

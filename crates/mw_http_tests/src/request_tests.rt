@@ -6,7 +6,7 @@ use mw_http::{Content, ContentType, Heard, Request, Route, Status, answer_head, 
 use std::process::Abort;
 
 /// What a client sends, and what is heard.
-static CASES: [(&str, &str); 26] = [
+static CASES: [(&str, &str); 38] = [
     ("", "more"),
     ("GET / HTTP/1.1\r\nHost: a\r\n", "more"),
     ("GET / HTTP/1.1\r\nHost: a\r\n\r\n", "page"),
@@ -57,11 +57,43 @@ static CASES: [(&str, &str); 26] = [
     ("GET  / HTTP/1.1\r\nHost: a\r\n\r\n", "Bad Request"),
     ("GET / HTTP/2.0\r\n", "Bad Request"),
     ("GET /\r\n", "Bad Request"),
+    ("GET / HTTP/1.1\r\nHost: A:80\r\n\r\n", "page"),
+    ("GET / HTTP/1.1\r\nHost: LocalHost\r\n\r\n", "page"),
+    ("GET / HTTP/1.1\r\nHost: localhost:7002\r\n\r\n", "page"),
+    ("GET / HTTP/1.1\r\nHost: 127.0.0.1:7002\r\n\r\n", "page"),
+    ("GET / HTTP/1.1\r\nHost: 10.0.0.7\r\n\r\n", "page"),
+    ("GET / HTTP/1.1\r\nHost: [fe80::1]\r\n\r\n", "page"),
+    ("GET / HTTP/1.0\r\nHost: b\r\n\r\n", "Misdirected Request"),
+    (
+        "GET /tenants/t/file HTTP/1.1\r\nHost: ab:80\r\n\r\n",
+        "Misdirected Request",
+    ),
+    (
+        "POST / HTTP/1.1\r\nHost: a.example\r\n\r\n",
+        "Misdirected Request",
+    ),
+    (
+        "GET /x HTTP/1.1\r\nHost: localhost.\r\n\r\n",
+        "Misdirected Request",
+    ),
+    (
+        "GET / HTTP/1.1\r\nHost: 127.0.0.1.example\r\n\r\n",
+        "Misdirected Request",
+    ),
+    ("GET / HTTP/1.1\r\nHost: b c\r\n\r\n", "Bad Request"),
 ];
 
-/// Tells whether just this is heard of what a client sends.
-fn is_heard(sent: &[u8], wanted: &str) -> bool {
-    match hear(sent) {
+/// Makes the only name by which the server is called.
+fn own_names<R: Abort + AllocGlobal>(rt: &R) -> Vec<String> {
+    let mut names = Vec::new(rt.alloc());
+    let name = String::from_str(rt.alloc(), "a").expect(rt, MEMORY);
+    names.push(name).expect(rt, MEMORY);
+    names
+}
+
+/// Tells whether just this is heard of what a client sends, if the server is called so.
+fn is_heard(names: &[String], sent: &[u8], wanted: &str) -> bool {
+    match hear(sent, names) {
         Heard::More => wanted == "more",
         Heard::Asked(request) => wanted == asked(&request),
         Heard::Refused(status) => wanted.as_bytes() == status.reason(),
@@ -80,8 +112,9 @@ fn asked(request: &Request) -> &'static str {
 
 #[test]
 fn requests_are_heard(rt: HostRuntime) {
+    let names = own_names(&rt);
     for (sent, heard) in &CASES {
-        holds(&rt, sent, 0, is_heard(sent.as_bytes(), heard));
+        holds(&rt, sent, 0, is_heard(&names, sent.as_bytes(), heard));
     }
 }
 
@@ -104,9 +137,10 @@ fn sent_at_length<R: Abort + AllocGlobal>(rt: &R, beginning: &str, count: usize)
 
 #[test]
 fn long_heads_are_refused(rt: HostRuntime) {
+    let names = own_names(&rt);
     for (beginning, count, heard) in &LONG {
         let sent = sent_at_length(&rt, beginning, *count);
-        holds(&rt, heard, *count, is_heard(&sent, heard));
+        holds(&rt, heard, *count, is_heard(&names, &sent, heard));
     }
 }
 

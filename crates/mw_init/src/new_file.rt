@@ -41,7 +41,7 @@ enum InitFault {
     /// The file exists already, or a call of the system on it failed, which is told on a second line.
     #[error("mwinit: cannot make\nmwinit: the file: {0}")]
     File(io::Error),
-    /// A call of the system on the file's folder failed.
+    /// A call of the system on the file's folder failed. The file was removed.
     #[error("mwinit: cannot make\nmwinit: its folder: {0}")]
     Folder(io::Error),
     /// The output takes no more.
@@ -110,6 +110,8 @@ fn make<R: Files<File = File> + AllocGlobal, O: Write>(
         Err(fault) => return Err(InitFault::File(fault)),
     };
     if let Err(fault) = sync_folder(rt, file.path) {
+        // A crash may lose the file's name, so nobody may serve it.
+        let _ = rt.remove_file(file.path);
         return Err(InitFault::Folder(fault));
     }
     match writeln!(out, "made {}", size(file.words, file.places)) {

@@ -1,6 +1,6 @@
 -- Defines the text of all figures: the families of metrics in their order, and the samples of each.
 -- Used by: the contracts of exposition.rt. A change here changes what a scraper reads, and docs/OPERATING with it.
-use Rattle.std.specs.Prelude.{ℕ, ◌+◌, ◌-◌, ◌^◌, ◌++◌, List, [], ◌∷◌, min, sum, take, flat_map, codes, decimal, if◌then◌else◌}
+use Rattle.std.specs.Prelude.{ℕ, Bool, true, false, ◌+◌, ◌-◌, ◌^◌, ◌++◌, List, [], ◌∷◌, min, sum, take, flat_map, codes, decimal, if◌then◌else◌}
 use Rattle.mw_report.specs.declared.figures.TenantFigures.{TenantFigures}
 use Rattle.mw_metrics.specs.declared.histogram.HistogramFigures.{HistogramFigures}
 use Rattle.mw_metrics.specs.declared.histogram.TheConstants.{BOUNDS}
@@ -9,6 +9,8 @@ use Rattle.mw_metrics.specs.declared.figures.RequestFigures.{RequestFigures}
 use Rattle.mw_metrics.specs.declared.figures.CallFigures.{CallFigures}
 use Rattle.mw_metrics.specs.declared.figures.TenantCounts.{TenantCounts}
 use Rattle.mw_metrics.specs.declared.figures.TenantMetrics.{TenantMetrics}
+use Rattle.mw_metrics.specs.declared.figures.FilePlace.{FilePlace}
+use Rattle.mw_metrics.specs.declared.figures.FilePlace.TheVariants as place
 use Rattle.mw_metrics.specs.declared.figures.ClosedCounts.{ClosedCounts}
 use Rattle.mw_metrics.specs.declared.figures.ServerMetrics.{ServerMetrics}
 use Rattle.mw_metrics.specs.declared.kinds.RequestKind.{RequestKind}
@@ -21,7 +23,7 @@ use Rattle.mw_metrics.specs.declared.kinds.CloseReason.{CloseReason}
 use Rattle.mw_metrics.specs.declared.kinds.CloseReason.TheVariants.{Quit, PeerEnd, TooLong, ReadFault, WriteFault, Memory, Unserved}
 use Rattle.mw_metrics.specs.declared.kinds.TheConstants.{REQUEST_KINDS, REPLY_KINDS, DEVICE_CALLS, CLOSE_REASONS}
 use Rattle.mw_metrics.specs.declared.families.TenantGauge.{TenantGauge}
-use Rattle.mw_metrics.specs.declared.families.TenantGauge.TheVariants.{Words, Quota, RecordPlaces, ChangesUnderWay, Up}
+use Rattle.mw_metrics.specs.declared.families.TenantGauge.TheVariants.{Words, Quota, RecordPlaces, ChangesUnderWay, Up, FileReplaced}
 use Rattle.mw_metrics.specs.declared.families.ServerFigure.{ServerFigure}
 use Rattle.mw_metrics.specs.declared.families.ServerFigure.TheVariants.{PoolFree, Served, Waiting, Accepted, PassesInUse, PassWaits, Received, Sent}
 use Rattle.mw_metrics.specs.declared.families.Family.{Family}
@@ -89,13 +91,30 @@ closed_for c WriteFault = c.write_fault
 closed_for c Memory = c.memory
 closed_for c Unserved = c.unserved
 
+-- whether changes are made in a file
+abbrev pub takes_changes : FilePlace → Bool
+takes_changes place.InPlace = true
+takes_changes place.Replaced = true
+takes_changes place.GivenUp = false
+
+-- whether a file was replaced, cut or overwritten
+abbrev pub is_lost : FilePlace → Bool
+is_lost place.InPlace = false
+is_lost place.Replaced = true
+is_lost place.GivenUp = true
+
+-- whether a tenant is up: its file takes changes, and was not given up
+abbrev pub is_up : TenantMetrics → Bool
+is_up t = if t.figures.up then takes_changes t.place else false
+
 -- a figure of a tenant at the moment
-abbrev pub gauge_of : TenantFigures → TenantGauge → ℕ
-gauge_of t Words = t.words
-gauge_of t Quota = t.quota
-gauge_of t RecordPlaces = t.places
-gauge_of t ChangesUnderWay = t.used
-gauge_of t Up = if t.up then 1 else 0
+abbrev pub gauge_of : TenantMetrics → TenantGauge → ℕ
+gauge_of t Words = t.figures.words
+gauge_of t Quota = t.figures.quota
+gauge_of t RecordPlaces = t.figures.places
+gauge_of t ChangesUnderWay = t.figures.used
+gauge_of t Up = if is_up t then 1 else 0
+gauge_of t FileReplaced = if is_lost t.place then 1 else 0
 
 -- how many requests had this reply
 abbrev pub replies_of : ReplyCounts → ReplyKind → ℕ
@@ -145,7 +164,7 @@ closed_family c = header Closed ++ flat_map (closed_line c) CLOSE_REASONS
 
 -- one figure of a tenant at the moment
 abbrev pub gauge_line : TenantGauge → TenantMetrics → List ℕ
-gauge_line g t = number (Tenant g) (tenant_label t ∷ []) (gauge_of t.figures g)
+gauge_line g t = number (Tenant g) (tenant_label t ∷ []) (gauge_of t g)
 
 -- one figure of each tenant at the moment
 unfoldable pub gauge_family : List TenantMetrics → TenantGauge → List ℕ

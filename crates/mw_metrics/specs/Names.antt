@@ -11,7 +11,7 @@ use Rattle.mw_metrics.specs.declared.kinds.DeviceCall.TheVariants.{Read, Write, 
 use Rattle.mw_metrics.specs.declared.kinds.CloseReason.{CloseReason}
 use Rattle.mw_metrics.specs.declared.kinds.CloseReason.TheVariants.{Quit, PeerEnd, TooLong, ReadFault, WriteFault, Memory, Unserved}
 use Rattle.mw_metrics.specs.declared.families.TenantGauge.{TenantGauge}
-use Rattle.mw_metrics.specs.declared.families.TenantGauge.TheVariants.{Words, Quota, RecordPlaces, ChangesUnderWay, Up}
+use Rattle.mw_metrics.specs.declared.families.TenantGauge.TheVariants.{Words, Quota, RecordPlaces, ChangesUnderWay, Up, FileReplaced}
 use Rattle.mw_metrics.specs.declared.families.ServerFigure.{ServerFigure}
 use Rattle.mw_metrics.specs.declared.families.ServerFigure.TheVariants.{PoolFree, Served, Waiting, Accepted, PassesInUse, PassWaits, Received, Sent}
 use Rattle.mw_metrics.specs.declared.families.Family.{Family}
@@ -56,6 +56,7 @@ gauge_name Quota = codes "mondlexi_quota"
 gauge_name RecordPlaces = codes "mondlexi_record_places"
 gauge_name ChangesUnderWay = codes "mondlexi_changes_under_way"
 gauge_name Up = codes "mondlexi_up"
+gauge_name FileReplaced = codes "mondlexi_file_replaced"
 
 -- what a tenant's figure tells
 unfoldable pub gauge_help : TenantGauge → List ℕ
@@ -64,6 +65,7 @@ gauge_help Quota = codes "Changes that the tenant may have under way at a time."
 gauge_help RecordPlaces = codes "Record places of the tenant's file."
 gauge_help ChangesUnderWay = codes "Changes of the tenant under way."
 gauge_help Up = codes "1 if the tenant's file takes changes, 0 if it has failed."
+gauge_help FileReplaced = codes "1 if the tenant's file was replaced, cut or overwritten since the start."
 
 -- the metric of a figure of the server: a total ends in _total, and has its unit before that
 unfoldable pub figure_name : ServerFigure → List ℕ

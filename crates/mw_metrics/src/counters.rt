@@ -6,11 +6,17 @@
 ghost use Rattle.std.specs.Prelude.{◌≡◌};
 
 use crate::figures::{
-    CallFigures, ClosedCounts, ReplyCounts, RequestFigures, ServerMetrics, TenantCounts,
+    CallFigures, ClosedCounts, FilePlace, ReplyCounts, RequestFigures, ServerMetrics, TenantCounts,
 };
 use crate::histogram::{BUCKETS, HistogramFigures, bucket_of};
 use crate::kinds::{CloseReason, DeviceCall, ReplyKind, RequestKind};
 use std::sync::atomic::{AtomicU64, Ordering};
+
+/// What is kept of a file that was replaced, and is served.
+const REPLACED: u64 = 1;
+
+/// What is kept of a file that was replaced, and given up.
+const GIVEN_UP: u64 = 2;
 
 /// A number that threads add to. It stops at no bound: after `u64::MAX` comes 0.
 #[derive(Default, Drop)]
@@ -25,6 +31,10 @@ impl Counter {
 
     fn subtract(&self, amount: u64) {
         self.word.fetch_sub(amount, Ordering::Relaxed);
+    }
+
+    fn set(&self, value: u64) {
+        self.word.store(value, Ordering::Relaxed);
     }
 
     fn get(&self) -> u64 {
@@ -112,6 +122,8 @@ pub struct TenantCounters {
     read: CallCounters,
     write: CallCounters,
     sync: CallCounters,
+    /// 0 while the tenant's file is in its place, else [`REPLACED`] or [`GIVEN_UP`].
+    place: Counter,
 }
 
 impl TenantCounters {
@@ -141,6 +153,21 @@ impl TenantCounters {
         counters.time.record(nanos);
         if failed {
             counters.failures.add(1);
+        }
+    }
+
+    /// Keeps that the tenant's file was replaced, cut or overwritten, and whether it was given up for that.
+    pub fn record_replaced(&self, is_given_up: bool) {
+        self.place
+            .set(if is_given_up { GIVEN_UP } else { REPLACED });
+    }
+
+    /// Gives whether the tenant's file is the one that was opened, as far as was recorded.
+    pub fn place(&self) -> FilePlace {
+        match self.place.get() {
+            REPLACED => FilePlace::Replaced,
+            GIVEN_UP => FilePlace::GivenUp,
+            _ => FilePlace::InPlace,
         }
     }
 

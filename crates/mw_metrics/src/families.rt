@@ -10,6 +10,7 @@ pub(crate) enum TenantGauge {
     RecordPlaces,
     ChangesUnderWay,
     Up,
+    FileReplaced,
 }
 
 /// A figure of the whole server, a number with no label.
@@ -46,12 +47,13 @@ pub(crate) const MAX_FAMILY_NAME: usize = 40;
 pub(crate) const MAX_HELP: usize = 120;
 
 /// All figures of one tenant at the moment.
-pub(crate) const TENANT_GAUGES: [TenantGauge; 5] = [
+pub(crate) const TENANT_GAUGES: [TenantGauge; 6] = [
     TenantGauge::Words,
     TenantGauge::Quota,
     TenantGauge::RecordPlaces,
     TenantGauge::ChangesUnderWay,
     TenantGauge::Up,
+    TenantGauge::FileReplaced,
 ];
 
 /// All figures of the whole server without a label.
@@ -110,6 +112,11 @@ impl TenantGauge {
             TenantGauge::Up => Description {
                 name: b"mondlexi_up",
                 help: b"1 if the tenant's file takes changes, 0 if it has failed.",
+                type_text: b"gauge",
+            },
+            TenantGauge::FileReplaced => Description {
+                name: b"mondlexi_file_replaced",
+                help: b"1 if the tenant's file was replaced, cut or overwritten since the start.",
                 type_text: b"gauge",
             },
         }

@@ -1,4 +1,6 @@
 //! The figures of a server: those that are counted, and those of the moment.
+ghost use Rattle.std.specs.Prelude.{◌≡◌};
+ghost use Rattle.mw_metrics.specs.Figures as spec;
 
 use crate::histogram::HistogramFigures;
 use mw_report::TenantFigures;
@@ -44,13 +46,57 @@ pub struct TenantCounts {
     pub sync: CallFigures,
 }
 
+/// Whether a tenant's file is the one that was opened, as far as its server has seen.
+#[derive(Clone, Copy, Debug, PartialEq, Eq)]
+pub enum FilePlace {
+    /// It is at its path, and as it must be.
+    InPlace,
+    /// It was replaced, cut or overwritten. Changes are made in the file that was opened.
+    Replaced,
+    /// It was replaced, cut or overwritten, and was given up. No change is made any more.
+    GivenUp,
+}
+
+impl FilePlace {
+    /// Tells whether changes are made in the file.
+    pub fn takes_changes(self) -> bool
+        ensures { result ≡ spec.takes_changes self }
+    {
+        match self {
+            FilePlace::InPlace | FilePlace::Replaced => true,
+            FilePlace::GivenUp => false,
+        }
+    }
+
+    /// Tells whether the file was replaced, cut or overwritten.
+    pub fn is_lost(self) -> bool
+        ensures { result ≡ spec.is_lost self }
+    {
+        match self {
+            FilePlace::InPlace => false,
+            FilePlace::Replaced | FilePlace::GivenUp => true,
+        }
+    }
+}
+
 /// The figures of one tenant.
 #[derive(Drop)]
 pub struct TenantMetrics {
     /// Those of the moment.
     pub figures: TenantFigures,
+    /// Whether its file is the one that was opened.
+    pub place: FilePlace,
     /// Those that were counted since the start.
     pub counts: TenantCounts,
+}
+
+impl TenantMetrics {
+    /// Tells whether the tenant is up: its file takes changes. If not, each change is answered FAULT.
+    pub fn is_up(&self) -> bool
+        ensures { result ≡ spec.is_up self.now }
+    {
+        self.figures.up && self.place.takes_changes()
+    }
 }
 
 /// How many connections were closed, by the reason.

@@ -32,7 +32,7 @@ pub use counted::{kind_of, reply_kind};
 pub use counters::{ServerCounters, TenantCounters};
 pub use exposition::metrics_text;
 pub use figures::{
-    CallFigures, ClosedCounts, ReplyCounts, RequestFigures, ServerMetrics, TenantCounts,
+    CallFigures, ClosedCounts, FilePlace, ReplyCounts, RequestFigures, ServerMetrics, TenantCounts,
     TenantMetrics,
 };
 pub use histogram::{BOUNDED, BOUNDS, BUCKETS, HistogramFigures, bucket_of};

@@ -11,7 +11,7 @@ ghost use Rattle.mw_metrics.specs.Counted.{IsTextOf, figures_of};
 use crate::counted::{kind_of, reply_kind};
 use crate::counters::{ServerCounters, TenantCounters};
 use crate::exposition::metrics_text;
-use crate::figures::{TenantCounts, TenantMetrics};
+use crate::figures::{FilePlace, TenantCounts, TenantMetrics};
 use crate::samples::MAX_LABEL_VALUE;
 use crate::stopwatch::Stopwatch;
 use crate::text::MAX_METRICS;
@@ -85,12 +85,12 @@ impl Meters {
         metrics_text(alloc, version, &server, &tenants)
     }
 
-    /// Puts what was counted for each tenant beside its figures.
+    /// Puts what was counted for each tenant, and whether its file is in its place, beside its figures.
     ///
     /// # Errors
     ///
     /// Memory is out.
-    fn counted(
+    pub fn counted(
         &self,
         alloc: Global,
         figures: ArrayVec<TenantFigures, MAX_TENANTS>,
@@ -99,12 +99,26 @@ impl Meters {
     {
         let mut all = Vec::with_capacity(alloc, figures.len())?;
         for figures in figures {
+            let place = self.place_of(all.len());
             let counts = self.counts_of(all.len());
-            if all.push(TenantMetrics { figures, counts }).is_err() {
+            let one = TenantMetrics {
+                figures,
+                place,
+                counts,
+            };
+            if all.push(one).is_err() {
                 return Err(AllocError);
             }
         }
         Ok(all)
+    }
+
+    /// Gives whether the file of the tenant of this number is in its place: it is, if a server can't have the tenant.
+    pub fn place_of(&self, tenant: usize) -> FilePlace {
+        match self.tenants.get(tenant) {
+            Some(counters) => counters.place(),
+            None => FilePlace::InPlace,
+        }
     }
 
     /// Gives what was counted for the tenant of this number: nothing, if a server can't have it.

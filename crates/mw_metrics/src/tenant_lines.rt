@@ -11,11 +11,10 @@ use crate::kinds::{DEVICE_CALLS, DeviceCall, REPLY_KINDS, REQUEST_KINDS, ReplyKi
 use crate::samples::{MAX_SAMPLE, one_label, one_more_label, put_number};
 use crate::server_lines::{MAX_HEADER, put_header};
 use crate::text::{MAX_METRICS, Text};
-use mw_report::TenantFigures;
 use mw_words::MAX_TENANTS;
 
-/// The most bytes of the families that have a sample of each tenant: 9 headers and 119 samples of each tenant.
-pub(crate) const MAX_TENANT_FAMILIES: usize = 405_700;
+/// The most bytes of the families that have a sample of each tenant: 10 headers and 120 samples of each tenant.
+pub(crate) const MAX_TENANT_FAMILIES: usize = 409_320;
 
 /// The most bytes of a tenant's requests by their kind and reply.
 const MAX_REQUESTS: usize = 21 * MAX_SAMPLE;
@@ -42,9 +41,9 @@ pub(crate) fn put_tenants(text: &mut Text, tenants: &[TenantMetrics])
 #[tactic(auto, unfolding(crate::specs::Figures::gauge_families, crate::specs::Figures::gauge_family, crate::specs::Figures::tenant_family))]
 fn put_gauges(text: &mut Text, tenants: &[TenantMetrics])
     requires few { length tenants.now ≤ MAX_TENANTS }
-    requires room { length text.old.bytes.items + 5 * (MAX_HEADER + MAX_TENANTS * MAX_SAMPLE) ≤ MAX_METRICS }
+    requires room { length text.old.bytes.items + 6 * (MAX_HEADER + MAX_TENANTS * MAX_SAMPLE) ≤ MAX_METRICS }
     ensures families { text.new.bytes.items ≡ text.old.bytes.items ++ spec.gauge_families tenants.now }
-    ensures room { length text.new.bytes.items ≤ length text.old.bytes.items + 5 * (MAX_HEADER + MAX_TENANTS * MAX_SAMPLE) }
+    ensures room { length text.new.bytes.items ≤ length text.old.bytes.items + 6 * (MAX_HEADER + MAX_TENANTS * MAX_SAMPLE) }
 {
     for gauge in TENANT_GAUGES {
         put_family(text, Family::Tenant(gauge), tenants);
@@ -74,7 +73,7 @@ fn put_tenant(text: &mut Text, family: Family, tenant: &TenantMetrics)
     match family {
         Family::Tenant(gauge) => {
             let labels = one_label(b"tenant", &tenant.figures.name);
-            put_number(text, family, &labels, gauge_of(&tenant.figures, gauge));
+            put_number(text, family, &labels, gauge_of(tenant, gauge));
         }
         Family::Requests => put_requests(text, tenant),
         Family::DeviceFailures => put_failures(text, tenant),
@@ -84,15 +83,17 @@ fn put_tenant(text: &mut Text, family: Family, tenant: &TenantMetrics)
     }
 }
 
-fn gauge_of(tenant: &TenantFigures, gauge: TenantGauge) -> u64
+fn gauge_of(tenant: &TenantMetrics, gauge: TenantGauge) -> u64
     ensures { result ≡ spec.gauge_of tenant.now gauge }
 {
+    let figures = &tenant.figures;
     match gauge {
-        TenantGauge::Words => u64::from(tenant.words),
-        TenantGauge::Quota => u64::from(tenant.quota),
-        TenantGauge::RecordPlaces => u64::from(tenant.places),
-        TenantGauge::ChangesUnderWay => u64::from(tenant.used),
-        TenantGauge::Up => u64::from(tenant.up),
+        TenantGauge::Words => u64::from(figures.words),
+        TenantGauge::Quota => u64::from(figures.quota),
+        TenantGauge::RecordPlaces => u64::from(figures.places),
+        TenantGauge::ChangesUnderWay => u64::from(figures.used),
+        TenantGauge::Up => u64::from(tenant.is_up()),
+        TenantGauge::FileReplaced => u64::from(tenant.place.is_lost()),
     }
 }
 

@@ -1,18 +1,25 @@
-//! Which file of the system a tenant's file is, how long it must be, and whether it was given up.
+//! Which file of the system a tenant's file is, how long it must be and how it must begin, whether others have replaced, cut
+//! or overwritten it, and whether it was given up.
 //!
 //! Used by: `tracked_file`, which keeps it; `opening`; mw_programs, which looks whether the file was replaced. Many
-//! threads may share it. It may change with them.
-ghost use Rattle.std.specs.Prelude.{◌<◌};
+//! threads may share it; the calls on one file come one after the other. It may change with them.
+ghost use Rattle.std.specs.Prelude.{◌≡◌, ◌<◌, is_ok, not};
+ghost use Rattle.std.specs.Fs.{metadata_len};
 ghost use Rattle.mw_words.specs.declared.limits.TheConstants.{MAX_TENANTS};
 
+use mw_record::HEAD_SIZE;
 use mw_words::MAX_TENANTS;
 use std::fs::Metadata;
 use std::io;
 use std::os::unix::fs::MetadataExt;
 use std::sync::atomic::{AtomicBool, AtomicU64, Ordering};
 
-/// The number of the system's error for a file that was replaced: a stale file handle.
+/// The number of the system's error for a file that was replaced, cut or overwritten: a stale file handle.
 const REPLACED: i32 = 116;
+
+/// How many bytes at the front of a file are compared: the head of its first layout, and that of a second one right after
+/// it. A server writes there only when it opens a file.
+pub const FRONT: usize = 2 * HEAD_SIZE;
 
 /// Which file of the system a file is, and how long it is.
 #[derive(Clone, Copy, Debug, Drop, PartialEq, Eq)]
@@ -27,7 +34,9 @@ pub struct SeenFile {
 
 impl SeenFile {
     /// Gives what the system told of a file.
-    pub fn of(told: &Metadata) -> Self {
+    pub fn of(told: &Metadata) -> Self
+        ensures { result.size ≡ metadata_len told.now }
+    {
         SeenFile {
             device: told.dev(),
             inode: told.ino(),
@@ -36,13 +45,51 @@ impl SeenFile {
     }
 }
 
-/// Which file a tenant's file is, how long it must be, and whether it was given up.
+/// The first bytes of a file, as the server last read or wrote them: of each 0 if it did neither, else the byte and 1.
+#[derive(Drop)]
+struct Front([AtomicU64; FRONT]);
+
+impl Front {
+    fn new() -> Self {
+        Front([(); FRONT].map(|_| AtomicU64::new(0)))
+    }
+
+    /// Gives what is kept from this offset on.
+    fn from(&self, offset: u64) -> &[AtomicU64] {
+        let all = &self.0[..];
+        &all[offset.min(FRONT as u64) as usize..]
+    }
+
+    /// Keeps these bytes, as far as they are at the front.
+    fn keep(&self, offset: u64, bytes: &[u8]) {
+        for (kept, byte) in self.from(offset).iter().zip(bytes) {
+            kept.store(u64::from(*byte) + 1, Ordering::SeqCst);
+        }
+    }
+
+    /// Asks whether one of these bytes is at the front, and not the one that is kept.
+    fn differs(&self, offset: u64, bytes: &[u8]) -> bool {
+        for (kept, byte) in self.from(offset).iter().zip(bytes) {
+            let wanted = kept.load(Ordering::SeqCst);
+            if wanted != 0 && wanted != u64::from(*byte) + 1 {
+                return true;
+            }
+        }
+        false
+    }
+}
+
+/// Which file a tenant's file is, how long it must be and how it must begin, whether it is known that others have replaced,
+/// cut or overwritten it, and whether it was given up.
 #[derive(Drop)]
 pub struct FileState {
     device: AtomicU64,
     inode: AtomicU64,
-    /// The size that the file must have, in bytes: what the system told of it, or more if it was written to past that.
+    /// The size that the file must have, in bytes: the greatest that the system told of it, or more if it was written to
+    /// past that.
     size: AtomicU64,
+    front: Front,
+    was_replaced: AtomicBool,
     is_given_up: AtomicBool,
 }
 
@@ -53,6 +100,8 @@ impl FileState {
             device: AtomicU64::new(0),
             inode: AtomicU64::new(0),
             size: AtomicU64::new(0),
+            front: Front::new(),
+            was_replaced: AtomicBool::new(false),
             is_given_up: AtomicBool::new(false),
         }
     }
@@ -67,7 +116,23 @@ impl FileState {
         }
     }
 
-    /// Gives the file up, because another one has its path: each later call on it fails.
+    /// Asks whether a file that begins with these bytes is another one, or was overwritten.
+    pub fn differs(&self, front: &[u8]) -> bool {
+        self.front.differs(0, front)
+    }
+
+    /// Asks whether it is known that others have replaced, cut or overwritten the file. It stays known, whatever the file is
+    /// later.
+    pub fn was_replaced(&self) -> bool {
+        self.was_replaced.load(Ordering::SeqCst)
+    }
+
+    /// Keeps that others have replaced, cut or overwritten the file. No copy of it is made any more.
+    pub fn keep_replaced(&self) {
+        self.was_replaced.store(true, Ordering::SeqCst);
+    }
+
+    /// Gives the file up, because others have replaced, cut or overwritten it: each later call on it fails.
     pub fn give_up(&self) {
         self.is_given_up.store(true, Ordering::SeqCst);
     }
@@ -78,21 +143,42 @@ impl FileState {
     ///
     /// The file was given up.
     pub(crate) fn may_be_called(&self) -> io::Result<()> {
-        if self.is_given_up.load(Ordering::SeqCst) {
-            return Err(io::Error::from_raw_os_error(REPLACED));
-        }
-        Ok(())
+        none_if(self.is_given_up.load(Ordering::SeqCst))
     }
 
-    /// Keeps what the system told of the file.
-    pub(crate) fn keep_seen(&self, seen: SeenFile) {
+    /// Keeps what the system told of the file. The size that it must have only grows by it.
+    ///
+    /// # Errors
+    ///
+    /// The file is shorter than it must be, or it is known that others have replaced, cut or overwritten it.
+    pub(crate) fn keep_seen(&self, seen: SeenFile) -> io::Result<()> {
         self.device.store(seen.device, Ordering::SeqCst);
         self.inode.store(seen.inode, Ordering::SeqCst);
-        self.size.store(seen.size, Ordering::SeqCst);
+        if seen.size < self.size.fetch_max(seen.size, Ordering::SeqCst) {
+            self.keep_replaced();
+        }
+        none_if(self.was_replaced())
     }
 
-    /// Keeps that the file was written to up to this byte.
-    pub(crate) fn keep_end(&self, end: u64) {
+    /// Keeps that these bytes were read at this offset.
+    ///
+    /// # Errors
+    ///
+    /// They are at the front, and not those that the server last read or wrote there: others have overwritten them.
+    pub(crate) fn keep_read(&self, offset: u64, bytes: &[u8]) -> io::Result<()> {
+        let is_overwritten = self.front.differs(offset, bytes);
+        if is_overwritten {
+            self.keep_replaced();
+        } else {
+            self.front.keep(offset, bytes);
+        }
+        none_if(is_overwritten)
+    }
+
+    /// Keeps that these bytes were written at this offset.
+    pub(crate) fn keep_written(&self, offset: u64, bytes: &[u8]) {
+        self.front.keep(offset, bytes);
+        let end = offset.saturating_add(bytes.len() as u64);
         self.size.fetch_max(end, Ordering::SeqCst);
     }
 
@@ -100,6 +186,16 @@ impl FileState {
     pub(crate) fn keep_size(&self, size: u64) {
         self.size.store(size, Ordering::SeqCst);
     }
+}
+
+/// Fails, as of a file that was replaced, if this holds.
+fn none_if(is_replaced: bool) -> io::Result<()>
+    ensures { is_ok result ≡ not is_replaced }
+{
+    if is_replaced {
+        return Err(io::Error::from_raw_os_error(REPLACED));
+    }
+    Ok(())
 }
 
 /// The state of each tenant's file.

@@ -1,7 +1,7 @@
 //! Opens what a server needs before it serves: the tenants file, and each tenant's own file under a lock.
 //!
 //! [`read_tenants_file`] reads the tenants, and [`open_parts`] opens their files, each on a disk that [`LockedFiles`]
-//! opens, and makes an engine's parts of them. [`WatchedFile`] keeps the last error that the system told of such a file, and
+//! opens, and makes an engine's parts of them. [`sync_folders`] syncs the folders of those that opened. [`WatchedFile`] keeps the last error that the system told of such a file, and
 //! [`TrackedFile`] which file it is. [`MeteredFile`] times its calls and counts them. [`open_plain`] opens a file only if it
 //! is plain. [`Notes`] writes notes.
 //!
@@ -10,6 +10,7 @@
 
 mod file_fault;
 mod file_state;
+mod folders;
 mod metered_file;
 mod notes;
 mod opened_parts;
@@ -20,7 +21,8 @@ mod tracked_file;
 mod watched_file;
 
 pub use file_fault::FileFault;
-pub use file_state::{FileState, FileStates, SeenFile};
+pub use file_state::{FRONT, FileState, FileStates, SeenFile};
+pub use folders::sync_folders;
 pub use metered_file::MeteredFile;
 pub use notes::{Notes, note_cause, note_place};
 pub use opened_parts::{OpenedParts, are_all_open, open_parts};

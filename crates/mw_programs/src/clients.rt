@@ -13,7 +13,7 @@ use mw_connections::{
     ClientListener, Closer, MeteredListener, Patient, RoomWatch, TimeLimits, listen_at, port_of,
 };
 use mw_metrics::ServerCounters;
-use mw_opening::note_cause;
+use mw_opening::{note_cause, note_place};
 use mw_server_pages::Pages;
 use mw_session::Service;
 use mw_workers::{Desk, ServeEnd, serve_all, serve_beside};
@@ -23,29 +23,79 @@ use std::io;
 use std::io::Write;
 use std::net::{Net, TcpListener, TcpStream};
 use std::rt::Files;
-use std::sync::Wait;
+use std::sync::{Mutex, Wait};
 use std::thread::{self, Threads};
-use std::time::Clock;
+use std::time::{Clock, Duration, Instant};
+
+/// How long it is at least from a note on room to the next one about the same address, in seconds.
+const ROOM_PERIOD: u64 = 1;
 
 /// Writes a note when there is no room for connections, with the address.
 #[derive(Drop)]
-struct RoomNotes<'n, 'a, L> {
+struct RoomNotes<'r, 'n, 'a, L, R> {
+    rt: &'r R,
     notes: &'n L,
     address: &'a str,
+    /// When it wrote the last one.
+    last: Mutex<Option<Instant>>,
 }
 
-impl<L: Log> RoomWatch for RoomNotes<'_, '_, L> {
+impl<'r, 'n, 'a, L, R: Wait + Clock> RoomNotes<'r, 'n, 'a, L, R> {
+    /// Makes the notes about an address. None was written yet.
+    fn new(rt: &'r R, notes: &'n L, address: &'a str) -> Self {
+        RoomNotes {
+            rt,
+            notes,
+            address,
+            last: Mutex::new(None),
+        }
+    }
+
+    /// Tells whether a note is due, and if so, takes it for written.
+    fn is_due(&self) -> bool {
+        let Ok(now) = Instant::now(self.rt) else {
+            return true;
+        };
+        let mut last = self.last.lock(self.rt);
+        if let Some(then) = *last {
+            if now.duration_since(then) < Duration::from_secs(ROOM_PERIOD) {
+                return false;
+            }
+        }
+        *last = Some(now);
+        true
+    }
+}
+
+impl<L: Log, R: Wait + Clock> RoomWatch for RoomNotes<'_, '_, '_, L, R> {
     fn no_room(&self, fault: &io::Error) {
-        warn!(self.notes; "mwserve: no room for connections");
-        note_cause(self.notes, self.address, fault);
+        if self.is_due() {
+            warn!(self.notes; "mwserve: no room for connections");
+            note_cause(self.notes, self.address, fault);
+        }
+    }
+}
+
+/// Writes a note that clients of other machines may come to this address, if they may and the command line doesn't say that
+/// this is meant.
+pub(crate) fn note_open<L: Log>(
+    notes: &L,
+    listening: &Listening,
+    address: &str,
+    is_open: io::Result<bool>,
+) {
+    if !listening.open && is_open.unwrap_or(false) {
+        warn!(notes; "mwserve: other machines may connect");
+        note_place(notes, address);
     }
 }
 
 /// Listens at this address. The counters count the bytes of its clients, if there are pages that tell them.
-fn listen<'r, 'a, R>(
+fn listen<'r, 'a, R, L: Log>(
     rt: &'r R,
     address: &'a str,
     listening: &Listening,
+    notes: &L,
     counters: &'r ServerCounters,
 ) -> Result<ClientListener<'r, R>, ServeFault<'a>>
 where
@@ -55,24 +105,30 @@ where
         silence: listening.idle,
         line: listening.line_time,
     };
-    match listen_at(rt, address, listening.socket_mode, limits) {
-        Ok(clients) if listening.http.is_some() => Ok(clients.counted_by(counters)),
-        Ok(clients) => Ok(clients),
-        Err(error) => Err(ServeFault::CannotListen(address, error)),
+    let clients = match listen_at(rt, address, listening.socket_mode, limits) {
+        Ok(clients) => clients.with_faults(listening.faults),
+        Err(error) => return Err(ServeFault::CannotListen(address, error)),
+    };
+    note_open(notes, listening, address, clients.is_open());
+    if listening.http.is_some() {
+        Ok(clients.counted_by(counters))
+    } else {
+        Ok(clients)
     }
 }
 
 /// Listens at the administrator's address. Gives also what ends the wait for a client there.
-fn listen_for_admin<'r, 'a, R>(
+fn listen_for_admin<'r, 'a, R, L: Log>(
     rt: &'r R,
     address: &'a str,
     listening: &Listening,
+    notes: &L,
     counters: &'r ServerCounters,
 ) -> Result<(ClientListener<'r, R>, Closer), ServeFault<'a>>
 where
     R: Files<File = File> + Net<Listener = TcpListener, Stream = TcpStream>,
 {
-    let clients = listen(rt, address, listening, counters)?;
+    let clients = listen(rt, address, listening, notes, counters)?;
     match clients.closer() {
         Ok(closer) => Ok((clients, closer)),
         Err(error) => Err(ServeFault::CannotListen(address, error)),
@@ -192,7 +248,7 @@ where
 {
     match (pages, &listening.http) {
         (Some(pages), Some(address)) => {
-            let door = PagesDoor::open(rt, address.as_str(), listening, out)?;
+            let door = PagesDoor::open(rt, address.as_str(), listening, out, notes)?;
             serve_beside_pages(rt, services, door, pages, listening, out, notes, counters)
         }
         _ => serve_services(rt, services, listening, out, notes, counters),
@@ -229,6 +285,7 @@ where
 {
     let PagesDoor { listener, end } = door;
     let end = &end;
+    let names = listening.http_names.as_slice();
     thread::scope(
         thread::scope_env(),
         rt,
@@ -236,7 +293,7 @@ where
             requires { 0 < vec_len services }
         {
             if scope
-                .spawn(move || show_pages(rt, listener, pages, end))
+                .spawn(move || show_pages(rt, listener, pages, names, end))
                 .is_err()
             {
                 return Err(ServeFault::Memory);
@@ -302,9 +359,10 @@ where
         + Sync,
     requires { 0 < vec_len services }
 {
-    let clients = MeteredListener::new(open_listener(rt, listening, out, counters)?, counters);
+    let clients = open_listener(rt, listening, out, notes, counters)?;
+    let clients = MeteredListener::new(clients, counters);
     let address = listening.address.as_str();
-    let room = RoomNotes { notes, address };
+    let room = RoomNotes::new(rt, notes, address);
     let clients = Patient::new(clients, rt, &room);
     let (end, _) = serve_all(
         rt,
@@ -318,17 +376,18 @@ where
 }
 
 /// Listens at the one address, and writes to `out` where.
-fn open_listener<'r, 'a, R, O: Write>(
+fn open_listener<'r, 'a, R, O: Write, L: Log>(
     rt: &'r R,
     listening: &'a Listening,
     out: &mut O,
+    notes: &L,
     counters: &'r ServerCounters,
 ) -> Result<ClientListener<'r, R>, ServeFault<'a>>
 where
     R: Files<File = File> + Net<Listener = TcpListener, Stream = TcpStream>,
 {
     let address = listening.address.as_str();
-    let clients = listen(rt, address, listening, counters)?;
+    let clients = listen(rt, address, listening, notes, counters)?;
     tell_place(out, "ready", &clients, address)?;
     Ok(clients)
 }
@@ -356,15 +415,9 @@ where
     let Some(both) = BothServices::new(services) else {
         return Err(ServeFault::Memory);
     };
-    let doors = open_listeners(rt, listening, admin, out, counters)?;
-    let room = RoomNotes {
-        notes,
-        address: listening.address.as_str(),
-    };
-    let own_room = RoomNotes {
-        notes,
-        address: admin,
-    };
+    let doors = open_listeners(rt, listening, admin, out, notes, counters)?;
+    let room = RoomNotes::new(rt, notes, listening.address.as_str());
+    let own_room = RoomNotes::new(rt, notes, admin);
     served(serve_doors(rt, doors, both, listening, &room, &own_room, counters))
 }
 
@@ -401,19 +454,20 @@ struct Listeners<'r, R> {
 }
 
 /// Listens at both addresses, and writes to `out` where.
-fn open_listeners<'r, 'a, R, O: Write>(
+fn open_listeners<'r, 'a, R, O: Write, L: Log>(
     rt: &'r R,
     listening: &'a Listening,
     admin: &'a str,
     out: &mut O,
+    notes: &L,
     counters: &'r ServerCounters,
 ) -> Result<Listeners<'r, R>, ServeFault<'a>>
 where
     R: Files<File = File> + Net<Listener = TcpListener, Stream = TcpStream>,
 {
     let address = listening.address.as_str();
-    let clients = listen(rt, address, listening, counters)?;
-    let (own, closer) = listen_for_admin(rt, admin, listening, counters)?;
+    let clients = listen(rt, address, listening, notes, counters)?;
+    let (own, closer) = listen_for_admin(rt, admin, listening, notes, counters)?;
     let doors = Listeners {
         clients,
         own,
@@ -440,8 +494,8 @@ fn serve_doors<S: Service + Send + Drop, R, L: Log + Sync>(
     doors: Listeners<'_, R>,
     both: BothServices<S>,
     listening: &Listening,
-    room: &RoomNotes<'_, '_, L>,
-    own_room: &RoomNotes<'_, '_, L>,
+    room: &RoomNotes<'_, '_, '_, L, R>,
+    own_room: &RoomNotes<'_, '_, '_, L, R>,
     counters: &ServerCounters,
 ) -> ServeEnd
 where

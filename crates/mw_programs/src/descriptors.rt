@@ -12,6 +12,9 @@ use mw_workers::{DESK_QUEUE, QUEUE, WAITING};
 /// How many standard streams a program has.
 pub(crate) const STREAMS: u64 = 3;
 
+/// How many more are needed to look at the tenants' files: one is opened at a time.
+pub(crate) const FOR_LOOKS: u64 = 1;
+
 /// How many more are needed for the administrator's address: its listener, what ends the wait there, the connections that
 /// wait for their turn, and one that is being accepted.
 pub(crate) const FOR_ADMIN: u64 = 3 + DESK_QUEUE as u64;
@@ -31,8 +34,8 @@ fn needed_to_wait(is_limited: bool) -> u64
     }
 }
 
-/// Gives how many descriptors a server needs: for the standard streams, the tenants' files, the listener, each connection
-/// that is served at once, and the connections that wait for a session, for ever or for a limited time. With an address for
+/// Gives how many descriptors a server needs: for the standard streams, the tenants' files and a look at them, the listener,
+/// each connection that is served at once, and the connections that wait for a session, for ever or for a limited time. With an address for
 /// the administrator it needs more, and with one for the pages too.
 pub(crate) fn needed(
     tenants: usize,
@@ -45,7 +48,7 @@ pub(crate) fn needed(
     ensures { result ≡ needed tenants served is_limited has_admin has_pages }
 {
     let connections = u64::from(served) + needed_to_wait(is_limited);
-    let clients = STREAMS + tenants as u64 + 1 + connections;
+    let clients = STREAMS + tenants as u64 + FOR_LOOKS + 1 + connections;
     let admin = if has_admin { FOR_ADMIN } else { 0 };
     let pages = if has_pages { FOR_PAGES } else { 0 };
     clients + admin + pages

@@ -7,10 +7,12 @@ mod clients;
 mod copies;
 mod descriptors;
 mod pages;
+mod prompt;
 mod replaced;
 mod services;
 mod serving;
 mod tenants;
 
+pub use prompt::PromptErrors;
 pub use replaced::SeesPaths;
 pub use serving::serve;

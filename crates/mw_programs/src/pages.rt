@@ -3,8 +3,9 @@
 //! `clients` serves the clients meanwhile. docs/OPERATING tells the pages, the limits and what is printed: change both
 //! together.
 
-use crate::clients::tell_at;
+use crate::clients::{note_open, tell_at};
 use crate::serving::ServeFault;
+use log::Log;
 use mw_config::Listening;
 use mw_connections::{BriefLimits, BriefListener, Closer, listen_briefly};
 use mw_main::VERSION;
@@ -40,16 +41,18 @@ where
     R: Files<File = File> + Net<Listener = TcpListener, Stream = TcpStream>,
 {
     /// Listens at the address of the pages, and writes to `out` where.
-    pub(crate) fn open<'a, O: Write>(
+    pub(crate) fn open<'a, O: Write, L: Log>(
         rt: &'r R,
         address: &'a str,
         listening: &Listening,
         out: &mut O,
+        notes: &L,
     ) -> Result<Self, ServeFault<'a>> {
         let (door, port) = match opened(rt, address, listening.socket_mode) {
             Ok(opened) => opened,
             Err(error) => return Err(ServeFault::CannotListen(address, error)),
         };
+        note_open(notes, listening, address, door.listener.is_open());
         tell_at(out, "http", port, address)?;
         Ok(door)
     }
@@ -84,13 +87,14 @@ impl PagesEnd {
     }
 }
 
-/// Shows the pages to each client that comes, until they are ended.
+/// Shows the pages to each client that comes and calls the server by one of these names, until they are ended.
 pub(crate) fn show_pages<P: Pages + Drop, R: Wait + Clock + Sync>(
     rt: &R,
     listener: BriefListener<'_, R>,
     pages: P,
+    names: &[String],
     end: &PagesEnd,
 ) {
     let (mut listener, mut pages) = (listener, pages);
-    serve_pages(rt, &mut listener, &mut pages, &end.is_open);
+    serve_pages(rt, &mut listener, &mut pages, names, &end.is_open);
 }

@@ -1,13 +1,14 @@
-//! Looks, while clients are served, whether each tenant's path still leads to the file that was opened.
+//! Looks, while clients are served, whether each tenant's path still leads to the file that was opened, as long as it must be
+//! and with the same front.
 //!
 //! `clients` has it done once a second, by a thread; `tenants` writes the notes. docs/OPERATING tells what comes of a
 //! file that was replaced: change both together.
 ghost use Rattle.std.specs.Prelude.{◌≡◌, ◌↔◌, false};
 ghost use Rattle.mw_programs.specs.Replaced.{LeadsTo};
 
-use mw_opening::SeenFile;
+use mw_opening::{FRONT, FileState, SeenFile};
 use std::fs;
-use std::io::{self, ErrorKind};
+use std::io::{self, ErrorKind, Read};
 use std::rt::Files;
 use std::sync::{Condvar, Mutex, Wait};
 use std::time::{Clock, Duration};
@@ -73,23 +74,48 @@ pub trait SeesPaths {
     ///
     /// There is none, or the system doesn't say.
     fn seen_at(&self, path: &str) -> io::Result<SeenFile>;
+
+    /// Reads the front of the file at this path. Gives how many bytes it read.
+    ///
+    /// # Errors
+    ///
+    /// There is none, or the system doesn't open it or fails to read.
+    fn front_at(&self, path: &str, front: &mut [u8; FRONT]) -> io::Result<usize>;
 }
 
 impl<R: Files> SeesPaths for R {
     fn seen_at(&self, path: &str) -> io::Result<SeenFile> {
         Ok(SeenFile::of(&fs::metadata(self, path)?))
     }
+
+    fn front_at(&self, path: &str, front: &mut [u8; FRONT]) -> io::Result<usize> {
+        let mut file = fs::open(self, path)?;
+        file.read(front)
+    }
 }
 
-/// Tells whether the path of a file that was opened leads elsewhere now. If the system doesn't say what is at the path,
-/// that is not known, and the answer is no.
-pub(crate) fn leads_elsewhere<R: SeesPaths>(rt: &R, path: &str, opened: &SeenFile) -> bool {
+/// Tells whether the path of a file that was opened leads elsewhere now, or others have cut or overwritten the file. If the
+/// system doesn't say what is at the path, that is not known, and the answer is no.
+pub(crate) fn leads_elsewhere<R: SeesPaths>(rt: &R, path: &str, opened: &FileState) -> bool {
+    if opened.was_replaced() {
+        return true;
+    }
     match rt.seen_at(path) {
-        Ok(now) => is_replaced(opened, Some(now)),
+        Ok(now) => { is_replaced(&opened.seen(), Some(now)) || is_overwritten(rt, path, opened) }
         Err(error) => match error.kind() {
-            ErrorKind::NotFound | ErrorKind::NotADirectory => is_replaced(opened, None),
+            ErrorKind::NotFound | ErrorKind::NotADirectory => is_replaced(&opened.seen(), None),
             _ => false,
         },
+    }
+}
+
+/// Tells whether the file at a path begins with other bytes than the one that was opened. If they can't be read, the answer
+/// is no.
+fn is_overwritten<R: SeesPaths>(rt: &R, path: &str, opened: &FileState) -> bool {
+    let mut front = [0; FRONT];
+    match rt.front_at(path, &mut front) {
+        Ok(count) => opened.differs(&front[..count.min(FRONT)]),
+        Err(_) => false,
     }
 }
 

@@ -22,6 +22,7 @@ use mw_metrics::Meters;
 use mw_opening::{
     Cause, FileStates, LastErrors, LockedFiles, Notes, OpenedParts, OpensDisks, ReadFault,
     TenantsFault, are_all_open, note_cause, open_parts, open_plain, read_tenants_file,
+    sync_folders,
 };
 use mw_service::{FaultWatch, Worker};
 use mw_session::{Duplex, Ended, RecordedStream};
@@ -110,9 +111,10 @@ impl From<TenantsFault> for ServeFault<'_> {
 ///
 /// The form is `mwserve --tenants FILE [--pool P] [--workers N] [--strict] [--verbose]`, with one of these:
 /// - `--script FILE` runs one session from the script to `out`.
-/// - `--listen ADDR [--admin ADDR] [--http ADDR] [--connections C] [--clients M [--readers R]] [--wait SECONDS]
-///   [--idle SECONDS] [--line-time SECONDS] [--mode MODE]` writes `ready PORT`, or `ready unix:PATH`, to `out`. Then N
-///   workers serve clients, or M clients share the N workers' passes, until C connections are served. With `--admin`,
+/// - `--listen ADDR [--admin ADDR] [--http ADDR [--http-name NAME ..]] [--connections C] [--clients M [--readers R]]
+///   [--wait SECONDS] [--idle SECONDS] [--line-time SECONDS] [--faults F] [--open] [--mode MODE]` writes `ready PORT`, or
+///   `ready unix:PATH`, to `out`. Then N workers serve clients, or M clients share the N workers' passes, until C connections are
+///   served. With `--admin`,
 ///   one worker more is for the clients of that address, if N is below [`MAX_WORKERS`]; else one of the N is. `admin
 ///   PORT`, or `admin unix:PATH`, is written before `ready`. With `--http`, a thread shows the server's pages there until
 ///   the server ends, and one worker more is for them in the same way. `http PORT`, or `http unix:PATH`, is written first.
@@ -127,9 +129,9 @@ impl From<TenantsFault> for ServeFault<'_> {
 ///
 /// Writes to `err` what went wrong before the first session. It also writes a note on each tenant whose
 /// file doesn't open, is in use or fails, and a note when there is no room for connections. With `--listen`
-/// it also writes a note on each tenant whose file is replaced, and one if the limit of descriptors is too
-/// low. The files stay
-/// locked until it returns.
+/// it also writes a note on each tenant whose file is replaced, one if the limit of descriptors is too low, and one for each
+/// address at which other machines may connect, if `--open` wasn't given. No note keeps a client waiting, if no write to `err`
+/// waits. The files stay locked until it returns.
 pub fn serve<R, O: Write, E: Write + Send>(rt: &R, args: &[String], out: &mut O, err: &mut E) -> u8
 where
     R: Files<File = File>
@@ -146,13 +148,15 @@ where
         Err(fault) => return refuse(&fault, out, err),
     };
     let notes = Notes::new(rt, err, args.verbose);
-    match serve_args(rt, &args, out, &notes) {
+    let status = match serve_args(rt, &args, out, &notes) {
         Ok(()) => 0,
         Err(fault) => {
             fault.tell(&notes, args.tenants.as_str());
             fault.status()
         }
-    }
+    };
+    notes.finish();
+    status
 }
 
 /// Writes why a command line isn't served, or what it asks to be told. Gives the exit status.
@@ -303,7 +307,17 @@ where
         return Err(ServeFault::FewDescriptors);
     }
     let OpenedParts { are_open, made } = opened;
-    let watch = TenantNotes::new(rt, notes, lines, errors, states, &are_open, args.strict);
+    sync_folders(rt, notes, lines, &are_open);
+    let watch = TenantNotes::new(
+        rt,
+        notes,
+        lines,
+        errors,
+        states,
+        meters,
+        &are_open,
+        args.strict,
+    );
     let (parts, passes) = made?;
     serve_engine::<Brand, _, _, _, _, _>(rt, parts, passes, args, out, notes, &watch, meters)
 }

@@ -8,7 +8,8 @@ ghost use Rattle.mw_words.specs.declared.limits.TheConstants.{MAX_TENANTS};
 use crate::replaced::{FileLook, SeesPaths, leads_elsewhere};
 use log::{Log, warn};
 use mw_config::TenantLine;
-use mw_opening::{FileStates, LastErrors, note_cause, note_place};
+use mw_metrics::Meters;
+use mw_opening::{FileState, FileStates, LastErrors, note_cause, note_place};
 use mw_service::FaultWatch;
 use mw_words::MAX_TENANTS;
 use std::str;
@@ -22,6 +23,7 @@ pub struct TenantNotes<'r, 'n, 'l, 'e, L, R> {
     lines: &'l [TenantLine],
     errors: &'e LastErrors,
     states: &'e FileStates,
+    meters: &'e Meters,
     /// Whether a file that was replaced is given up.
     strict: bool,
     /// The tenants on which it was written already that they are down.
@@ -32,13 +34,14 @@ pub struct TenantNotes<'r, 'n, 'l, 'e, L, R> {
 
 impl<'r, 'n, 'l, 'e, L: Log, R: Wait> TenantNotes<'r, 'n, 'l, 'e, L, R> {
     /// Makes the notes on the tenants with these lines. A tenant whose file isn't open has its note
-    /// already. If it is strict, a file that was replaced is given up.
+    /// already. If it is strict, a file that was replaced is given up. The meters are told of it.
     pub fn new(
         rt: &'r R,
         notes: &'n L,
         lines: &'l [TenantLine],
         errors: &'e LastErrors,
         states: &'e FileStates,
+        meters: &'e Meters,
         are_open: &[bool],
         strict: bool,
     ) -> Self {
@@ -52,6 +55,7 @@ impl<'r, 'n, 'l, 'e, L: Log, R: Wait> TenantNotes<'r, 'n, 'l, 'e, L, R> {
             lines,
             errors,
             states,
+            meters,
             strict,
             told: Mutex::new(told),
             left_out: Mutex::new(told),
@@ -71,6 +75,17 @@ impl<L: Log, R: Wait> TenantNotes<'_, '_, '_, '_, L, R> {
             Some(error) => note_cause(self.notes, path, &error),
             None => note_place(self.notes, path),
         }
+    }
+
+    /// Keeps that the file of the tenant of this number was replaced, and gives it up if this is strict.
+    fn keep_replaced(&self, tenant: usize, state: &FileState)
+        requires { tenant < MAX_TENANTS }
+    {
+        state.keep_replaced();
+        if self.strict {
+            state.give_up();
+        }
+        self.meters.tenant(tenant).record_replaced(self.strict);
     }
 
     /// Writes that the file of the tenant with this line was replaced.
@@ -97,17 +112,18 @@ impl<L: Log, R: Wait> FaultWatch for TenantNotes<'_, '_, '_, '_, L, R> {
 
 impl<L: Log, R: Wait + SeesPaths> FileLook for TenantNotes<'_, '_, '_, '_, L, R> {
     fn look(&self) {
+        self.notes.flush();
         let mut all_left_out = self.left_out.lock(self.rt);
-        let files = self.lines.iter().zip(self.states.all());
-        for ((line, state), left_out) in files.zip(all_left_out.iter_mut()) {
-            if *left_out || !leads_elsewhere(self.rt, line.path.as_str(), &state.seen()) {
+        for (tenant, line) in self.lines.iter().enumerate() {
+            if tenant >= MAX_TENANTS || all_left_out[tenant] {
                 continue;
             }
-            *left_out = true;
-            if self.strict {
-                state.give_up();
+            let state = self.states.of(tenant);
+            if leads_elsewhere(self.rt, line.path.as_str(), state) {
+                all_left_out[tenant] = true;
+                self.keep_replaced(tenant, state);
+                self.tell_replaced(line);
             }
-            self.tell_replaced(line);
         }
     }
 }

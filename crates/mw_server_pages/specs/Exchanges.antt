@@ -28,19 +28,19 @@ abbrev pub TakesPiece : {E : Type 0} → ReadRecord → ReadRecord → List ℕ 
 TakesPiece reads new_reads before after (Ok count) = TakesBytes reads new_reads before after count
 TakesPiece reads new_reads before after (Err fault) = new_reads ≡ with_read_fault reads
 
--- These bytes were read, and hold what came: a request, or what is refused; or no whole head, and then the stream was found at
+-- These bytes were read, and hold what came to a server with these names: a request, or what is refused; or no whole head, and then the stream was found at
 -- its end, or one read failed.
-abbrev pub Holds : ReadRecord → ReadRecord → List ℕ → Came → Type 0
-Holds reads new_reads bytes (Asked request) = (new_reads ≡ with_read reads bytes) × Hears bytes (Hear.Asked request)
-Holds reads new_reads bytes (Refused status) = (new_reads ≡ with_read reads bytes) × Hears bytes (Hear.Refused status)
-Holds reads new_reads bytes Late = (new_reads ≡ with_read_fault (with_read reads bytes)) × NeedMore bytes
-Holds reads new_reads bytes Ended = (new_reads ≡ with_end (with_read reads bytes)) × NeedMore bytes
-Holds reads new_reads bytes Failed = (new_reads ≡ with_read_fault (with_read reads bytes)) × NeedMore bytes
+abbrev pub Holds : List (List ℕ) → ReadRecord → ReadRecord → List ℕ → Came → Type 0
+Holds names reads new_reads bytes (Asked request) = (new_reads ≡ with_read reads bytes) × Hears names bytes (Hear.Asked request)
+Holds names reads new_reads bytes (Refused status) = (new_reads ≡ with_read reads bytes) × Hears names bytes (Hear.Refused status)
+Holds names reads new_reads bytes Late = (new_reads ≡ with_read_fault (with_read reads bytes)) × NeedMore bytes
+Holds names reads new_reads bytes Ended = (new_reads ≡ with_end (with_read reads bytes)) × NeedMore bytes
+Holds names reads new_reads bytes Failed = (new_reads ≡ with_read_fault (with_read reads bytes)) × NeedMore bytes
 
 -- some bytes were read, and hold what came
-pub record IsReceived (reads new_reads : ReadRecord) (came : Came) : Type 0 where
+pub record IsReceived (names : List (List ℕ)) (reads new_reads : ReadRecord) (came : Came) : Type 0 where
   pub bytes : List ℕ
-  pub holds : Holds reads new_reads bytes came
+  pub holds : Holds names reads new_reads bytes came
 
 -- A first part of a text was written, and this rest was not; then a write failed or took nothing.
 pub record Breaks (writes new_writes : WriteRecord) (text : List ℕ) : Type 0 where
@@ -93,8 +93,8 @@ Does Late writes new_writes Asks ended = Refuses RequestTimeout writes new_write
 Does Ended writes new_writes Asks ended = IsSilent writes new_writes Asks ended
 Does Failed writes new_writes Asks ended = IsSilent writes new_writes Asks ended
 
--- One exchange: what came, and what was done. `Asks` says that these calls led the pages from their state before to the one after.
-pub record IsExchange (reads new_reads : ReadRecord) (writes new_writes : WriteRecord) (Asks : List Call → Type 0) (ended : Exchanged) : Type 0 where
+-- One exchange of a server with these names: what came, and what was done. `Asks` says that these calls led the pages from their state before to the one after.
+pub record IsExchange (names : List (List ℕ)) (reads new_reads : ReadRecord) (writes new_writes : WriteRecord) (Asks : List Call → Type 0) (ended : Exchanged) : Type 0 where
   pub came : Came
-  pub received : IsReceived reads new_reads came
+  pub received : IsReceived names reads new_reads came
   pub done : Does came writes new_writes Asks ended

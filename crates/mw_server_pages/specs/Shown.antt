@@ -1,6 +1,6 @@
 -- Defines what a server shows at each place, by the figures that its service gives then, or by the copy of a tenant's file.
 -- Used by: the contracts of server_pages.rt. A change here changes what operators see: docs/HTTP changes with it.
-use Rattle.std.specs.Prelude.{◌≡◌, ℕ, ◌⊎◌, List, [], Vec, Result, Ok, Err, if◌then◌else◌}
+use Rattle.std.specs.Prelude.{◌≡◌, ℕ, ◌⊎◌, List, [], map, Vec, Result, Ok, Err, if◌then◌else◌}
 use Rattle.std.specs.declared.alloc.Global.{Global}
 use Rattle.std.specs.declared.alloc.AllocError.{AllocError}
 use Rattle.std.specs.List.{list_all}
@@ -11,8 +11,9 @@ use Rattle.mw_http.specs.declared.status.Status.TheVariants as status
 use Rattle.mw_http.specs.Targets as target
 use Rattle.mw_server_pages.specs.declared.pages.Page.{Page}
 use Rattle.mw_server_pages.specs.Calls.{Call, Dates, Shows}
-use Rattle.mw_metrics.specs.Counted.{IsTextOf}
-use Rattle.mw_server_pages.specs.Health.{health, is_up}
+use Rattle.mw_metrics.specs.Counted.{IsTextOf, figures_of}
+use Rattle.mw_metrics.specs.declared.figures.TenantMetrics.{TenantMetrics}
+use Rattle.mw_server_pages.specs.Health.{health, is_well}
 use Rattle.mw_server_pages.specs.declared.limits.NearLimit.{NearLimit}
 use Rattle.mw_server_pages.specs.declared.recents.Recent.{Recent}
 use Rattle.mw_server_pages.specs.StatusPage as status_page
@@ -44,21 +45,34 @@ abbrev pub IsPageOf : Status → ContentType → Result (Vec ℕ Global) AllocEr
 IsPageOf wanted content (Ok body) page = IsPage wanted content (λ text. text ≡ body.items) page
 IsPageOf wanted content (Err fault) page = IsError page
 
--- whether all tenants are up: 200 if so, else 503 with those that are not
+-- whether all these tenants are well: 200 if so, else 503 with those that are not
+abbrev pub IsHealthOf : List TenantMetrics → Page → Type 0
+IsHealthOf tenants page =
+    IsPageOrError (if list_all is_well tenants then status.Ok else status.Unavailable) kind.Text (λ body. body ≡ health tenants) page
+
+-- Whether all tenants are well, by these figures and by whether their files are in their places. There was no memory for this: an
+-- error.
+pub record IsHealthBy (figures : Figures) (page : Page) : Type 0 where
+  pub tenants : List TenantMetrics
+  pub same : map figures_of tenants ≡ figures.tenants.items
+  pub is : IsHealthOf tenants page
+
+-- the answer whether all tenants are well
 abbrev pub IsHealth : Figures → Page → Type 0
-IsHealth figures page =
-    IsPageOrError (if list_all is_up figures.tenants.items then status.Ok else status.Unavailable) kind.Text (λ body. body ≡ health figures.tenants.items) page
+IsHealth figures page = IsHealthBy figures page ⊎ IsError page
 
 -- the figures for Prometheus
 abbrev pub IsMetrics : List ℕ → Figures → Page → Type 0
 IsMetrics version figures page = IsPageOrError status.Ok kind.Metrics (λ body. IsTextOf version figures body) page
 
--- the status page, of a server that is up for some seconds, with some limits and some curves
+-- the status page, of a server that is up for some seconds, of its tenants with these figures, with some limits and some curves
 pub record IsStatusText (version : List ℕ) (figures : Figures) (body : List ℕ) : Type 0 where
   pub seconds : ℕ
+  pub tenants : List TenantMetrics
+  pub same : map figures_of tenants ≡ figures.tenants.items
   pub limits : List NearLimit
   pub recents : List Recent
-  pub is : body ≡ status_page.page version seconds figures.tenants.items limits recents figures.pool_free
+  pub is : body ≡ status_page.page version seconds tenants limits recents figures.pool_free
 
 -- the status page, or an error if there was no memory for it
 abbrev pub IsStatus : List ℕ → Figures → Page → Type 0

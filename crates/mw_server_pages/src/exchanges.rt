@@ -1,7 +1,7 @@
 //! One exchange with a client: its request, and the answer.
 //!
 //! `server.rt` calls it for each client. `specs/Exchanges` says what it promises: change both together.
-ghost use Rattle.std.specs.Prelude.{◌≡◌};
+ghost use Rattle.std.specs.Prelude.{◌≡◌, map, string_bytes};
 ghost use Rattle.mw_session.specs.KnownStreams.{reads_of, writes_of};
 ghost use Rattle.mw_http.specs.Targets.{place_of};
 ghost use Rattle.mw_server_pages.specs.Calls.{AreAnswered};
@@ -25,7 +25,7 @@ pub enum Exchanged {
     WriteFault,
 }
 
-/// Receives a request, and answers it.
+/// Receives a request, and answers it. Clients may call the server by these names, as [`mw_http::hear`] says.
 ///
 /// The answer has the status, the type and the length of the page for what is asked for, and to `GET` its body. What is no
 /// request is refused with the status that says why, and one that doesn't come in time with 408. If the client sends no
@@ -34,11 +34,12 @@ pub fn exchange<T: PeerStream, R: Wait, P: Pages>(
     rt: &R,
     stream: &mut RecordedStream<T>,
     pages: &mut P,
+    names: &[String],
 ) -> Exchanged
-    ensures exchange { IsExchange (reads_of stream.old) (reads_of stream.new) (writes_of stream.old) (writes_of stream.new)
+    ensures exchange { IsExchange (map string_bytes names.now) (reads_of stream.old) (reads_of stream.new) (writes_of stream.old) (writes_of stream.new)
         (AreAnswered P.answered pages.old pages.new) result }
 {
-    match receive_from(rt, stream) {
+    match receive_from(rt, stream, names) {
         Came::Asked(request) => answer(rt, stream, pages, &request),
         Came::Refused(status) => refuse(rt, stream, pages, status),
         Came::Late => refuse(rt, stream, pages, Status::RequestTimeout),

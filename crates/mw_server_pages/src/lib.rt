@@ -3,7 +3,7 @@
 //!
 //! [`ServerPages`] has all that is shown at each place, and a program implements [`FileCopies`] for it. `specs/Shown` says what is
 //! shown. The page is one file of HTML and SVG, without a script, and reads well in a terminal too; it and the text that says
-//! whether all tenants are up are pure functions of the figures of an administrator's report. `specs/StatusPage` and `specs/Health`
+//! whether all tenants are up are pure functions of the figures of the tenants. `specs/StatusPage` and `specs/Health`
 //! define them. mw_metrics writes the text of the figures.
 //!
 //! [`exchange`] receives a request from a client's stream, asks [`Pages`] for what it asks for, and writes the answer. A
@@ -36,7 +36,7 @@ mod writing;
 
 pub use exchanges::{Exchanged, exchange};
 pub use file_copies::{FileCopies, NoCopy};
-pub use health::{MAX_HEALTH, are_up, health_text};
+pub use health::{MAX_HEALTH, are_well, health_text};
 pub use limits::{LimitKind, MAX_LIMITS, NearLimit};
 pub use near::Capacity;
 pub use pages::{Date, Page, Pages};

@@ -1,7 +1,7 @@
 //! Receives a request from a client's stream.
 //!
 //! `exchanges.rt` calls it. `specs/Exchanges` says what was read: change both together.
-ghost use Rattle.std.specs.Prelude.{◌≡◌, ◌+◌, ◌<◌, ◌≤◌, length};
+ghost use Rattle.std.specs.Prelude.{◌≡◌, ◌+◌, ◌<◌, ◌≤◌, length, map, string_bytes};
 ghost use Rattle.mw_session.specs.KnownStreams.{reads_of, writes_of};
 ghost use Rattle.mw_server_pages.specs.Exchanges.{IsReceived, TakesPiece};
 
@@ -35,8 +35,12 @@ pub(crate) enum Came {
 
 /// Reads until a head is whole or is refused, or no more can be read. What comes after a head may be read in part, and isn't
 /// looked at. It takes no memory.
-pub(crate) fn receive_from<T: PeerStream, R: Wait>(rt: &R, stream: &mut RecordedStream<T>) -> Came
-    ensures received { IsReceived (reads_of stream.old) (reads_of stream.new) result }
+pub(crate) fn receive_from<T: PeerStream, R: Wait>(
+    rt: &R,
+    stream: &mut RecordedStream<T>,
+    names: &[String],
+) -> Came
+    ensures received { IsReceived (map string_bytes names.now) (reads_of stream.old) (reads_of stream.new) result }
     ensures writes { writes_of stream.new ≡ writes_of stream.old }
 {
     let mut bytes = Bytes::new();
@@ -47,7 +51,7 @@ pub(crate) fn receive_from<T: PeerStream, R: Wait>(rt: &R, stream: &mut Recorded
             Err(fault) if is_late(&fault) => return Came::Late,
             Err(_) => return Came::Failed,
         }
-        match hear(&bytes) {
+        match hear(&bytes, names) {
             Heard::More => {}
             Heard::Asked(request) => return Came::Asked(request),
             Heard::Refused(status) => return Came::Refused(status),

@@ -85,8 +85,8 @@ impl Samples {
 
     /// Looks so many seconds after the start which tenants are down, and takes a sample if the last one is old enough.
     pub(crate) fn look(&mut self, now: u64, figures: &Figures, meters: &Meters) {
-        for (down, tenant) in self.down.iter_mut().zip(&figures.tenants) {
-            *down = if tenant.up {
+        for (number, (down, tenant)) in self.down.iter_mut().zip(&figures.tenants).enumerate() {
+            *down = if tenant.up && meters.place_of(number).takes_changes() {
                 None
             } else {
                 Some(down.unwrap_or(now))

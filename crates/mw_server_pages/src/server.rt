@@ -2,6 +2,7 @@
 //!
 //! mw_programs runs it on a thread of its own. `specs/Clients` says what it promises: change both together. [`PAUSE`] may
 //! have another number.
+ghost use Rattle.std.specs.Prelude.{map, string_bytes};
 ghost use Rattle.mw_server_pages.specs.Clients.{AreServed, IsServed, IsTurn};
 
 use crate::exchanges::exchange;
@@ -18,30 +19,36 @@ pub const PAUSE: u64 = 100;
 
 /// Serves each client that the listener gives, by one [`exchange`], as long as `open` is set. After `open` is cleared it asks
 /// the listener once more at most, and serves no client more than the one that it gives then. A client is let read its
-/// answer before its connection is closed.
+/// answer before its connection is closed. Clients may call the server by these names, as [`mw_http::hear`] says.
 pub fn serve_pages<L: StreamListener, P: Pages, R: Wait + Clock>(
     rt: &R,
     listener: &mut L,
     pages: &mut P,
+    names: &[String],
     open: &AtomicBool,
 )
-    ensures { AreServed L.accepts P.answered listener.old listener.new pages.old pages.new }
+    ensures { AreServed (map string_bytes names.now) L.accepts P.answered listener.old listener.new pages.old pages.new }
 {
     for _ in rt.forever() {
         if !open.load(Ordering::SeqCst) {
             return;
         }
-        serve_next(rt, listener, pages);
+        serve_next(rt, listener, pages, names);
     }
     unreachable!()
 }
 
 /// Asks the listener once, and serves the client that it gives.
-fn serve_next<L: StreamListener, P: Pages, R: Wait + Clock>(rt: &R, listener: &mut L, pages: &mut P)
-    ensures { (answer : _) × L.accepts listener.old answer listener.new × IsTurn P.answered pages.old answer pages.new }
+fn serve_next<L: StreamListener, P: Pages, R: Wait + Clock>(
+    rt: &R,
+    listener: &mut L,
+    pages: &mut P,
+    names: &[String],
+)
+    ensures { (answer : _) × L.accepts listener.old answer listener.new × IsTurn (map string_bytes names.now) P.answered pages.old answer pages.new }
 {
     match listener.accept() {
-        Ok(stream) => serve_client(rt, stream, pages),
+        Ok(stream) => serve_client(rt, stream, pages, names),
         // If the system has no room for a connection, a client that ends may soon make some.
         Err(_) => thread::sleep(rt, Duration::from_millis(PAUSE)),
     }
@@ -52,10 +59,11 @@ fn serve_client<T: PeerStream + Drop, P: Pages, R: Wait>(
     rt: &R,
     stream: RecordedStream<T>,
     pages: &mut P,
+    names: &[String],
 )
-    ensures { IsServed P.answered stream pages.old pages.new }
+    ensures { IsServed (map string_bytes names.now) P.answered stream pages.old pages.new }
 {
     let mut stream = stream;
-    exchange(rt, &mut stream, pages);
+    exchange(rt, &mut stream, pages, names);
     say_goodbye(rt, &mut stream);
 }

@@ -7,11 +7,11 @@ ghost use Rattle.mw_words.specs.declared.limits.TheConstants.{MAX_TENANTS};
 ghost use Rattle.mw_http.specs.Targets.{place_of};
 ghost use Rattle.mw_server_pages.specs.Calls.{Call};
 ghost use Rattle.mw_report.specs.Table.{AreWithinLimits};
-ghost use Rattle.mw_server_pages.specs.Shown.{Gives, IsBare, IsFile, IsHealth, IsMetrics, IsPageOf, IsStatus};
+ghost use Rattle.mw_server_pages.specs.Shown.{Gives, IsBare, IsFile, IsHealth, IsHealthOf, IsMetrics, IsPageOf, IsStatus};
 
 use crate::date::date_now;
 use crate::file_copies::{FileCopies, NoCopy};
-use crate::health::{are_up, health_text};
+use crate::health::{are_well, health_text};
 use crate::limits::{MAX_LIMITS, NearLimit};
 use crate::near::{Capacity, near_limits};
 use crate::pages::{Date, Page, Pages};
@@ -21,7 +21,7 @@ use crate::status::status_page;
 use crate::text::MAX_VERSION;
 use arrayvec::ArrayVec;
 use mw_http::{ContentType, Route, Status};
-use mw_metrics::{Meters, Stopwatch};
+use mw_metrics::{Meters, Stopwatch, TenantMetrics};
 use mw_report::Figures;
 use mw_session::Service;
 use std::alloc::{AllocError, Global};
@@ -95,7 +95,7 @@ impl<S: Service, F: FileCopies, R: AllocGlobal + Clock> Pages for ServerPages<'_
             Route::Health => {
                 let figures = self.service.figures();
                 self.samples.look(seconds, &figures, self.meters);
-                health(self.rt.alloc(), &figures)
+                health(self.rt.alloc(), self.meters, figures)
             }
             Route::Metrics => {
                 let figures = self.service.figures();
@@ -107,12 +107,13 @@ impl<S: Service, F: FileCopies, R: AllocGlobal + Clock> Pages for ServerPages<'_
                 self.samples.look(seconds, &figures, self.meters);
                 let recents = self.samples.recents(seconds, &figures);
                 let limits = near_limits(&figures, self.meters, self.capacity);
-                let version = &self.version;
+                let (alloc, version) = (self.rt.alloc(), &self.version);
                 status(
-                    self.rt.alloc(),
+                    alloc,
+                    self.meters,
                     version,
                     seconds,
-                    &figures,
+                    figures,
                     &limits,
                     &recents,
                 )
@@ -167,17 +168,28 @@ fn page_of(
     }
 }
 
-/// Tells whether all tenants are up, and which are not.
-fn health(alloc: Global, figures: &Figures) -> Page
-    requires { AreWithinLimits figures.now.tenants.items figures.now.pool_free }
-    ensures { IsHealth figures.now result }
+/// Tells whether all tenants are up and their files in their places, and which are not.
+fn health(alloc: Global, meters: &Meters, figures: Figures) -> Page
+    requires { AreWithinLimits figures.tenants.items figures.pool_free }
+    ensures { IsHealth figures result }
 {
-    let status = if are_up(&figures.tenants) {
+    match meters.counted(alloc, figures.tenants) {
+        Ok(tenants) => health_of(alloc, &tenants),
+        Err(_) => bare(alloc, Status::InternalError),
+    }
+}
+
+/// Tells whether all these tenants are well, and which are not.
+fn health_of(alloc: Global, tenants: &[TenantMetrics]) -> Page
+    requires { length tenants.now ≤ MAX_TENANTS }
+    ensures { IsHealthOf tenants.now result }
+{
+    let status = if are_well(tenants) {
         Status::Ok
     } else {
         Status::Unavailable
     };
-    let text = health_text(&figures.tenants);
+    let text = health_text(tenants);
     page_of(alloc, status, ContentType::Text, copied(alloc, &text))
 }
 
@@ -210,18 +222,24 @@ fn metrics<R: AllocGlobal + Clock>(
 /// Gives the status page.
 fn status(
     alloc: Global,
+    meters: &Meters,
     version: &Version,
     seconds: u64,
-    figures: &Figures,
+    figures: Figures,
     limits: &[NearLimit],
     recents: &[Recent],
 ) -> Page
-    requires limits { AreWithinLimits figures.now.tenants.items figures.now.pool_free }
+    requires limits { AreWithinLimits figures.tenants.items figures.pool_free }
     requires few_limits { length limits.now ≤ MAX_LIMITS }
     requires few_recents { length recents.now ≤ MAX_TENANTS }
-    ensures { IsStatus version.now.items figures.now result }
+    ensures { IsStatus version.now.items figures result }
 {
-    let (tenants, free) = (&figures.tenants, figures.pool_free);
-    let text = status_page(alloc, version, seconds, tenants, limits, recents, free);
+    let Figures { tenants, pool_free } = figures;
+    let Ok(tenants) = meters.counted(alloc, tenants) else {
+        return bare(alloc, Status::InternalError);
+    };
+    let text = status_page(
+        alloc, version, seconds, &tenants, limits, recents, pool_free,
+    );
     page_of(alloc, Status::Ok, ContentType::Html, text)
 }

@@ -9,13 +9,15 @@ ghost use Rattle.mw_server_pages.specs.declared.recents.TheConstants.{MAX_RECENT
 ghost use Rattle.mw_server_pages.specs.declared.tenant_rows.TheConstants.{MAX_ROW, MAX_DOWN_NAME};
 ghost use Rattle.mw_server_pages.specs.StatusPage as spec;
 
-use crate::health::are_up;
+use crate::health::are_well;
 use crate::limits::{MAX_LIMITS, NearLimit, put_limits};
 use crate::recents::{MAX_RECENT, Recent, put_recents};
 use crate::spans::put_span;
-use crate::tenant_rows::{MAX_DOWN_NAME, MAX_ROW, put_down_names, put_rows};
+use crate::tenant_rows::{
+    MAX_DOWN_NAME, MAX_ROW, are_kept, are_up, put_down_names, put_replaced_names, put_rows,
+};
 use crate::text::{MAX_PAGE, MAX_VERSION, Text};
-use mw_report::TenantFigures;
+use mw_metrics::TenantMetrics;
 use mw_words::MAX_TENANTS;
 use std::alloc::{AllocError, Global};
 
@@ -33,7 +35,7 @@ pub fn status_page(
     alloc: Global,
     version: &[u8],
     seconds: u64,
-    tenants: &[TenantFigures],
+    tenants: &[TenantMetrics],
     limits: &[NearLimit],
     recents: &[Recent],
     pool_free: u16,
@@ -95,32 +97,50 @@ fn put_about(text: &mut Text, version: &[u8], seconds: u64)
 }
 
 #[tactic(auto, unfolding(crate::specs::StatusPage::summary))]
-fn put_summary(text: &mut Text, tenants: &[TenantFigures])
+fn put_summary(text: &mut Text, tenants: &[TenantMetrics])
     requires few { length tenants.now ≤ MAX_TENANTS }
-    requires room { length text.old.bytes.items + (40 + MAX_TENANTS * MAX_DOWN_NAME) ≤ MAX_PAGE }
+    requires room { length text.old.bytes.items + 2 * (40 + MAX_TENANTS * MAX_DOWN_NAME) ≤ MAX_PAGE }
     ensures summary { text.new.bytes.items ≡ text.old.bytes.items ++ spec.summary tenants.now }
-    ensures room { length text.new.bytes.items ≤ length text.old.bytes.items + (40 + MAX_TENANTS * MAX_DOWN_NAME) }
+    ensures room { length text.new.bytes.items ≤ length text.old.bytes.items + 2 * (40 + MAX_TENANTS * MAX_DOWN_NAME) }
 {
-    if are_up(tenants) {
+    if are_well(tenants) {
         text.put(b"<p>All tenants are up.</p>\n");
     } else {
         put_down(text, tenants);
+        put_replaced(text, tenants);
     }
 }
 
-fn put_down(text: &mut Text, tenants: &[TenantFigures])
+#[tactic(auto, unfolding(crate::specs::StatusPage::down))]
+fn put_down(text: &mut Text, tenants: &[TenantMetrics])
     requires few { length tenants.now ≤ MAX_TENANTS }
     requires room { length text.old.bytes.items + (40 + MAX_TENANTS * MAX_DOWN_NAME) ≤ MAX_PAGE }
     ensures down { text.new.bytes.items ≡ text.old.bytes.items ++ spec.down tenants.now }
     ensures room { length text.new.bytes.items ≤ length text.old.bytes.items + (40 + MAX_TENANTS * MAX_DOWN_NAME) }
 {
-    text.put(b"<p><strong>Down:");
-    put_down_names(text, tenants);
-    text.put(b".</strong></p>\n");
+    if !are_up(tenants) {
+        text.put(b"<p><strong>Down:");
+        put_down_names(text, tenants);
+        text.put(b".</strong></p>\n");
+    }
+}
+
+#[tactic(auto, unfolding(crate::specs::StatusPage::replaced))]
+fn put_replaced(text: &mut Text, tenants: &[TenantMetrics])
+    requires few { length tenants.now ≤ MAX_TENANTS }
+    requires room { length text.old.bytes.items + (40 + MAX_TENANTS * MAX_DOWN_NAME) ≤ MAX_PAGE }
+    ensures replaced { text.new.bytes.items ≡ text.old.bytes.items ++ spec.replaced tenants.now }
+    ensures room { length text.new.bytes.items ≤ length text.old.bytes.items + (40 + MAX_TENANTS * MAX_DOWN_NAME) }
+{
+    if !are_kept(tenants) {
+        text.put(b"<p><strong>Replaced:");
+        put_replaced_names(text, tenants);
+        text.put(b".</strong></p>\n");
+    }
 }
 
 #[tactic(auto, unfolding(crate::specs::StatusPage::table))]
-fn put_table(text: &mut Text, tenants: &[TenantFigures])
+fn put_table(text: &mut Text, tenants: &[TenantMetrics])
     requires few { length tenants.now ≤ MAX_TENANTS }
     requires room { length text.old.bytes.items + (150 + MAX_TENANTS * MAX_ROW) ≤ MAX_PAGE }
     ensures table { text.new.bytes.items ≡ text.old.bytes.items ++ spec.table tenants.now }

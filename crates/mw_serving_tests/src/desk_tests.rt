@@ -121,8 +121,8 @@ where
 {
     let (tally, elsewhere) = (Tally::new(), Tally::new());
     let (watch, shelf) = (Count::new(), Mutex::new(Shelf::new(2)));
-    let (own, closer, port) = open(rt, "127.0.0.1:0", NO_LIMITS, row.refusals, &tally)?;
-    let (others, _, other_port) = open(rt, "127.0.0.1:0", NO_LIMITS, 0, &elsewhere)?;
+    let (own, closer, port) = open(rt, "127.0.0.1:0", NO_LIMITS, None, row.refusals, &tally)?;
+    let (others, _, other_port) = open(rt, "127.0.0.1:0", NO_LIMITS, None, 0, &elsewhere)?;
     let site = Site {
         place: Place::Port(port.unwrap_or(0)),
         elsewhere: Place::Port(other_port.unwrap_or(0)),

@@ -77,18 +77,20 @@ impl<'a, K: Clock + Sync> Listener for Door<'a, K> {
 /// A door, what ends its wait for a client, and its port, if it has one.
 pub type Opened<'a, R> = (Door<'a, R>, Closer, Option<u16>);
 
-/// Opens a door at an address, which has no room for so many calls first.
+/// Opens a door at an address, which has no room for so many calls first. The sessions of its clients end after so many lines
+/// with a fault, if there is a number.
 pub fn open<'a, R>(
     rt: &'a R,
     address: &str,
     limits: TimeLimits,
+    faults: Option<u32>,
     refusals: u32,
     tally: &'a Tally,
 ) -> io::Result<Opened<'a, R>>
 where
     R: Files<File = File> + Net<Listener = TcpListener, Stream = TcpStream>,
 {
-    let clients = listen_at(rt, address, OWNER_AND_GROUP, limits)?;
+    let clients = listen_at(rt, address, OWNER_AND_GROUP, limits)?.with_faults(faults);
     let closer = clients.closer()?;
     let port = port_of(&clients)?;
     let door = Door {

@@ -13,6 +13,8 @@ pub struct Row {
     pub name: &'static str,
     pub shop: Shop,
     pub limits: TimeLimits,
+    /// After how many lines with a fault a session ends.
+    pub faults: Option<u32>,
     pub steps: &'static [Step],
 }
 
@@ -70,11 +72,12 @@ const THOUGHT: u64 = 1500;
 const WAIT: u64 = 1990;
 
 /// Clients over TCP.
-pub static OVER_TCP: [Row; 8] = [
+pub static OVER_TCP: [Row; 10] = [
     Row {
         name: "one client after the other: the second begins when the session of the first has ended, which closes its side later",
         shop: TWO,
         limits: NO_LIMITS,
+        faults: None,
         steps: &[
             Step::Comes,
             Step::Does(0, BINDS),
@@ -97,6 +100,7 @@ pub static OVER_TCP: [Row; 8] = [
             wait: None,
         },
         limits: NO_LIMITS,
+        faults: None,
         steps: &[
             Step::Comes,
             Step::Comes,
@@ -141,6 +145,7 @@ pub static OVER_TCP: [Row; 8] = [
             silence: Some(1),
             line: None,
         },
+        faults: None,
         steps: &[
             Step::Comes,
             Step::Does(0, BINDS),
@@ -154,6 +159,7 @@ pub static OVER_TCP: [Row; 8] = [
         name: "who sends on after the end of its session is left, and the next one is served meanwhile",
         shop: TWO,
         limits: NO_LIMITS,
+        faults: None,
         steps: &[
             Step::Comes,
             Step::Does(0, Act::Asks(b"QUIT\n", b"BYE\n")),
@@ -170,6 +176,7 @@ pub static OVER_TCP: [Row; 8] = [
             silence: Some(50),
             line: Some(LINE),
         },
+        faults: None,
         steps: &[
             Step::Comes,
             Step::Does(0, BINDS),
@@ -200,6 +207,7 @@ pub static OVER_TCP: [Row; 8] = [
             silence: Some(50),
             line: Some(1),
         },
+        faults: None,
         steps: &[
             Step::Comes,
             Step::Passes(THOUGHT),
@@ -220,6 +228,7 @@ pub static OVER_TCP: [Row; 8] = [
             wait: Some(2),
         },
         limits: NO_LIMITS,
+        faults: None,
         steps: &[
             Step::Comes,
             Step::Does(0, BINDS),
@@ -248,6 +257,7 @@ pub static OVER_TCP: [Row; 8] = [
             wait: Some(50),
         },
         limits: NO_LIMITS,
+        faults: None,
         steps: &[
             Step::Comes,
             Step::Does(0, BINDS),
@@ -264,6 +274,45 @@ pub static OVER_TCP: [Row; 8] = [
             Step::Leaves(1),
             Step::Does(2, Act::Hears(b"OK 2\nVAL 1\nBYE\n")),
             Step::Does(2, Act::Ends),
+        ],
+    },
+    Row {
+        name: "after one fault nothing more of what a web page posts is looked at, and the next client is served",
+        shop: TWO,
+        limits: NO_LIMITS,
+        faults: Some(1),
+        steps: &[
+            Step::Comes,
+            Step::Does(
+                0,
+                Act::Asks(b"POST / HTTP/1.1\r\n\r\nTENANT t\nCAS 0:0:1\n", b"ERR 2\n"),
+            ),
+            Step::Does(0, Act::Ends),
+            Step::Comes,
+            Step::Does(1, LOOKS),
+            Step::Does(1, Act::Ends),
+        ],
+    },
+    Row {
+        name: "lines are answered until the second fault, also those that come with it",
+        shop: TWO,
+        limits: NO_LIMITS,
+        faults: Some(2),
+        steps: &[
+            Step::Comes,
+            Step::Does(0, BINDS),
+            Step::Does(
+                0,
+                Act::Asks(
+                    b"GET 2\nCAS 0:0:1\nGET 0\nTENANT t\nCAS 0:1:0\n",
+                    b"ERR 6\nYES\nVAL 1\nERR 4\n",
+                ),
+            ),
+            Step::Does(0, Act::Ends),
+            Step::Comes,
+            Step::Does(1, BINDS),
+            Step::Does(1, Act::Asks(b"GET 0\nQUIT\n", b"VAL 1\nBYE\n")),
+            Step::Does(1, Act::Ends),
         ],
     },
 ];
@@ -283,18 +332,21 @@ pub static BY_LOCAL_SOCKET: [Row; 4] = [
         name: "a local socket",
         shop: TWO,
         limits: NO_LIMITS,
+        faults: None,
         steps: IS_SERVED,
     },
     Row {
         name: "a local socket that was left is taken over",
         shop: TWO,
         limits: NO_LIMITS,
+        faults: None,
         steps: IS_SERVED,
     },
     Row {
         name: "who takes no replies, and stays, is sent away, and the next one is served",
         shop: THREE,
         limits: ONE_SECOND,
+        faults: None,
         steps: &[
             Step::Comes,
             Step::Does(0, BINDS),
@@ -308,6 +360,7 @@ pub static BY_LOCAL_SOCKET: [Row; 4] = [
         name: "who takes a byte of its replies now and then, and far too few, is sent away, and the next one is served meanwhile",
         shop: THREE,
         limits: ONE_SECOND,
+        faults: None,
         steps: &[
             Step::Comes,
             Step::Does(0, BINDS),

@@ -35,7 +35,7 @@ where
         + Sync,
 {
     let tally = Tally::new();
-    let (door, _, port) = open(rt, address, row.limits, 0, &tally)?;
+    let (door, _, port) = open(rt, address, row.limits, row.faults, 0, &tally)?;
     let (place, kept) = match port {
         Some(port) => (Place::Port(port), true),
         None => (Place::Path(path), is_kept(rt, path, address)?),

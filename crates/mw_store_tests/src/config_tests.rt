@@ -1,9 +1,8 @@
 //! Tests how a tenants file and a command line are read: what is accepted, and the text of each refusal.
 //!
 //! Nothing else uses it: it may change with what it tests.
-use crate::same::{MEMORY, same, same_text};
+use crate::same::{MEMORY, holds, same, same_text};
 use mw_config::*;
-use std::alloc::{AllocError, Global};
 use std::process::Abort;
 
 /// Gives how many tenants a text has.
@@ -34,7 +33,11 @@ fn are_two_lines(lines: &[TenantLine]) -> bool {
 #[test]
 fn lines_are_told(rt: HostRuntime) {
     let lines = read_tenants(b"t-0 4096 64 ./a.mw\nu 1 1 ~!\n", 65);
-    assert!(rt; matches!(&lines, Ok(lines) if are_two_lines(lines.as_slice())));
+    let are_so = match &lines {
+        Ok(lines) => are_two_lines(lines.as_slice()),
+        Err(_) => false,
+    };
+    holds(&rt, "two lines", are_so);
 }
 
 /// The lines of sixteen tenants.
@@ -122,16 +125,23 @@ fn cut_tenants(rt: HostRuntime) {
     }
 }
 
+/// Puts these bytes at an offset of a text, as far as there is room. Gives the offset after them.
+fn put(text: &mut [u8; 256], at: usize, bytes: &[u8]) -> usize {
+    let mut end = at;
+    for byte in bytes {
+        if end < 256 {
+            text[end] = *byte;
+            end += 1;
+        }
+    }
+    end
+}
+
 /// Reads sixteen lines and this one.
 fn seventeen(line: &str) -> Result<usize, Refusal> {
     let mut text = [b' '; 256];
-    let mut length = 0;
-    for byte in SIXTEEN.as_bytes().iter().chain(line.as_bytes()) {
-        if let Some(place) = text.get_mut(length) {
-            *place = *byte;
-            length += 1;
-        }
-    }
+    let length = put(&mut text, 0, SIXTEEN.as_bytes());
+    let length = put(&mut text, length, line.as_bytes());
     count(text.get(..length).unwrap_or(b"?"), 0)
 }
 
@@ -266,65 +276,73 @@ fn texts_of_refusals(rt: HostRuntime) {
     }
 }
 
-/// Splits a command line at its spaces.
-fn words_of(alloc: Global, line: &str) -> Result<Vec<String>, AllocError> {
-    let mut words = Vec::new(alloc);
-    for word in line.split(' ') {
-        words.push(String::from_str(alloc, word)?)?;
-    }
-    Ok(words)
+/// Gives an owned text.
+fn owned<R: Abort + AllocGlobal>(rt: &R, text: &str) -> String {
+    String::from_str(rt.alloc(), text).expect(rt, MEMORY)
 }
 
-/// Gives the text of the rule that a command line's options break, or that the line is refused.
-fn told(alloc: Global, fault: &ArgFault) -> Result<String, AllocError> {
+/// Splits a command line at its spaces.
+fn words_of<R: Abort + AllocGlobal>(rt: &R, line: &str) -> Vec<String> {
+    let mut words = Vec::new(rt.alloc());
+    for word in line.split(' ') {
+        words.push(owned(rt, word)).expect(rt, MEMORY);
+    }
+    words
+}
+
+/// Gives the text of the rule that a command line's options break, that the line is refused, or that memory is.
+fn told<R: Abort + AllocGlobal>(rt: &R, fault: &ArgFault) -> String {
     match fault {
-        ArgFault::Refused(_) => String::from_str(alloc, "refused"),
-        ArgFault::Mode(_) => format!(in alloc; "{fault}"),
-        ArgFault::Memory => Err(AllocError),
+        ArgFault::Refused(_) => owned(rt, "refused"),
+        ArgFault::Mode(_) => format!(in rt.alloc(); "{fault}").expect(rt, MEMORY),
+        ArgFault::Memory => owned(rt, MEMORY),
     }
 }
 
 /// Reads a command line. Gives what it asks for, or what is told of its fault.
-fn read(alloc: Global, line: &str) -> Result<String, AllocError> {
-    match read_args(alloc, &words_of(alloc, line)?) {
-        Ok(args) => format!(in alloc; "{args:?}"),
-        Err(fault) => told(alloc, &fault),
+fn read<R: Abort + AllocGlobal>(rt: &R, line: &str) -> String {
+    match read_args(rt.alloc(), &words_of(rt, line)) {
+        Ok(args) => format!(in rt.alloc(); "{args:?}").expect(rt, MEMORY),
+        Err(fault) => told(rt, &fault),
     }
 }
 
 /// Each of these command lines, one a line, gives this.
 fn each_gives<R: Abort + AllocGlobal>(rt: &R, wanted: &str, lines: &str) {
     for line in lines.split('\n') {
-        let given = read(rt.alloc(), line).expect(rt, MEMORY);
-        same_text(rt, line, given.as_str(), wanted);
+        same_text(rt, line, read(rt, line).as_str(), wanted);
     }
 }
 
 /// What command lines ask for, and these lines.
-const ACCEPTED: [(&str, &str); 6] = [
+const ACCEPTED: [(&str, &str); 7] = [
     (
         "Args { tenants: \"t\", pool: 256, workers: 4, strict: false, verbose: false, mode: Script(\"s\") }",
         "mwserve --tenants t --script s",
     ),
     (
-        "Args { tenants: \"t\", pool: 256, workers: 4, strict: false, verbose: false, mode: Listen(Listening { address: \"a:1\", admin: None, http: None, connections: None, shared: None, wait: None, idle: None, line_time: None, socket_mode: 384 }) }",
+        "Args { tenants: \"t\", pool: 256, workers: 4, strict: false, verbose: false, mode: Listen(Listening { address: \"a:1\", admin: None, http: None, http_names: [], connections: None, shared: None, wait: None, idle: None, line_time: None, faults: None, open: false, socket_mode: 384 }) }",
         "mwserve --listen a:1 --tenants t",
     ),
     (
-        "Args { tenants: \"t\", pool: 1, workers: 64, strict: false, verbose: false, mode: Listen(Listening { address: \"a:1\", admin: None, http: None, connections: Some(1000000), shared: None, wait: None, idle: Some(86400), line_time: Some(86400), socket_mode: 511 }) }",
+        "Args { tenants: \"t\", pool: 1, workers: 64, strict: false, verbose: false, mode: Listen(Listening { address: \"a:1\", admin: None, http: None, http_names: [], connections: Some(1000000), shared: None, wait: None, idle: Some(86400), line_time: Some(86400), faults: None, open: false, socket_mode: 511 }) }",
         "mwserve --tenants t --pool 1 --workers 64 --listen a:1 --connections 1000000 --idle 86400 --mode 777",
     ),
     (
-        "Args { tenants: \"t\", pool: 256, workers: 1, strict: true, verbose: true, mode: Listen(Listening { address: \"a:1\", admin: Some(\"a:2\"), http: None, connections: Some(1), shared: None, wait: None, idle: Some(1), line_time: Some(1), socket_mode: 432 }) }",
+        "Args { tenants: \"t\", pool: 256, workers: 1, strict: true, verbose: true, mode: Listen(Listening { address: \"a:1\", admin: Some(\"a:2\"), http: None, http_names: [], connections: Some(1), shared: None, wait: None, idle: Some(1), line_time: Some(1), faults: None, open: false, socket_mode: 432 }) }",
         "mwserve --tenants t --pool=256 --workers=1 --listen=a:1 --connections=1 --strict --idle=1 --admin=a:2 --verbose --mode=0660",
     ),
     (
-        "Args { tenants: \"t\", pool: 256, workers: 2, strict: false, verbose: false, mode: Listen(Listening { address: \"a:1\", admin: None, http: Some(\"unix:h\"), connections: None, shared: Some(SharedWorkers { clients: 1, readers: 1 }), wait: Some(1), idle: None, line_time: Some(86400), socket_mode: 384 }) }",
+        "Args { tenants: \"t\", pool: 256, workers: 2, strict: false, verbose: false, mode: Listen(Listening { address: \"a:1\", admin: None, http: Some(\"unix:h\"), http_names: [], connections: None, shared: Some(SharedWorkers { clients: 1, readers: 1 }), wait: Some(1), idle: None, line_time: Some(86400), faults: None, open: false, socket_mode: 384 }) }",
         "mwserve --tenants t --workers 2 --listen a:1 --clients 1 --wait 1 --line-time 86400 --http unix:h",
     ),
     (
-        "Args { tenants: \"t\", pool: 256, workers: 64, strict: false, verbose: false, mode: Listen(Listening { address: \"a:1\", admin: None, http: None, connections: None, shared: Some(SharedWorkers { clients: 4096, readers: 63 }), wait: Some(86400), idle: Some(9), line_time: Some(2), socket_mode: 384 }) }",
+        "Args { tenants: \"t\", pool: 256, workers: 64, strict: false, verbose: false, mode: Listen(Listening { address: \"a:1\", admin: None, http: None, http_names: [], connections: None, shared: Some(SharedWorkers { clients: 4096, readers: 63 }), wait: Some(86400), idle: Some(9), line_time: Some(2), faults: None, open: false, socket_mode: 384 }) }",
         "mwserve --tenants t --workers 64 --listen a:1 --clients 4096 --readers 63 --wait 86400 --idle 9 --line-time 2",
+    ),
+    (
+        "Args { tenants: \"t\", pool: 256, workers: 4, strict: false, verbose: false, mode: Listen(Listening { address: \"a:1\", admin: None, http: Some(\"a:2\"), http_names: [\"w\", \"W-1.example\"], connections: None, shared: None, wait: None, idle: None, line_time: None, faults: Some(1000000), open: true, socket_mode: 384 }) }",
+        "mwserve --tenants t --listen a:1 --http a:2 --http-name w --open --faults 1000000 --http-name=W-1.example",
     ),
 ];
 
@@ -336,7 +354,7 @@ fn command_lines_that_are_accepted(rt: HostRuntime) {
 }
 
 /// The texts of rules of the options, and command lines that break them, one a line. Others are refused.
-const REFUSED: [(&str, &str); 6] = [
+const REFUSED: [(&str, &str); 8] = [
     (
         "mwserve: refused 1 command\nmwserve: give exactly one of --listen and --script",
         "\
@@ -357,7 +375,22 @@ mwserve --tenants t --script s --mode 8
 mwserve --tenants t --script s --clients 1
 mwserve --tenants t --script s --readers 1
 mwserve --tenants t --script s --wait 1
-mwserve --tenants t --script s --line-time 1",
+mwserve --tenants t --script s --line-time 1
+mwserve --tenants t --script s --faults 1
+mwserve --tenants t --script s --open
+mwserve --tenants t --script s --http-name a",
+    ),
+    (
+        "mwserve: refused 1 command\nmwserve: --http-name needs --http",
+        "mwserve --tenants t --listen a --http-name a",
+    ),
+    (
+        "mwserve: refused 1 command\nmwserve: --http-name is a name of letters, digits, dots and hyphens, without a port, and comes at most 16 times",
+        "\
+mwserve --tenants t --listen a --http b --http-name a:1
+mwserve --tenants t --listen a --http b --http-name a --http-name=
+mwserve --tenants t --listen a --http b --http-name a_b
+mwserve --tenants t --listen a --http b --http-name=a --http-name=a --http-name=a --http-name=a --http-name=a --http-name=a --http-name=a --http-name=a --http-name=a --http-name=a --http-name=a --http-name=a --http-name=a --http-name=a --http-name=a --http-name=a --http-name=a",
     ),
     (
         "mwserve: refused 1 command\nmwserve: --readers needs --clients",
@@ -405,6 +438,8 @@ mwserve --tenants t --listen a --wait 0
 mwserve --tenants t --listen a --wait 86401
 mwserve --tenants t --listen a --line-time 0
 mwserve --tenants t --listen a --line-time 86401
+mwserve --tenants t --listen a --faults 0
+mwserve --tenants t --listen a --faults 1000001
 mwserve --tenants t --script s --what
 mwserve --tenants t --script s more";
 
@@ -417,8 +452,7 @@ fn command_lines_that_break_a_rule(rt: HostRuntime) {
 
 /// Gives what the program writes if it is asked for its help.
 fn help<R: Abort + AllocGlobal>(rt: &R) -> String {
-    let words = words_of(rt.alloc(), "mwserve --help").expect(rt, MEMORY);
-    let fault = read_args(rt.alloc(), &words).expect_err(rt, "a fault");
+    let fault = read_args(rt.alloc(), &words_of(rt, "mwserve --help")).expect_err(rt, "a fault");
     format!(in rt.alloc(); "{fault}").expect(rt, MEMORY)
 }
 
@@ -439,6 +473,9 @@ const OPTIONS: &str = "\
 --wait <SECONDS>
 --idle <SECONDS>
 --line-time <SECONDS>
+--http-name <NAME>
+--faults <F>
+--open
 --mode <MODE>
 --verbose";
 
@@ -446,6 +483,6 @@ const OPTIONS: &str = "\
 fn the_help_names_each_option(rt: HostRuntime) {
     let help = help(&rt);
     for option in OPTIONS.split('\n') {
-        assert!(rt; help.as_str().contains(option), "{option}");
+        holds(&rt, option, help.as_str().contains(option));
     }
 }

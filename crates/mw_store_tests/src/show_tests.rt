@@ -2,13 +2,12 @@
 //!
 //! Nothing else uses it: it may change with what it tests.
 
-use crate::same::{MEMORY, same, same_text};
+use crate::same::{MEMORY, holds, same, same_text};
 use mw_record::{header, header2, size, size2};
 use mw_show::{show, show_args, show_file};
 use std::fs::File;
 use std::process::Abort;
-use std::rt::Files;
-use std::test::Fail;
+use std::rt::{Env, Files};
 use std::{env, fs, process};
 
 /// Makes the bytes of a new file with 2 words, from byte 32, and 2 record places, from bytes 48 and 184.
@@ -172,12 +171,12 @@ fn outcome_of<R: Abort + AllocGlobal + Files<File = File>>(rt: &R, args: &[Strin
     }
 }
 
-/// Gives the path of a test's own file.
-fn path_of(rt: &HostRuntime, name: &str) -> Result<String, Fail> {
-    let id = process::id(rt.process());
-    let name = format!(in rt.alloc(); "mwshow-{name}-{id}")?;
-    let path = env::temp_dir(rt)?.join(rt.alloc(), name.as_str())?;
-    Ok(String::from_str(rt.alloc(), path.as_path().as_str())?)
+/// Gives the path of a test's own file, in the process of this number.
+fn path_of<R: Abort + AllocGlobal + Env>(rt: &R, id: u32, name: &str) -> String {
+    let name = format!(in rt.alloc(); "mwshow-{name}-{id}").expect(rt, MEMORY);
+    let folder = env::temp_dir(rt).expect(rt, MEMORY);
+    let path = folder.join(rt.alloc(), name.as_str()).expect(rt, MEMORY);
+    String::from_str(rt.alloc(), path.as_path().as_str()).expect(rt, MEMORY)
 }
 
 /// A file that the program is run on, and what it must give.
@@ -195,7 +194,7 @@ struct Row {
     err: &'static str,
 }
 
-const ROWS: [Row; 3] = [
+static ROWS: [Row; 3] = [
     Row {
         name: "file",
         changes: "40=7",
@@ -228,7 +227,7 @@ const ROWS: [Row; 3] = [
 /// Opens a file as a server does, which locks it.
 fn locked<R: Abort + Files<File = File>>(rt: &R, path: &str) -> File {
     let server = File::open(rt, path).expect(rt, "a file");
-    assert!(rt; server.try_lock().is_ok());
+    holds(rt, path, server.try_lock().is_ok());
     server
 }
 
@@ -256,14 +255,14 @@ fn run_row<R: Abort + AllocGlobal + Files<File = File>>(rt: &R, row: Row, path: 
 }
 
 #[test]
-fn runs_of_the_program(rt: HostRuntime) -> Result<(), Fail> {
-    for row in ROWS {
-        let path = path_of(&rt, row.name)?;
-        run_row(&rt, row, path.as_str());
+fn runs_of_the_program(rt: HostRuntime) {
+    let id = process::id(rt.process());
+    for row in &ROWS {
+        let path = path_of(&rt, id, row.name);
+        run_row(&rt, *row, path.as_str());
     }
     let folder = run(&rt, &["mwshow", "."]);
     folder.is(&rt, "a folder", 1, "", "mwshow: not a plain file\n");
-    Ok(())
 }
 
 #[test]

@@ -6,7 +6,7 @@
 #![tactic(auto)]
 
 use mw_main::{Program, run};
-use mw_programs::serve;
+use mw_programs::{PromptErrors, serve};
 use std::process::ExitCode;
 
 const PROGRAM: Program = Program {
@@ -17,6 +17,7 @@ const PROGRAM: Program = Program {
 
 fn main(rt: HostRuntime) -> ExitCode {
     run(&rt, &PROGRAM, |args| {
-        serve(&rt, args, &mut rt.stdout(), &mut rt.stderr())
+        let mut errors = PromptErrors::new(rt.stderr());
+        serve(&rt, args, &mut rt.stdout(), &mut errors)
     })
 }

@@ -1,5 +1,6 @@
 -- What a fresh server of http1 reads or refuses is what is heard.
-use Rattle.std.proofs.Common.{ap, ◌∙◌, Some}
+use Rattle.std.proofs.Common.{ap, ◌∙◌, Some, map}
+use Rattle.std.specs.Prelude.{string_bytes}
 use Rattle.std.proofs.Common.{inr}
 use Rattle.mw_http.specs.Hearing.{Answer}
 use Rattle.mw_http.proofs.ReadHeads.{whole_head, no_head, none_at_front}
@@ -7,7 +8,7 @@ use Rattle.mw_http.proofs.hearing.hear.Goals as goal
 
 pub returns-in-Head-clause-whole : goal.returns-in-Head-clause-whole
 returns-in-Head-clause-whole c h framing rest accepted few =
-    c.answer.ensures ∙ ap (λ (a : Answer). Some a) (whole_head c.new-server.result c.args.bytes.now c.read.new.headers c.read.new.self c.in-Ok.read c.in-Head.head
+    c.answer.ensures ∙ ap (λ (a : Answer). Some a) (whole_head (map string_bytes c.args.names.now) c.new-server.result c.args.bytes.now c.read.new.headers c.read.new.self c.in-Ok.read c.in-Head.head
     c.new-server.ensures c.in-Ok.ensures.ok c.in-Head.is h framing rest accepted)
 
 pub returns-in-Err-clause-heard : goal.returns-in-Err-clause-heard

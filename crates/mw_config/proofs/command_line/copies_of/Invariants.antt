@@ -1,0 +1,8 @@
+-- States what stays true from turn to turn in the loop of `copies_of` (src/command_line.rt). Used by: the proof of that function
+-- alone. It may change freely as long as this crate checks.
+use Rattle.std.proofs.Common.{◌≡◌, vec_len}
+use Rattle.mw_config.proofs.command_line.copies_of.Given as goal
+
+-- there is a copy of each name so far
+abbrev pub invariant-loop-name : goal.invariant-loop-name
+invariant-loop-name l = vec_len l.copies ≡ l.name-index

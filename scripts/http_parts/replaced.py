@@ -1,0 +1,83 @@
+"""A tenant's file that is cut, overwritten, replaced or removed while the server serves it: what is noted, what the pages say, how a
+copy of it is answered, and the next change.
+
+Used by: scripts/check-backup.
+"""
+import os
+from pathlib import Path
+from typing import Callable, NamedTuple
+
+from .server import Client, Server, figures, get, same
+
+TENANTS = (("a", 3, 1), ("b", 5, 2))
+LEFT = 100
+"""How many bytes are left of a file that is cut."""
+FRONT = 64
+"""How many bytes are written over its front."""
+FILE = "/tenants/a/file"
+
+
+class Harm(NamedTuple):
+    """What is done to a file, and whether a copy tells of it before the server has looked at its path."""
+    name: str
+    do: Callable[[Path], None]
+    is_seen: bool
+
+
+def overwrite(path: Path) -> None:
+    """Writes over the front of a file, in place."""
+    with open(path, "r+b") as file:
+        file.write(b"x" * FRONT)
+
+
+def replace(path: Path) -> None:
+    """Puts a copy in the place of a file."""
+    copy = path.with_suffix(".copy")
+    copy.write_bytes(path.read_bytes())
+    copy.rename(path)
+
+
+HARMS = (Harm("cut", lambda path: os.truncate(path, LEFT), True), Harm("overwritten", overwrite, True),
+         Harm("replaced", replace, False), Harm("removed", lambda path: path.unlink(), False))
+
+
+def harmed_files(program: Path, folder: Path) -> str:
+    """The file of the tenant a is harmed in each way, while a server has it, and one that is strict; before the note is waited for,
+    copies are asked for, or none. What was tried."""
+    for harm in HARMS:
+        for is_strict in (False, True):
+            for copies in (0, 2) if harm.is_seen else (0,):
+                try_harm(program, folder, harm, is_strict, copies)
+    return "served files that are cut, overwritten, replaced and removed: noted, on each page, no copy, and with --strict no change"
+
+
+def try_harm(program: Path, folder: Path, harm: Harm, is_strict: bool, copies: int) -> None:
+    """A server whose tenant a has its file harmed, of which so many copies are asked for at once."""
+    what = f"a file that was {harm.name}, {'strict' if is_strict else 'not strict'}, {copies} copies before the note"
+    with Server(program, folder, TENANTS).start("--clients", "4", *(["--strict"] if is_strict else [])) as server:
+        client, other = Client(server.port, "a"), Client(server.port, "b")
+        same(client.ask("CAS 0:0:1"), "YES", f"a change before, {what}")
+        same((get(server.pages, FILE).status, get(server.pages, "/healthz").body), (200, b"ok\n"), f"a copy and health before, {what}")
+        harm.do(folder / "a.mw")
+        same([get(server.pages, FILE).status for _ in range(copies)], [500] * copies, f"copies, {what}")
+        same(server.note(), "tenant a: replaced\n", f"the note, {what}")
+        same_pages(server, is_strict, what)
+        same(client.ask("CAS 0:1:2"), "FAULT" if is_strict else "YES", f"the next change, {what}")
+        same_pages(server, is_strict, f"{what}, after a change")
+        same(other.ask("CAS 0:0:1"), "YES", f"a change of another tenant, {what}")
+        same([get(server.pages, f"/tenants/{name}/file").status for name in "ab"], [503 if is_strict else 500, 200], f"copies, {what}")
+        client.close()
+        other.close()
+        same(server.end(), "tenant a: failed\n" if is_strict else "", f"further notes, {what}")
+
+
+def same_pages(server: Server, is_strict: bool, what: str) -> None:
+    """What the pages say of the tenant a, whose file is known to be harmed."""
+    word = "down" if is_strict else "replaced"
+    health, told = get(server.pages, "/healthz"), figures(server.pages)
+    same((health.status, health.body), (503, f"{word} a\n".encode()), f"/healthz, {what}")
+    same([told.of("mondlexi_file_replaced", tenant=name) for name in "ab"], [1, 0], f"mondlexi_file_replaced, {what}")
+    same([told.of("mondlexi_up", tenant=name) for name in "ab"], [0 if is_strict else 1, 1], f"mondlexi_up, {what}")
+    page = get(server.pages, "/").body.decode()
+    for part in (f"{word.title()}: a.", f"<td>a</td><td>{word}</td>", "<td>b</td><td>up</td>"):
+        same(part in page, True, f"the status page has {part!r}, {what}")
