@@ -1,13 +1,11 @@
 //! Tests files that fail while they are served, a script that can't be read on, and addresses that have no room for
-//! connections, as `faulty_runtime` makes them.
+//! connections, as `FaultyRuntime` makes them.
 //!
-//! Nothing else uses it: it may change with what it tests.
-use crate::faulty_runtime::FaultyRuntime;
-use crate::player::{Story, play};
-use std::test::Fail;
+//! Used by: `stories`. It may change with what it tests.
+use crate::player::Story;
 
 /// Servers of which some calls fail.
-static FAULTS: [Story; 2] = [
+pub(crate) static FAULTS: [Story; 2] = [
     // A script opens and can't be read. The server ends with status 1, and no text. Nothing was changed.
     Story {
         name: "unread-script",
@@ -32,8 +30,3 @@ mwserve --tenants DIR/tenants --listen 127.0.0.2:0 --connections 3 --verbose
 ends 0 |mwserve: no room for connections;127.0.0.2:0: Resource temporarily unavailable (os error 11);",
     },
 ];
-
-#[test]
-fn calls_that_fail(rt: HostRuntime) -> Result<(), Fail> {
-    play(&FaultyRuntime::new(&rt), &rt, &FAULTS)
-}

@@ -13,70 +13,58 @@ use crate::stage::Stage;
 use crate::talks::play_talk;
 use std::fs::{self, File, OpenOptions};
 use std::io::{self, ErrorKind};
-use std::net::{Net, TcpListener, TcpStream};
 use std::os::unix::fs::symlink;
-use std::rt::Files;
-use std::time::Clock;
 
 /// Plays a line that changes files, or else one that looks. Gives true if what it says has happened.
-pub(crate) fn play_file<R>(
-    rt: &R,
-    stage: &mut Stage<'_>,
-    verb: &str,
-    rest: &str,
-) -> io::Result<bool>
-where
-    R: Files<File = File> + AllocGlobal + Net<Listener = TcpListener, Stream = TcpStream> + Clock,
-{
+pub(crate) fn play_file(stage: &mut Stage<'_>, verb: &str, rest: &str) -> io::Result<bool> {
+    let host = stage.host;
     let (name, other) = rest.split_once(' ').unwrap_or((rest, ""));
     let path = stage.path(name)?;
     let path = path.as_str();
     match verb {
-        "write" => fs::write(rt, path, stage.spelled(other)?.as_str())?,
-        "nine" => fs::write(rt, path, file_of_nine_entries().as_slice())?,
-        "rename" => fs::rename(rt, path, stage.path(other)?.as_str())?,
-        "remove" => fs::remove_file(rt, path)?,
-        "cut" => cut(rt, path)?,
-        "hard" => fs::hard_link(rt, path, stage.path(other)?.as_str())?,
-        "soft" => symlink(rt, stage.spelled(other)?.as_str(), path)?,
-        "hold" => stage.held = Some(locked(rt, path)?),
+        "write" => fs::write(host, path, stage.spelled(other)?.as_str())?,
+        "nine" => fs::write(host, path, file_of_nine_entries().as_slice())?,
+        "rename" => fs::rename(host, path, stage.path(other)?.as_str())?,
+        "remove" => fs::remove_file(host, path)?,
+        "cut" => cut(host, path)?,
+        "hard" => fs::hard_link(host, path, stage.path(other)?.as_str())?,
+        "soft" => symlink(host, stage.spelled(other)?.as_str(), path)?,
+        "hold" => stage.held = Some(locked(host, path)?),
         "release" => stage.held = None,
-        _ => return play_look(rt, stage, verb, rest),
+        _ => return play_look(stage, verb, rest),
     }
     Ok(true)
 }
 
 /// Makes a file shorter than it is.
-fn cut<R: Files<File = File>>(rt: &R, path: &str) -> io::Result<()> {
+fn cut(host: &HostRuntime, path: &str) -> io::Result<()> {
     let mut options = OpenOptions::new();
     options.write(true);
-    options.open(rt, path)?.set_len(100)
+    options.open(host, path)?.set_len(100)
 }
 
 /// Opens a file and locks it. The lock is released when the file is closed.
-fn locked<R: Files<File = File>>(rt: &R, path: &str) -> io::Result<File> {
-    let file = File::open(rt, path)?;
+fn locked(host: &HostRuntime, path: &str) -> io::Result<File> {
+    let file = File::open(host, path)?;
     file.try_lock()?;
     Ok(file)
 }
 
 /// Plays a line that looks at a file, or else one that a client says or hears. Gives true if what it says holds.
-fn play_look<R>(rt: &R, stage: &mut Stage<'_>, verb: &str, rest: &str) -> io::Result<bool>
-where
-    R: Files<File = File> + AllocGlobal + Net<Listener = TcpListener, Stream = TcpStream> + Clock,
-{
+fn play_look(stage: &mut Stage<'_>, verb: &str, rest: &str) -> io::Result<bool> {
+    let host = stage.host;
     let (name, other) = rest.split_once(' ').unwrap_or((rest, ""));
     let path = stage.path(name)?;
     let path = path.as_str();
     match verb {
-        "new" => Ok(fs::read(rt, path)?.as_slice() == new_file().as_slice()),
-        "has" => Ok(fs::read(rt, path)?.as_slice() == stage.spelled(other)?.as_bytes()),
-        "size" => Ok(other.parse() == Ok(fs::metadata(rt, path)?.len())),
-        "absent" => match fs::symlink_metadata(rt, path) {
+        "new" => Ok(fs::read(host, path)?.as_slice() == new_file().as_slice()),
+        "has" => Ok(fs::read(host, path)?.as_slice() == stage.spelled(other)?.as_bytes()),
+        "size" => Ok(other.parse() == Ok(fs::metadata(host, path)?.len())),
+        "absent" => match fs::symlink_metadata(host, path) {
             Ok(_) => Ok(false),
             Err(error) => Ok(error.kind() == ErrorKind::NotFound),
         },
-        _ => play_talk(rt, stage, verb, rest),
+        _ => play_talk(stage, verb, rest),
     }
 }
 

@@ -5,11 +5,7 @@
 #![tactic(auto)]
 
 #[cfg(test)]
-mod clients;
-#[cfg(test)]
 mod faults;
-#[cfg(test)]
-mod faulty_runtime;
 #[cfg(test)]
 mod files;
 #[cfg(test)]
@@ -28,6 +24,8 @@ mod serving;
 mod sessions;
 #[cfg(test)]
 mod stage;
+#[cfg(test)]
+mod stories;
 #[cfg(test)]
 mod talks;
 #[cfg(test)]

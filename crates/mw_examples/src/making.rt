@@ -1,12 +1,10 @@
 //! Tests `mwinit`: which files it makes, which command lines it refuses, and what it leaves if it makes no file.
 //!
-//! Nothing else uses it: it may change with what it tests.
-use crate::faulty_runtime::FaultyRuntime;
-use crate::player::{Story, play};
-use std::test::Fail;
+//! Used by: `stories`. It may change with what it tests.
+use crate::player::Story;
 
 /// Files that are made, and files that are not.
-static FILES: [Story; 6] = [
+pub(crate) static FILES: [Story; 6] = [
     Story {
         name: "fresh-file",
         lines: "\
@@ -106,8 +104,3 @@ for each of
 8|made 184",
     },
 ];
-
-#[test]
-fn files_of_mwinit(rt: HostRuntime) -> Result<(), Fail> {
-    play(&FaultyRuntime::new(&rt), &rt, &FILES)
-}

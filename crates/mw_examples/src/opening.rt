@@ -5,12 +5,11 @@
 //! Nothing else uses it: it may change with what it tests.
 mod fake_file;
 
-use fake_file::{Call, Calls, DEVICE, FakeFile, INTERRUPTED, calls_of};
-use mw_disk::{Disk, DiskFault, FileDisk};
+use fake_file::{Call, DEVICE, FakeFile, INTERRUPTED};
+use mw_disk::{Disk, FileDisk};
 use mw_metrics::{CallFigures, TenantCounters};
 use mw_opening::{FileState, LastError, MeteredFile, TrackedFile, WatchedFile};
-use std::fmt::Debug;
-use std::fs::{Metadata, OpenFile};
+use std::fs::OpenFile;
 use std::io;
 use std::os::unix::fs::FileExt;
 use std::process::Abort;
@@ -21,6 +20,9 @@ const STALE: i32 = 116;
 
 /// The bytes of the file.
 const BYTES: &[u8] = b"abcdef";
+
+/// No call fails.
+const NONE: (usize, i32) = (0, 0);
 
 /// Each call, and the number that it gives of a file of six bytes; 0 if it gives none.
 const CALLS: [(Call, u64); 6] = [
@@ -33,19 +35,16 @@ const CALLS: [(Call, u64); 6] = [
 ];
 
 /// How a call ended: with a number, or with the system's error of a number.
-type Ended = Result<u64, Option<i32>>;
+type Ended = Result<u64, i32>;
 
-/// How many calls were counted, and how many of them failed: reads, writes and syncs.
-type Counted = [(u64, u64); 3];
+/// How many calls were counted, and how many of them failed.
+type Counted = (u64, u64);
 
-const UNCOUNTED: Counted = [(0, 0); 3];
-
-/// What was seen of one call: how it ended, the calls on the file below, the last error, and what was counted.
-type Seen = (Ended, Calls, Option<i32>, Counted);
-
-/// What is over the file.
+/// What makes a call on the file.
 #[derive(Clone, Copy)]
 enum Layer {
+    /// Somebody else, without the server.
+    Others,
     Watched,
     Metered,
     Tracked,
@@ -53,68 +52,63 @@ enum Layer {
     GivenUp,
 }
 
-/// Checks that what was found in the case of this number is what was wanted, and tells both if they differ.
-fn same_at<R: Abort, T: Debug + PartialEq>(rt: &R, case: u8, found: &T, wanted: &T) {
-    assert_eq!(rt; found, wanted, "at {case}");
+/// A file, and what each layer over it keeps.
+#[derive(Drop)]
+struct Bench {
+    file: FakeFile,
+    last: LastError,
+    counters: TenantCounters,
+    state: FileState,
 }
 
-fn told(outcome: io::Result<Metadata>) -> Ended {
-    match outcome {
-        Ok(metadata) => Ok(metadata.len()),
-        Err(error) => Err(error.raw_os_error()),
+impl Bench {
+    /// Makes a file of which the call of this number fails with this error.
+    fn new(failing: (usize, i32)) -> Self {
+        Bench {
+            file: FakeFile::new(BYTES, failing),
+            last: LastError::new(),
+            counters: TenantCounters::new(),
+            state: FileState::new(),
+        }
+    }
+
+    /// Makes a call by a layer.
+    fn make<R: Clock>(&self, rt: &R, layer: Layer, call: Call) -> Ended {
+        let file = &self.file;
+        let made = match layer {
+            Layer::Others => make(&file, call),
+            Layer::Watched => make(&WatchedFile::new(file, &self.last), call),
+            Layer::Metered => make(&MeteredFile::new(file, rt, Some(&self.counters)), call),
+            Layer::Tracked | Layer::GivenUp => make(&TrackedFile::new(file, &self.state), call),
+        };
+        made.map_err(number_of)
+    }
+
+    /// Gives the last error that is kept, 0 if there is none.
+    fn last(&self) -> i32 {
+        match self.last.error() {
+            Some(error) => number_of(error),
+            None => 0,
+        }
+    }
+
+    /// Tells whether just these calls were counted: reads, writes and syncs.
+    fn has_counted(&self, wanted: [Counted; 3]) -> bool {
+        let counts = self.counters.counts();
+        let [reads, writes, syncs] = wanted;
+        counted(&counts.read) == reads
+            && counted(&counts.write) == writes
+            && counted(&counts.sync) == syncs
     }
 }
 
-fn counted(outcome: io::Result<usize>) -> Ended {
-    match outcome {
-        Ok(count) => Ok(count as u64),
-        Err(error) => Err(error.raw_os_error()),
-    }
-}
-
-fn done(outcome: io::Result<()>) -> Ended {
-    match outcome {
-        Ok(()) => Ok(0),
-        Err(error) => Err(error.raw_os_error()),
-    }
-}
-
-/// Makes this call on a file. It reads or writes at most four bytes.
-fn make<F: FileExt + OpenFile>(file: &F, call: Call) -> Ended {
-    let mut room = *b"wxyz";
-    match call {
-        Call::Metadata => told(file.metadata()),
-        Call::SetLen(size) => done(file.set_len(size)),
-        Call::SyncAll => done(file.sync_all()),
-        Call::SyncData => done(file.sync_data()),
-        Call::ReadAt(at, len) => counted(file.read_at(&mut room[..len.min(4)], at)),
-        Call::WriteAt(at, len) => counted(file.write_at(&room[..len.min(4)], at)),
-    }
-}
-
-/// Makes a file whose first call fails with this error if there is one.
-fn failing_file(error: Option<i32>) -> FakeFile {
-    let file = FakeFile::new(BYTES);
-    if let Some(error) = error {
-        file.fail_at(0, error);
-    }
-    file
-}
-
-fn last_of(last: &LastError) -> Option<i32> {
-    last.error().and_then(|error| error.raw_os_error())
-}
-
-/// Makes this call on a watched file. The call below fails with this error if there is one.
-fn watch(call: Call, error: Option<i32>) -> Seen {
-    let file = failing_file(error);
-    let last = LastError::new();
-    let ended = make(&WatchedFile::new(&file, &last), call);
-    (ended, file.calls(), last_of(&last), UNCOUNTED)
+/// Gives the number of the system's error.
+fn number_of(error: io::Error) -> i32 {
+    error.raw_os_error().unwrap_or(0)
 }
 
 /// Gives how many calls were counted, and how many failed.
-fn figures_of(figures: &CallFigures) -> (u64, u64) {
+fn counted(figures: &CallFigures) -> Counted {
     let mut calls = 0u64;
     for count in &figures.time.counts {
         calls = calls.saturating_add(*count);
@@ -122,226 +116,230 @@ fn figures_of(figures: &CallFigures) -> (u64, u64) {
     (calls, figures.failures)
 }
 
-/// Makes this call on a metered file. The call below fails with this error if there is one.
-fn meter(clock: &impl Clock, call: Call, error: Option<i32>) -> Seen {
-    let file = failing_file(error);
-    let counters = TenantCounters::new();
-    let ended = make(&MeteredFile::new(&file, clock, Some(&counters)), call);
-    let counts = counters.counts();
-    let all = [
-        figures_of(&counts.read),
-        figures_of(&counts.write),
-        figures_of(&counts.sync),
-    ];
-    (ended, file.calls(), None, all)
-}
-
-/// Makes this call on a tracked file. If it is given up, that comes first. The call below fails with this error if
-/// there is one.
-fn track(call: Call, is_given_up: bool, error: Option<i32>) -> Seen {
-    let file = failing_file(error);
-    let state = FileState::new();
-    if is_given_up {
-        state.give_up();
+/// Makes this call on a file. It reads or writes at most four bytes.
+fn make<F: FileExt + OpenFile>(file: &F, call: Call) -> io::Result<u64> {
+    let mut room = *b"wxyz";
+    match call {
+        Call::Metadata => return Ok(file.metadata()?.len()),
+        Call::SetLen(size) => file.set_len(size)?,
+        Call::SyncAll => file.sync_all()?,
+        Call::SyncData => file.sync_data()?,
+        Call::ReadAt(at, len) => return Ok(file.read_at(&mut room[..len.min(4)], at)? as u64),
+        Call::WriteAt(at, len) => return Ok(file.write_at(&room[..len.min(4)], at)? as u64),
     }
-    let ended = make(&TrackedFile::new(&file, &state), call);
-    (ended, file.calls(), None, UNCOUNTED)
+    Ok(0)
 }
 
-/// What a counter that counts one such call has, with this failure.
-fn once(call: Call, failures: u64) -> Counted {
+/// Checks that something is so, in this row of a test, and at this number in it.
+fn holds<R: Abort>(rt: &R, row: &str, at: usize, is_so: bool) {
+    assert!(rt; is_so, "{row}, at {at}");
+}
+
+/// Calls on a new file, each alone, by a layer. The call below fails with this error, if it isn't 0.
+static CASES: [(&str, Layer, i32); 9] = [
+    ("watched", Layer::Watched, 0),
+    ("watched, and the device fails", Layer::Watched, DEVICE),
+    (
+        "watched, and the call is interrupted",
+        Layer::Watched,
+        INTERRUPTED,
+    ),
+    ("metered", Layer::Metered, 0),
+    ("metered, and the device fails", Layer::Metered, DEVICE),
+    (
+        "metered, and the call is interrupted",
+        Layer::Metered,
+        INTERRUPTED,
+    ),
+    ("tracked", Layer::Tracked, 0),
+    ("tracked, and the device fails", Layer::Tracked, DEVICE),
+    ("tracked, and given up", Layer::GivenUp, 0),
+];
+
+/// What a metered file counts of one such call, with this failure.
+fn once(call: Call, failures: u64) -> [Counted; 3] {
     let one = (1, failures);
     match call {
         Call::ReadAt(..) => [one, (0, 0), (0, 0)],
         Call::WriteAt(..) => [(0, 0), one, (0, 0)],
         Call::SyncAll | Call::SyncData => [(0, 0), (0, 0), one],
-        Call::Metadata | Call::SetLen(_) => UNCOUNTED,
+        Call::Metadata | Call::SetLen(_) => [(0, 0); 3],
     }
 }
 
-/// What must be seen of this call, which gives this number if the call below succeeds.
-fn wanted(layer: Layer, call: Call, number: u64, error: Option<i32>) -> Seen {
-    let ended = match error {
-        Some(error) => Err(Some(error)),
-        None => Ok(number),
+/// Tells whether a call by this layer, which gives this number if it goes well and else this error, is one call of the file,
+/// ends as that, and is kept as it must be.
+fn is_one_call<R: Clock>(rt: &R, layer: Layer, error: i32, call: Call, number: u64) -> bool {
+    let bench = Bench::new((0, error));
+    let wanted = match error {
+        0 => Ok(number),
+        error => Err(error),
     };
-    let calls = calls_of(&[call]);
     // A call that was interrupted is made again: it is no failure.
-    let failure = match error {
-        Some(DEVICE) => error,
-        _ => None,
+    let has_failed = error == DEVICE;
+    let (wanted, calls, last, counted) = match layer {
+        Layer::Watched if has_failed => (wanted, &[call][..], DEVICE, [(0, 0); 3]),
+        Layer::Metered => (wanted, &[call][..], 0, once(call, u64::from(has_failed))),
+        Layer::GivenUp => (Err(STALE), &[][..], 0, [(0, 0); 3]),
+        _ => (wanted, &[call][..], 0, [(0, 0); 3]),
     };
-    match layer {
-        Layer::Watched => (ended, calls, failure, UNCOUNTED),
-        Layer::Metered => (ended, calls, None, once(call, u64::from(failure.is_some()))),
-        Layer::Tracked => (ended, calls, None, UNCOUNTED),
-        Layer::GivenUp => (Err(Some(STALE)), calls_of(&[]), None, UNCOUNTED),
+    if let Layer::GivenUp = layer {
+        bench.state.give_up();
     }
+    let ended = bench.make(rt, layer, call) == wanted && bench.file.has_made(calls);
+    ended && bench.last() == last && bench.has_counted(counted)
 }
 
-/// What is over the file, and how the first call below fails.
-const CASES: [(Layer, Option<i32>); 9] = [
-    (Layer::Watched, None),
-    (Layer::Watched, Some(DEVICE)),
-    (Layer::Watched, Some(INTERRUPTED)),
-    (Layer::Metered, None),
-    (Layer::Metered, Some(DEVICE)),
-    (Layer::Metered, Some(INTERRUPTED)),
-    (Layer::Tracked, None),
-    (Layer::Tracked, Some(DEVICE)),
-    (Layer::GivenUp, None),
-];
-
-/// Checks what is seen of each call in the case of this number. A call's own number is ten times the case's and its place.
-fn check_calls<R: Abort + Clock>(rt: &R, case: u8, layer: Layer, error: Option<i32>) {
-    let mut at = case.saturating_mul(10);
+/// Gives how many of the calls, from the first on, are one call of the file each, by this layer and with this error.
+fn single_calls<R: Clock>(rt: &R, layer: Layer, error: i32) -> usize {
+    let mut went = 0usize;
     for (call, number) in CALLS {
-        let seen = match layer {
-            Layer::Watched => watch(call, error),
-            Layer::Metered => meter(rt, call, error),
-            Layer::Tracked => track(call, false, error),
-            Layer::GivenUp => track(call, true, error),
-        };
-        same_at(rt, at, &seen, &wanted(layer, call, number, error));
-        at = at.saturating_add(1);
+        if !is_one_call(rt, layer, error, call, number) {
+            return went;
+        }
+        went = went.saturating_add(1);
     }
+    went
 }
 
 #[test]
 fn each_call_is_one_call_of_the_file(rt: HostRuntime) {
-    for (case, (layer, error)) in (0u8..).zip(CASES) {
-        check_calls(&rt, case, layer, error);
+    for (name, layer, error) in &CASES {
+        let went = single_calls(&rt, *layer, *error);
+        holds(&rt, name, went, went == CALLS.len());
     }
 }
 
-#[test]
-fn an_error_is_kept_after_calls_that_go_well(rt: HostRuntime) {
-    let file = FakeFile::new(BYTES);
-    file.fail_at(1, DEVICE);
-    let last = LastError::new();
-    let watched = WatchedFile::new(&file, &last);
-    let ended = [
-        make(&watched, Call::SyncAll),
-        make(&watched, Call::SyncData),
-        make(&watched, Call::Metadata),
-    ];
-    same_at(&rt, 0, &ended, &[Ok(0), Err(Some(DEVICE)), Ok(6)]);
-    same_at(&rt, 0, &last_of(&last), &Some(DEVICE));
+/// A call, how it ends, and after it the size that the file must have, and whether it is known to be replaced.
+type Step = (Layer, Call, Ended, u64, bool);
+
+/// Calls on one file of six bytes, one after the other.
+struct Row {
+    name: &'static str,
+    failing: (usize, i32),
+    steps: &'static [Step],
+    /// The last error that is kept in the end.
+    last: i32,
 }
 
-/// Calls on a file of six bytes, one after the other, and after each the size that it must have, and whether it is known to
-/// be replaced. The call below the last one fails.
-const SIZES: [(Call, u64, bool); 11] = [
-    (Call::Metadata, 6, false),
-    (Call::ReadAt(0, 4), 6, false),
-    (Call::WriteAt(1, 4), 6, false),
-    (Call::ReadAt(0, 4), 6, false),
-    (Call::WriteAt(5, 4), 9, false),
-    (Call::Metadata, 9, false),
-    (Call::SetLen(3), 3, false),
-    (Call::Metadata, 3, false),
-    (Call::WriteAt(5, 4), 9, false),
-    (Call::Metadata, 9, false),
-    (Call::WriteAt(9, 4), 9, false),
+static ROWS: [Row; 4] = [
+    Row {
+        name: "an error is kept after calls that go well",
+        failing: (1, DEVICE),
+        steps: &[
+            (Layer::Watched, Call::SyncAll, Ok(0), 0, false),
+            (Layer::Watched, Call::SyncData, Err(DEVICE), 0, false),
+            (Layer::Watched, Call::Metadata, Ok(6), 0, false),
+        ],
+        last: DEVICE,
+    },
+    // The call below the last one fails.
+    Row {
+        name: "the size that a file must have",
+        failing: (10, DEVICE),
+        steps: &[
+            (Layer::Tracked, Call::Metadata, Ok(6), 6, false),
+            (Layer::Tracked, Call::ReadAt(0, 4), Ok(4), 6, false),
+            (Layer::Tracked, Call::WriteAt(1, 4), Ok(4), 6, false),
+            (Layer::Tracked, Call::ReadAt(0, 4), Ok(4), 6, false),
+            (Layer::Tracked, Call::WriteAt(5, 4), Ok(4), 9, false),
+            (Layer::Tracked, Call::Metadata, Ok(9), 9, false),
+            (Layer::Tracked, Call::SetLen(3), Ok(0), 3, false),
+            (Layer::Tracked, Call::Metadata, Ok(3), 3, false),
+            (Layer::Tracked, Call::WriteAt(5, 4), Ok(4), 9, false),
+            (Layer::Tracked, Call::Metadata, Ok(9), 9, false),
+            (Layer::Tracked, Call::WriteAt(9, 4), Err(DEVICE), 9, false),
+        ],
+        last: 0,
+    },
+    // It stays known even after a write has made the file as long as before.
+    Row {
+        name: "a file that others cut to two bytes",
+        failing: NONE,
+        steps: &[
+            (Layer::Tracked, Call::Metadata, Ok(6), 6, false),
+            (Layer::Tracked, Call::ReadAt(0, 4), Ok(4), 6, false),
+            (Layer::Others, Call::SetLen(2), Ok(0), 6, false),
+            (Layer::Tracked, Call::SyncData, Ok(0), 6, false),
+            (Layer::Tracked, Call::Metadata, Err(STALE), 6, true),
+            (Layer::Tracked, Call::WriteAt(4, 4), Ok(4), 8, true),
+            (Layer::Tracked, Call::Metadata, Err(STALE), 8, true),
+        ],
+        last: 0,
+    },
+    // A read of the first byte alone shows nothing.
+    Row {
+        name: "a file in which others write four bytes from the second one on",
+        failing: NONE,
+        steps: &[
+            (Layer::Tracked, Call::Metadata, Ok(6), 6, false),
+            (Layer::Tracked, Call::ReadAt(0, 4), Ok(4), 6, false),
+            (Layer::Others, Call::WriteAt(1, 4), Ok(4), 6, false),
+            (Layer::Tracked, Call::Metadata, Ok(6), 6, false),
+            (Layer::Tracked, Call::ReadAt(0, 1), Ok(1), 6, false),
+            (Layer::Tracked, Call::ReadAt(0, 4), Err(STALE), 6, true),
+            (Layer::Tracked, Call::Metadata, Err(STALE), 6, true),
+        ],
+        last: 0,
+    },
 ];
 
-/// The same of calls after which others cut the file to two bytes. It stays known even after a write has made it as long
-/// as before.
-const CUTS: [(Call, u64, bool); 4] = [
-    (Call::SyncData, 6, false),
-    (Call::Metadata, 6, true),
-    (Call::WriteAt(4, 4), 8, true),
-    (Call::Metadata, 8, true),
-];
-
-/// How the calls of [`CUTS`] end.
-const CUT_ENDS: [Ended; 4] = [Ok(0), Err(Some(STALE)), Ok(4), Err(Some(STALE))];
-
-/// The same of calls after which others write four bytes from the second one on. A read of the first byte alone shows
-/// nothing.
-const OVERWRITES: [(Call, u64, bool); 4] = [
-    (Call::Metadata, 6, false),
-    (Call::ReadAt(0, 1), 6, false),
-    (Call::ReadAt(0, 4), 6, true),
-    (Call::Metadata, 6, true),
-];
-
-/// How the calls of [`OVERWRITES`] end.
-const OVERWRITE_ENDS: [Ended; 4] = [Ok(6), Ok(1), Err(Some(STALE)), Err(Some(STALE))];
-
-/// Checks what a file's state keeps after each of these calls, and gives how they ended.
-fn check_calls_on<R: Abort, const N: usize>(
-    rt: &R,
-    file: &TrackedFile<'_, &FakeFile>,
-    state: &FileState,
-    calls: &[(Call, u64, bool); N],
-) -> [Ended; N] {
-    let mut all = [Ok(0); N];
-    for (case, ((call, size, is_known), ended)) in (0u8..).zip(calls.iter().zip(all.iter_mut())) {
-        *ended = make(file, *call);
-        let kept = (state.seen().size, state.was_replaced());
-        same_at(rt, case, &kept, &(*size, *is_known));
+/// Makes the calls of a row. Gives how many of them, from the first on, went as they say.
+fn calls_that_went<R: Clock>(rt: &R, row: &Row, bench: &Bench) -> usize {
+    let mut went = 0usize;
+    for (layer, call, wanted, size, is_known) in row.steps {
+        let ended = bench.make(rt, *layer, *call);
+        let (seen, was_replaced) = (bench.state.seen().size, bench.state.was_replaced());
+        if ended != *wanted || seen != *size || was_replaced != *is_known {
+            return went;
+        }
+        went = went.saturating_add(1);
     }
-    all
+    went
 }
 
 #[test]
-fn the_size_that_a_file_must_have(rt: HostRuntime) {
-    let file = FakeFile::new(BYTES);
-    file.fail_at(10, DEVICE);
-    let state = FileState::new();
-    let _ = check_calls_on(&rt, &TrackedFile::new(&file, &state), &state, &SIZES);
+fn what_is_kept_of_calls(rt: HostRuntime) {
+    for row in &ROWS {
+        let bench = Bench::new(row.failing);
+        let went = calls_that_went(&rt, row, &bench);
+        let is_right = went == row.steps.len() && bench.last() == row.last;
+        holds(&rt, row.name, went, is_right);
+    }
 }
 
-/// Makes these calls on a file of which length and front are known, after others have made one on it.
-fn check_after<R: Abort, const N: usize>(
-    rt: &R,
-    theirs: Call,
-    calls: &[(Call, u64, bool); N],
-    wanted: &[Ended; N],
-) {
-    let file = FakeFile::new(BYTES);
-    let state = FileState::new();
-    let tracked = TrackedFile::new(&file, &state);
-    let _ = (
-        make(&tracked, Call::Metadata),
-        make(&tracked, Call::ReadAt(0, 4)),
-    );
-    let _ = make(&&file, theirs);
-    same_at(rt, 0, &check_calls_on(rt, &tracked, &state, calls), wanted);
-}
+/// How the first call of a file fails, which calls a disk makes for a sync then, and how many faults it counts.
+static SYNCS: [(&str, i32, &[Call], u64); 3] = [
+    ("a sync that goes well", 0, &[Call::SyncData], 0),
+    (
+        "a sync that is interrupted",
+        INTERRUPTED,
+        &[Call::SyncData, Call::SyncData],
+        0,
+    ),
+    ("a sync that fails", DEVICE, &[Call::SyncData], 1),
+];
 
-#[test]
-fn a_file_that_others_changed(rt: HostRuntime) {
-    check_after(&rt, Call::SetLen(2), &CUTS, &CUT_ENDS);
-    check_after(&rt, Call::WriteAt(1, 4), &OVERWRITES, &OVERWRITE_ENDS);
-}
-
-/// What was seen of one sync of a disk: how it ended, the calls on the file, and how many faults the disk counts.
-type Synced = (Result<(), DiskFault>, Calls, u64);
-
-/// Syncs a disk over a file.
-fn sync<F: FileExt + OpenFile + Drop>(disk: FileDisk<F>, file: &FakeFile) -> Synced {
+/// Tells whether a disk over this file makes these calls for a sync, and counts so many faults.
+fn syncs<F: FileExt + OpenFile + Drop>(
+    disk: FileDisk<F>,
+    file: &FakeFile,
+    calls: &[Call],
+    faults: u64,
+) -> bool {
     let mut disk = disk;
-    let ended = disk.sync();
-    (ended, file.calls(), disk.faults())
+    let is_synced = disk.sync().is_ok() == (faults == 0);
+    is_synced && disk.faults() == faults && file.has_made(calls)
 }
 
 #[test]
 fn a_disk_syncs_its_file(rt: HostRuntime) {
-    let once = calls_of(&[Call::SyncData]);
-    let twice = calls_of(&[Call::SyncData, Call::SyncData]);
-    let cases = [
-        (None, (Ok(()), once, 0)),
-        (Some(INTERRUPTED), (Ok(()), twice, 0)),
-        (Some(DEVICE), (Err(DiskFault), once, 1)),
-    ];
-    for (case, (error, wanted)) in (0u8..).zip(cases) {
-        let file = failing_file(error);
-        same_at(&rt, case, &sync(FileDisk::new(&file), &file), &wanted);
-        let file = failing_file(error);
-        let last = LastError::new();
-        let watched = WatchedFile::new(&file, &last);
-        same_at(&rt, case, &sync(FileDisk::new(watched), &file), &wanted);
+    for (name, error, calls, faults) in &SYNCS {
+        let bench = Bench::new((0, *error));
+        let alone = syncs(FileDisk::new(&bench.file), &bench.file, calls, *faults);
+        let bench = Bench::new((0, *error));
+        let disk = FileDisk::new(WatchedFile::new(&bench.file, &bench.last));
+        let watched = syncs(disk, &bench.file, calls, *faults);
+        holds(&rt, name, calls.len(), alone && watched);
     }
 }

@@ -1,12 +1,10 @@
 //! Tests what an operator asks the programs for by the command line.
 //!
-//! Nothing else uses it: it may change with what it tests.
-use crate::faulty_runtime::FaultyRuntime;
-use crate::player::{Story, play};
-use std::test::Fail;
+//! Used by: `stories`. It may change with what it tests.
+use crate::player::Story;
 
 /// Command lines, and what is told.
-static LINES: [Story; 11] = [
+pub(crate) static LINES: [Story; 11] = [
     Story {
         name: "version",
         lines: "\
@@ -206,8 +204,3 @@ mwserve --tenants DIR/tenants --listen unix:DIR/s --http unix:DIR/h
 gives 1 http unix:DIR/h;|mwserve: cannot listen;",
     },
 ];
-
-#[test]
-fn command_lines(rt: HostRuntime) -> Result<(), Fail> {
-    play(&FaultyRuntime::new(&rt), &rt, &LINES)
-}

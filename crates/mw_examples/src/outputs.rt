@@ -1,43 +1,90 @@
-//! What the programs write to in the tests: an output that keeps what it gets, and fails, tells or looks besides.
+//! What the programs write to in the tests: an output that keeps what it gets, fails if it is told to, and tells what it has
+//! seen.
 //!
-//! Used by: `player`. It may change freely as long as this crate checks and its tests pass.
-use crate::clients::Told;
-use std::alloc::Global;
+//! Used by: `player`, `stage`, `talks`. It may change freely as long as this crate checks and its tests pass.
 use std::fs::{File, TryLockError};
 use std::io::{self, ErrorKind, Write};
 use std::sync::atomic::{AtomicU16, Ordering};
+use std::time::Duration;
+use std::{str, thread};
+
+/// How many times a client looks whether the server has told something, and how many milliseconds it waits between.
+const LOOKS: u32 = 1000;
+
+const PAUSE: u64 = 10;
+
+/// What a program has told by its outputs so far.
+#[derive(Drop)]
+pub(crate) struct Told {
+    /// The administrator's port. Each port is 0 until it is told.
+    pub(crate) admin: AtomicU16,
+    /// The port of the pages.
+    pub(crate) http: AtomicU16,
+    /// The clients' port. It is told last.
+    pub(crate) ready: AtomicU16,
+    /// How many lines of notes.
+    pub(crate) notes: AtomicU16,
+    /// How many lines of the other output.
+    pub(crate) lines: AtomicU16,
+    /// How often an output looked whether a file is locked, and how often it was.
+    pub(crate) looks: AtomicU16,
+    pub(crate) locks: AtomicU16,
+}
+
+impl Told {
+    /// Makes what a program has told that has told nothing.
+    pub(crate) fn new() -> Self {
+        Told {
+            admin: AtomicU16::new(0),
+            http: AtomicU16::new(0),
+            ready: AtomicU16::new(0),
+            notes: AtomicU16::new(0),
+            lines: AtomicU16::new(0),
+            looks: AtomicU16::new(0),
+            locks: AtomicU16::new(0),
+        }
+    }
+}
+
+/// Waits until a number is at least so much, but not for ever, and gives it.
+pub(crate) fn wait_for(host: &HostRuntime, number: &AtomicU16, least: u16) -> u16 {
+    for _ in 0..LOOKS {
+        if number.load(Ordering::SeqCst) >= least {
+            break;
+        }
+        thread::sleep(host, Duration::from_millis(PAUSE));
+    }
+    number.load(Ordering::SeqCst)
+}
 
 /// What a program writes to. It keeps what it gets.
 ///
-/// All kinds of it are one type, so that a program is compiled once for all tests.
+/// All outputs are of one type, so that a program is compiled once for all tests.
 #[derive(Drop)]
 pub(crate) struct Output<'a> {
-    text: Vec<u8>,
-    /// How many bytes more it takes.
-    room: usize,
-    watch: Watch<'a>,
+    pub(crate) host: &'a HostRuntime,
+    pub(crate) text: Vec<u8>,
+    /// How many bytes more it takes. Then it fails.
+    pub(crate) room: usize,
+    /// Where it counts its lines, and tells the ports that it gets.
+    pub(crate) lines: &'a AtomicU16,
+    pub(crate) told: &'a Told,
+    /// The path of the file that it looks at each time that something is written, or nothing.
+    pub(crate) watched: &'a str,
 }
 
-impl<'a> Output<'a> {
-    /// Makes an output that takes so many bytes and then fails.
-    pub(crate) fn new(alloc: Global, room: usize, watch: Watch<'a>) -> Self {
-        Output {
-            text: Vec::new(alloc),
-            room,
-            watch,
+impl Output<'_> {
+    /// Looks whether the watched file is locked.
+    fn look(&self) -> io::Result<()> {
+        if self.watched.is_empty() {
+            return Ok(());
         }
-    }
-
-    /// Gives what was written.
-    ///
-    /// # Errors
-    ///
-    /// It is no text.
-    pub(crate) fn into_text(self) -> io::Result<String> {
-        match String::from_utf8(self.text) {
-            Ok(text) => Ok(text),
-            Err(_) => Err(io::Error::from(ErrorKind::InvalidData)),
+        let file = File::open(self.host, self.watched)?;
+        self.told.looks.fetch_add(1, Ordering::SeqCst);
+        if let Err(TryLockError::WouldBlock) = file.try_lock() {
+            self.told.locks.fetch_add(1, Ordering::SeqCst);
         }
+        Ok(())
     }
 }
 
@@ -50,83 +97,29 @@ impl Write for Output<'_> {
         let piece = &buf[..count];
         self.text.write_all(piece)?;
         self.room -= count;
-        self.watch.see(piece)?;
+        if piece.ends_with(b"\n") {
+            self.lines.fetch_add(1, Ordering::SeqCst);
+        }
+        self.look()?;
         Ok(count)
     }
 
+    /// Tells the ports.
     fn flush(&mut self) -> io::Result<()> {
-        if let Watch::Ports(told) = self.watch {
-            told.learn(&self.text);
-        }
+        let text = str::from_utf8(&self.text).unwrap_or("");
+        tell(&self.told.admin, text, "admin ");
+        tell(&self.told.http, text, "http ");
+        tell(&self.told.ready, text, "ready ");
         Ok(())
     }
 }
 
-/// What an output does with what it has got.
-#[derive(Clone, Copy)]
-pub(crate) enum Watch<'a> {
-    Nothing,
-    /// Tells a server's ports here when it is flushed.
-    Ports(&'a Told),
-    /// Counts here the lines of a server's notes.
-    Lines(&'a Told),
-    /// Looks at a lock each time that something is written.
-    Lock(&'a LockWatch<'a>),
-}
-
-impl Watch<'_> {
-    /// Looks at the piece that was written last.
-    fn see(self, piece: &[u8]) -> io::Result<()> {
-        match self {
-            Watch::Nothing | Watch::Ports(_) => {}
-            Watch::Lines(told) => {
-                if piece.ends_with(b"\n") {
-                    told.lines.fetch_add(1, Ordering::SeqCst);
-                }
-            }
-            Watch::Lock(lock) => lock.look()?,
-        }
-        Ok(())
-    }
-}
-
-/// Looks whether a file is locked.
-#[derive(Drop)]
-pub(crate) struct LockWatch<'a> {
-    rt: &'a HostRuntime,
-    /// The file's path. It is empty if it looks at none.
-    path: &'a str,
-    looks: AtomicU16,
-    locked: AtomicU16,
-}
-
-impl<'a> LockWatch<'a> {
-    /// Makes one that has not looked at the file at this path. With an empty path it will look at none.
-    pub(crate) fn new(rt: &'a HostRuntime, path: &'a str) -> Self {
-        LockWatch {
-            rt,
-            path,
-            looks: AtomicU16::new(0),
-            locked: AtomicU16::new(0),
-        }
-    }
-
-    /// Looks once.
-    fn look(&self) -> io::Result<()> {
-        if self.path.is_empty() {
-            return Ok(());
-        }
-        let file = File::open(self.rt, self.path)?;
-        self.looks.fetch_add(1, Ordering::SeqCst);
-        if let Err(TryLockError::WouldBlock) = file.try_lock() {
-            self.locked.fetch_add(1, Ordering::SeqCst);
-        }
-        Ok(())
-    }
-
-    /// Gives true if it has looked, and the file was locked each time.
-    pub(crate) fn was_locked(&self) -> bool {
-        let looks = self.looks.load(Ordering::SeqCst);
-        looks > 0 && looks == self.locked.load(Ordering::SeqCst)
+/// Tells the port that a line has after this word, if there is one.
+fn tell(port: &AtomicU16, text: &str, word: &str) {
+    let (_, told) = text.split_once(word).unwrap_or(("", ""));
+    let (told, _) = told.split_once('\n').unwrap_or(("", ""));
+    let told = told.parse().unwrap_or(0);
+    if told > 0 {
+        port.store(told, Ordering::SeqCst);
     }
 }

@@ -1,15 +1,11 @@
 //! Tests `mwserve` with clients over loopback, the locks of files that are served, and what is told of such files that are
 //! replaced, cut short or removed.
 //!
-//! Nothing else uses it: it may change with what it tests.
-use crate::clients::Told;
-use crate::faulty_runtime::FaultyRuntime;
-use crate::player::{Story, begin, end, play_beside, serve_telling};
-use std::test::Fail;
-use std::thread;
+//! Used by: `stories`. It may change with what it tests.
+use crate::player::Story;
 
 /// Servers, and what is done beside them.
-static SERVERS: [Story; 9] = [
+pub(crate) static SERVERS: [Story; 9] = [
     // The second client begins after the first has ended. The next session finds what they changed.
     Story {
         name: "two-clients",
@@ -201,20 +197,3 @@ stop
 ends 0 |",
     },
 ];
-
-#[test]
-fn servers_and_clients(rt: HostRuntime) -> Result<(), Fail> {
-    let faulty = FaultyRuntime::new(&rt);
-    for story in &SERVERS {
-        let begun = begin(&faulty, &rt, story)?;
-        let told = Told::new();
-        let (served, played) = thread::join(
-            &faulty,
-            || serve_telling(&faulty, &begun.args, &told),
-            || play_beside(&faulty, &rt, story, begun.folder.as_str(), &told),
-        );
-        played?;
-        end(&faulty, &rt, story, begun.folder.as_str(), served?)?;
-    }
-    Ok(())
-}

@@ -1,12 +1,10 @@
 //! Tests the sessions of scripts: what `mwserve` answers, and what it does if its output fails.
 //!
-//! Nothing else uses it: it may change with what it tests.
-use crate::faulty_runtime::FaultyRuntime;
-use crate::player::{Story, play};
-use std::test::Fail;
+//! Used by: `stories`. It may change with what it tests.
+use crate::player::Story;
 
 /// Scripts, and what is answered.
-static SESSIONS: [Story; 10] = [
+pub(crate) static SESSIONS: [Story; 10] = [
     Story {
         name: "first-run",
         lines: "\
@@ -185,8 +183,3 @@ for each of
 3|adm|--tenants DIR/tenants --listen 127.0.0.1:0 --admin 127.0.0.1:0 --connections 1",
     },
 ];
-
-#[test]
-fn sessions_of_scripts(rt: HostRuntime) -> Result<(), Fail> {
-    play(&FaultyRuntime::new(&rt), &rt, &SESSIONS)
-}

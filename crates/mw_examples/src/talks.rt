@@ -9,59 +9,41 @@
 //! - `wait LINES` waits until the server has told so many lines of notes.
 //!
 //! Used by: `files`. It may change freely as long as this crate checks and its tests pass.
-use crate::clients::{Caller, wait_for};
+use crate::outputs::wait_for;
 use crate::stage::Stage;
-use std::fs::{self, File};
-use std::io;
-use std::net::{Net, TcpListener, TcpStream};
-use std::rt::Files;
-use std::time::Clock;
+use mw_test_peers::{Caller, Place};
+use std::sync::atomic::AtomicU16;
+use std::{fs, io};
 
 /// A request for the file of the tenant t.
 const FILE_REQUEST: &[u8] = b"GET /tenants/t/file HTTP/1.1\r\nHost: localhost\r\n\r\n";
 
 /// Plays a line of a client, or else one that says what a program gave. Gives true if what it says has happened.
-pub(crate) fn play_talk<R>(
-    rt: &R,
-    stage: &mut Stage<'_>,
-    verb: &str,
-    rest: &str,
-) -> io::Result<bool>
-where
-    R: Files<File = File> + AllocGlobal + Net<Listener = TcpListener, Stream = TcpStream> + Clock,
-{
+pub(crate) fn play_talk(stage: &mut Stage<'_>, verb: &str, rest: &str) -> io::Result<bool> {
+    let told = stage.told;
     match verb {
-        "call" => call(rt, stage, rest),
+        "call" if rest == "admin" => call(stage, &told.admin),
+        "call" => call(stage, &told.ready),
         "ask" | "over" => ask(stage, rest),
-        "alone" => ask_alone(rt, stage, rest),
-        "fetch" => fetch(rt, stage, rest),
-        "wait" => wait(rt, stage, rest),
-        _ => {
-            let text = stage.spelled(rest)?;
-            Ok(stage.ran.suits(stage.scene.alloc, verb, text.as_str())?)
+        "alone" => ask_alone(stage, rest),
+        "fetch" => fetch(stage, rest),
+        "wait" => {
+            let lines = rest.parse().unwrap_or(u16::MAX);
+            Ok(wait_for(stage.host, &told.notes, lines) >= lines)
         }
+        _ => Ok(stage.suits(verb, rest)?),
     }
 }
 
-/// Plays `call`.
-fn call<R>(rt: &R, stage: &mut Stage<'_>, rest: &str) -> io::Result<bool>
-where
-    R: Net<Listener = TcpListener, Stream = TcpStream> + Clock,
-{
-    let port = if rest == "admin" {
-        &stage.told.admin
-    } else {
-        &stage.told.ready
-    };
-    let caller = Caller::new(rt, wait_for(rt, port, 1)?)?;
-    stage.callers.push(caller)?;
-    Ok(true)
+/// Connects a client at a port, once it is told.
+fn connect(stage: &Stage<'_>, port: &AtomicU16) -> io::Result<Caller> {
+    Caller::new(stage.host, Place::Port(wait_for(stage.host, port, 1)))
 }
 
-/// Plays `wait`.
-fn wait<R: Clock>(rt: &R, stage: &Stage<'_>, rest: &str) -> io::Result<bool> {
-    let lines = rest.parse().unwrap_or(u16::MAX);
-    wait_for(rt, &stage.told.lines, lines)?;
+/// Plays `call`.
+fn call(stage: &mut Stage<'_>, port: &AtomicU16) -> io::Result<bool> {
+    let caller = connect(stage, port)?;
+    stage.callers.push(caller)?;
     Ok(true)
 }
 
@@ -70,43 +52,37 @@ fn ask(stage: &mut Stage<'_>, rest: &str) -> io::Result<bool> {
     let (number, talk) = rest.split_once(' ').unwrap_or((rest, ""));
     let talk = stage.spelled(talk)?;
     match stage.callers.get_mut(number.parse().unwrap_or(usize::MAX)) {
-        Some(caller) => Ok(caller.talks(talk.as_str())),
+        Some(caller) => Ok(talks(caller, talk.as_str())),
         None => Ok(false),
     }
 }
 
 /// Plays `alone`: a client says a text, and waits until the server closes the connection. Gives true if just the answer comes before.
-fn ask_alone<R>(rt: &R, stage: &Stage<'_>, rest: &str) -> io::Result<bool>
-where
-    R: Net<Listener = TcpListener, Stream = TcpStream> + Clock,
-{
+fn ask_alone(stage: &Stage<'_>, rest: &str) -> io::Result<bool> {
     let talk = stage.spelled(rest)?;
-    let mut caller = Caller::new(rt, wait_for(rt, &stage.told.ready, 1)?)?;
-    Ok(caller.talks(talk.as_str()) && caller.hears_the_end())
+    let mut caller = connect(stage, &stage.told.ready)?;
+    Ok(talks(&mut caller, talk.as_str()) && caller.hears_the_end())
+}
+
+/// Has a client say what is before the `|` of a talk. Gives true if just what is behind it comes. Without a `|` it says
+/// nothing, and gives true if the server closes the connection and says no more.
+fn talks(caller: &mut Caller, talk: &str) -> bool {
+    match talk.split_once('|') {
+        Some((text, answer)) => caller.asks(text.as_bytes(), answer.as_bytes()),
+        None => caller.hears_the_end(),
+    }
 }
 
 /// Plays `fetch`: gives true if the answer has status 200 and a content.
-fn fetch<R>(rt: &R, stage: &Stage<'_>, name: &str) -> io::Result<bool>
-where
-    R: Files<File = File> + AllocGlobal + Net<Listener = TcpListener, Stream = TcpStream> + Clock,
-{
-    let answer = file_answer(rt, stage)?;
+fn fetch(stage: &Stage<'_>, name: &str) -> io::Result<bool> {
+    let answer = connect(stage, &stage.told.http)?.hears_all(stage.host.alloc(), FILE_REQUEST)?;
     match content_of(&answer) {
         Some(content) => {
-            fs::write(rt, stage.path(name)?.as_str(), content)?;
+            fs::write(stage.host, stage.path(name)?.as_str(), content)?;
             Ok(true)
         }
         None => Ok(false),
     }
-}
-
-/// Asks the server's pages for the file of the tenant t, and gives all that they answer.
-fn file_answer<R>(rt: &R, stage: &Stage<'_>) -> io::Result<Vec<u8>>
-where
-    R: Net<Listener = TcpListener, Stream = TcpStream> + Clock,
-{
-    let mut caller = Caller::new(rt, wait_for(rt, &stage.told.http, 1)?)?;
-    caller.hears_all(stage.scene.alloc, FILE_REQUEST)
 }
 
 /// Gives the content of an answer with status 200, if it is one.

@@ -1,12 +1,10 @@
 //! Tests tenants files and tenants' files: what `mwserve` serves, what it refuses, and its notes.
 //!
-//! Nothing else uses it: it may change with what it tests.
-use crate::faulty_runtime::FaultyRuntime;
-use crate::player::{Story, play};
-use std::test::Fail;
+//! Used by: `stories`. It may change with what it tests.
+use crate::player::Story;
 
 /// Tenants files, most of them refused.
-static TENANTS_FILES: [Story; 6] = [
+pub(crate) static TENANTS_FILES: [Story; 6] = [
     Story {
         name: "refused-tenants",
         lines: "\
@@ -133,13 +131,8 @@ gives 2 |mwserve: refused 2 file;DIR/tenants: more than 8192 bytes;",
     },
 ];
 
-#[test]
-fn tenants_files(rt: HostRuntime) -> Result<(), Fail> {
-    play(&FaultyRuntime::new(&rt), &rt, &TENANTS_FILES)
-}
-
 /// Tenants whose files open, or don't.
-static TENANTS: [Story; 9] = [
+pub(crate) static TENANTS: [Story; 9] = [
     // A file that was made with one place has two, so its tenant's quota is 1 or 2.
     Story {
         name: "quota-limits",
@@ -287,8 +280,3 @@ locked
 gives 0 OK 2;YES;|",
     },
 ];
-
-#[test]
-fn files_of_tenants(rt: HostRuntime) -> Result<(), Fail> {
-    play(&FaultyRuntime::new(&rt), &rt, &TENANTS)
-}

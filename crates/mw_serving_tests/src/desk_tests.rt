@@ -2,12 +2,11 @@
 //! told of a lack of room.
 //!
 //! Nothing else uses it: it may change with what it tests.
-use crate::callers::Place;
 use crate::checks::holds;
 use crate::doors::{NO_LIMITS, Tally, open};
 use crate::scenes::{Act, Event, Site, Step};
 use crate::serving::{Count, serve_desk_scene};
-use mw_test_peers::Shelf;
+use mw_test_peers::{Place, Shelf};
 use mw_workers::{ServeEnd, TURN};
 use std::fs::File;
 use std::io;

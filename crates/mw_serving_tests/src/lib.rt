@@ -6,8 +6,6 @@
 #![tactic(auto)]
 
 #[cfg(test)]
-mod callers;
-#[cfg(test)]
 mod checks;
 #[cfg(test)]
 mod crowd_tests;
@@ -17,8 +15,6 @@ mod desk_tests;
 mod doors;
 #[cfg(test)]
 mod guests;
-#[cfg(test)]
-mod local_lookout;
 #[cfg(test)]
 mod notebook;
 #[cfg(test)]

@@ -1,11 +1,11 @@
 //! Scenes of clients over sockets: what they do, and what the server must tell them.
 //!
 //! Used by: `socket_tests`. It may change with what it tests.
-use crate::callers::Habit;
 use crate::doors::NO_LIMITS;
 use crate::scenes::{Act, Event, Step};
 use crate::serving::Shop;
 use mw_connections::TimeLimits;
+use mw_test_peers::Habit;
 use mw_words::MAX_LINE;
 
 /// A server, and what happens there.

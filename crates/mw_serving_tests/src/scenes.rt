@@ -2,8 +2,8 @@
 //!
 //! Used by: `serving`, `socket_tests`, `desk_tests`. It may change freely as long as this crate checks and its tests
 //! pass.
-use crate::callers::{Caller, Habit, Place, come_and_go};
 use crate::doors::Tally;
+use mw_test_peers::{Caller, Habit, Place, come_and_go};
 use std::alloc::Global;
 use std::net::{Net, TcpListener, TcpStream};
 use std::thread::Threads;
@@ -231,19 +231,16 @@ impl Event {
     /// Waits until it has happened. Gives false if it doesn't.
     fn comes<R: Clock>(self, rt: &R, tally: &Tally) -> bool {
         for _ in 0..PATIENCE {
-            if self.has_come(tally) {
+            let has_come = match self {
+                Event::Asked(times) => tally.asked() >= times,
+                Event::Closed(count) => tally.closed() >= count,
+            };
+            if has_come {
                 return true;
             }
             thread::sleep(rt, Duration::from_millis(1));
         }
         false
-    }
-
-    fn has_come(self, tally: &Tally) -> bool {
-        match self {
-            Event::Asked(times) => tally.asked() >= times,
-            Event::Closed(count) => tally.closed() >= count,
-        }
     }
 }
 

@@ -4,11 +4,10 @@
 //! pass.
 ghost use Rattle.std.specs.Prelude.{◌<◌};
 
-use crate::callers::{Place, come_and_go};
 use crate::doors::{Door, Tally};
 use crate::scenes::{Site, Step, play};
 use mw_connections::{Closer, Listener, RoomWatch};
-use mw_test_peers::{Clerk, Shelf};
+use mw_test_peers::{Clerk, Place, Shelf, come_and_go};
 use mw_workers::{Desk, ServeEnd, serve_all, serve_beside};
 use std::alloc::{AllocError, Global};
 use std::net::{Net, TcpListener, TcpStream};

@@ -5,10 +5,10 @@
 use crate::checks::holds;
 use crate::guests::{ALL, Guest, Heard, Script};
 use crate::notebook::Notebook;
-use arrayvec::ArrayVec;
 use mw_connections::Connection;
 use mw_session::{Ended, NoOthers, Service};
 use mw_test_peers::{Clerk, Failure, INPUT, OUTPUT, Shelf, replied};
+use std::alloc::{AllocError, Global};
 use std::sync::{Mutex, Wait};
 
 /// Runs a session of this service with a client of this script. Gives how often the client was written to, if it was
@@ -120,52 +120,74 @@ static SESSIONS: [(u16, &str, &str); 11] = [
     ),
 ];
 
-/// Tells whether a peer that says this to a tenant of so many words, at once or a byte at a time, is told just that.
-fn is_told_however_cut<R: Wait + AllocGlobal>(
-    rt: &R,
-    words: u16,
-    says: &[u8],
-    told: &[u8],
-) -> bool {
-    is_told(rt, words, says, ALL, told) && is_told(rt, words, says, 1, told)
-}
-
 #[test]
 fn sessions_however_cut(rt: HostRuntime) {
     for (words, says, told) in &SESSIONS {
-        let right = is_told_however_cut(&rt, *words, says.as_bytes(), told.as_bytes());
+        let (text, told) = (says.as_bytes(), told.as_bytes());
+        let right = is_told(&rt, *words, text, ALL, told) && is_told(&rt, *words, text, 1, told);
         holds(&rt, says, 0, right);
     }
 }
 
-/// More bytes than a line may have.
-const ENDLESS: usize = 700;
+/// A text: a front, what comes so many times after it, and what is behind that.
+type Text = (&'static str, (&'static str, usize), &'static str);
 
-/// A peer that says a text, a line of so many letters, and a text, and what it is told.
-static LONG_LINES: [(&[u8], usize, &[u8], &[u8]); 4] = [
-    (b"", 640, b"\nQUIT\n", b"ERR 2\nBYE\n"),
-    (b"", 641, b"\n", b"ERR 1\n"),
-    (b"TENANT t\n", ENDLESS, b"", b"OK 2\nERR 1\n"),
-    (b"TENANT t\n", ENDLESS, b"\nGET 0\n", b"OK 2\nERR 1\n"),
+/// How many lines a long session has. Their replies have over 100,000 bytes.
+const MANY: usize = 20_000;
+
+/// How many bytes each of its lines has.
+const LINE: usize = 6;
+
+/// A peer that says a long line or many lines, so many bytes at a time, and what it is told.
+static LONG_TEXTS: [(&str, Text, [usize; 2], Text); 5] = [
+    (
+        "the longest line",
+        ("", ("A", 640), "\nQUIT\n"),
+        [ALL, 1],
+        ("ERR 2\nBYE\n", ("", 0), ""),
+    ),
+    (
+        "a line that is too long",
+        ("", ("A", 641), "\n"),
+        [ALL, 1],
+        ("ERR 1\n", ("", 0), ""),
+    ),
+    (
+        "a line that is far too long",
+        ("TENANT t\n", ("A", 700), ""),
+        [ALL, 1],
+        ("OK 2\nERR 1\n", ("", 0), ""),
+    ),
+    (
+        "a line after one that is far too long",
+        ("TENANT t\n", ("A", 700), "\nGET 0\n"),
+        [ALL, 1],
+        ("OK 2\nERR 1\n", ("", 0), ""),
+    ),
+    (
+        "many lines, one at a time",
+        ("", ("GET 0\n", MANY), ""),
+        [LINE, LINE],
+        ("", ("ERR 3\n", MANY), ""),
+    ),
 ];
 
-/// Makes a line of so many letters, at most [`ENDLESS`], with these texts before and after it.
-fn with_long_line(front: &[u8], count: usize, behind: &[u8]) -> ArrayVec<u8, 1024> {
-    let mut text = ArrayVec::new();
-    let line = [b'A'; ENDLESS];
-    // If there is no room, the test finds that something is missing.
-    let _ = text.try_extend_from_slice(front);
-    let _ = text.try_extend_from_slice(line.get(..count).unwrap_or(b""));
-    let _ = text.try_extend_from_slice(behind);
-    text
+/// Makes a text.
+fn text_of(alloc: Global, text: &Text) -> Result<String, AllocError> {
+    let (front, (repeated, times), behind) = text;
+    let many = repeated.repeat(alloc, *times)?;
+    format!(in alloc; "{front}{}{behind}", many.as_str())
 }
 
 #[test]
-fn long_lines(rt: HostRuntime) {
-    for (front, count, behind, told) in &LONG_LINES {
-        let says = with_long_line(front, *count, behind);
-        let right = is_told_however_cut(&rt, 2, &says, told);
-        holds(&rt, "letters", *count, right);
+fn long_texts(rt: HostRuntime) {
+    for (name, says, pieces, told) in &LONG_TEXTS {
+        let says = text_of(rt.alloc(), says).expect(&rt, "memory");
+        let told = text_of(rt.alloc(), told).expect(&rt, "memory");
+        let [first, second] = *pieces;
+        let (says, told) = (says.as_bytes(), told.as_bytes());
+        let right = is_told(&rt, 2, says, first, told) && is_told(&rt, 2, says, second, told);
+        holds(&rt, name, says.len(), right);
     }
 }
 
@@ -275,18 +297,4 @@ fn jobs_that_are_asked_for(rt: HostRuntime) {
     let was_told = run(&rt, &mut notebook, &script).is_some();
     let was_asked = notebook.was_asked_for(&[1, 0]);
     holds(&rt, "jobs", 2, was_told && was_asked);
-}
-
-/// How many lines a long session has. A line comes at a time. Their replies have over 100,000 bytes.
-const MANY: usize = 20_000;
-
-/// How many bytes each of its lines has.
-const LINE: usize = 6;
-
-#[test]
-fn a_long_session(rt: HostRuntime) {
-    let says = "GET 0\n".repeat(rt.alloc(), MANY).expect(&rt, "memory");
-    let told = "ERR 3\n".repeat(rt.alloc(), MANY).expect(&rt, "memory");
-    let right = is_told(&rt, 2, says.as_bytes(), LINE, told.as_bytes());
-    holds(&rt, "lines", MANY, right);
 }

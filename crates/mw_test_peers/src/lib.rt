@@ -1,13 +1,17 @@
 //! Peers of sessions, for tests: a reader and a writer that fail when they are told to, what they say and are told in
-//! the sweeps, which try each place of failure, and a service in memory.
+//! the sweeps, which try each place of failure, a service in memory, clients over sockets, and a runtime that fails.
 //!
-//! Used by: mw_serving_tests, mw_http_tests, mw_engine_tests, for tests.
+//! Used by: mw_examples, mw_serving_tests, mw_http_tests, mw_engine_tests, for tests.
 #![tactic(auto)]
 
+mod callers;
+mod faulty_runtime;
 mod peers;
 mod shelf;
 mod sweeps;
 
+pub use callers::{Caller, Habit, Place, come_and_go};
+pub use faulty_runtime::FaultyRuntime;
 pub use peers::{Failure, Page, Sender};
 pub use shelf::{Clerk, Shelf};
 pub use sweeps::{INPUT, OUTPUT, replied};

@@ -19,7 +19,7 @@ pub(crate) const INTERRUPTED: i32 = 4;
 pub(crate) const DEVICE: i32 = 5;
 
 /// One call on a file.
-#[derive(Clone, Copy, Debug, PartialEq, Eq)]
+#[derive(Clone, Copy, PartialEq, Eq)]
 pub(crate) enum Call {
     /// Asks for the length, or what else the system tells of the file.
     Metadata,
@@ -35,63 +35,50 @@ pub(crate) enum Call {
     WriteAt(u64, usize),
 }
 
-/// The calls on a file, in their order.
-pub(crate) type Calls = [Option<Call>; CALLS];
-
-/// Gives these calls, and none after them.
-pub(crate) fn calls_of(made: &[Call]) -> Calls {
-    let mut calls = [None; CALLS];
-    for (room, call) in calls.iter_mut().zip(made) {
-        *room = Some(*call);
-    }
-    calls
-}
-
 /// A file in memory.
 #[derive(Drop)]
 pub(crate) struct FakeFile {
     bytes: Cell<[u8; ROOM]>,
     len: Cell<usize>,
-    calls: Cell<Calls>,
+    calls: Cell<[Call; CALLS]>,
     count: Cell<usize>,
-    failing: Cell<Option<(usize, i32)>>,
+    /// The number of the call that fails, from 0 on, and its error.
+    failing: (usize, i32),
 }
 
 impl FakeFile {
-    /// Makes a file of these bytes, at most 1,024.
-    pub(crate) fn new(bytes: &[u8]) -> Self {
+    /// Makes a file of these bytes, at most 1,024. The call of this number, from 0 on, fails with this error of the system,
+    /// unless that is 0.
+    pub(crate) fn new(bytes: &[u8], failing: (usize, i32)) -> Self {
         let len = bytes.len().min(ROOM);
         let mut room = [0; ROOM];
         room[..len].copy_from_slice(&bytes[..len]);
         FakeFile {
             bytes: Cell::new(room),
             len: Cell::new(len),
-            calls: Cell::new([None; CALLS]),
+            calls: Cell::new([Call::Metadata; CALLS]),
             count: Cell::new(0),
-            failing: Cell::new(None),
+            failing,
         }
     }
 
-    /// Lets the call of this number, from 0 on, fail with this error of the system. No other fails.
-    pub(crate) fn fail_at(&self, number: usize, error: i32) {
-        self.failing.set(Some((number, error)));
-    }
-
-    /// Gives the calls so far.
-    pub(crate) fn calls(&self) -> Calls {
-        self.calls.get()
+    /// Tells whether just these calls were made so far, in this order.
+    pub(crate) fn has_made(&self, calls: &[Call]) -> bool {
+        self.calls.get().get(..self.count.get()) == Some(calls)
     }
 
     fn begin(&self, call: Call) -> io::Result<()> {
         let number = self.count.get();
         let mut calls = self.calls.get();
         if number < CALLS {
-            calls[number] = Some(call);
+            calls[number] = call;
         }
         self.calls.set(calls);
         self.count.set(number.saturating_add(1));
-        match self.failing.get() {
-            Some((failing, error)) if failing == number => Err(io::Error::from_raw_os_error(error)),
+        match self.failing {
+            (failing, error) if failing == number && error != 0 => {
+                Err(io::Error::from_raw_os_error(error))
+            }
             _ => Ok(()),
         }
     }

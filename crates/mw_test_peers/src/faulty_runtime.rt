@@ -1,6 +1,7 @@
-//! A runtime for the tests, under which some files can't be read or written, and some addresses give no connection.
+//! A runtime for tests, under which some files can't be read or written, some addresses give no connection, and somebody
+//! tries to connect to a local socket at the moment at which its mode is set.
 //!
-//! Used by: the tests. It may change freely as long as this crate checks and its tests pass.
+//! Used by: mw_examples, mw_serving_tests. It may change freely as long as these check and their tests pass.
 use std::alloc::{Allocator, Global};
 use std::fs::{File, Metadata, OpenOptions, Permissions};
 use std::io;
@@ -10,6 +11,7 @@ use std::os::unix::net;
 use std::os::unix::net::UnixStream;
 use std::rt::Files;
 use std::sync::Wait;
+use std::sync::atomic::{AtomicU32, Ordering};
 use std::thread::Threads;
 use std::time::{Clock, Duration};
 
@@ -20,20 +22,37 @@ const NO_ROOM: [u8; 4] = [127, 0, 0, 2];
 /// - It opens a file whose path ends with `.read-only` for reading alone, so that each write fails.
 /// - It opens a file whose path ends with `.write-only` for writing alone, so that each read fails.
 /// - At [`NO_ROOM`] it gives a listener that waits for nobody: an accept fails if no client is there.
-/// - It has none of the calls that neither the programs nor the tests make: each that the traits have a body for.
+/// - Just before it sets the mode of a file, somebody tries to connect to the local socket at that path.
+/// - It has none of the calls that no program makes: each that the traits have a body for.
 #[derive(Drop)]
-pub(crate) struct FaultyRuntime<'a, R> {
+pub struct FaultyRuntime<'a, R> {
     rt: &'a R,
+    modes: AtomicU32,
+    early: AtomicU32,
 }
 
 impl<'a, R> FaultyRuntime<'a, R> {
     /// Makes a runtime over this one.
-    pub(crate) fn new(rt: &'a R) -> Self {
-        FaultyRuntime { rt }
+    pub fn new(rt: &'a R) -> Self {
+        FaultyRuntime {
+            rt,
+            modes: AtomicU32::new(0),
+            early: AtomicU32::new(0),
+        }
+    }
+
+    /// Gives how often a mode was set.
+    pub fn modes_set(&self) -> u32 {
+        self.modes.load(Ordering::SeqCst)
+    }
+
+    /// Gives how often somebody could connect just before a mode was set.
+    pub fn connected_before(&self) -> u32 {
+        self.early.load(Ordering::SeqCst)
     }
 }
 
-impl<R: Files<File = File>> Files for FaultyRuntime<'_, R> {
+impl<R: Files<File = File> + Net> Files for FaultyRuntime<'_, R> {
     type File = File;
 
     type Dir = R::Dir;
@@ -87,16 +106,12 @@ impl<R: Files<File = File>> Files for FaultyRuntime<'_, R> {
         self.rt.remove_dir_all(alloc, path)
     }
 
-    fn hard_link(&self, original: &str, link: &str) -> io::Result<()> {
-        self.rt.hard_link(original, link)
-    }
-
-    fn set_permissions(&self, path: &str, perm: Permissions) -> io::Result<()> {
-        self.rt.set_permissions(path, perm)
-    }
-
-    fn symlink(&self, original: &str, link: &str) -> io::Result<()> {
-        self.rt.symlink(original, link)
+    fn set_permissions(&self, path: &str, mode: Permissions) -> io::Result<()> {
+        if UnixStream::connect(self.rt, path).is_ok() {
+            self.early.fetch_add(1, Ordering::SeqCst);
+        }
+        self.modes.fetch_add(1, Ordering::SeqCst);
+        self.rt.set_permissions(path, mode)
     }
 
     fn bind_unix(&self, socket: BorrowedFd<'_>, addr: &net::SocketAddr) -> io::Result<()> {

@@ -1,6 +1,7 @@
 //! Clients over sockets: what they wait for must come within a limit of time.
 //!
-//! Used by: `scenes`, `serving`, `socket_tests`. It may change freely as long as this crate checks and its tests pass.
+//! Used by: mw_examples, mw_serving_tests. It may change freely as long as these check and their tests pass.
+use std::alloc::Global;
 use std::io::{self, ErrorKind, Read, Write};
 use std::net::{Net, TcpListener, TcpStream};
 use std::os::fd::OwnedFd;
@@ -87,10 +88,17 @@ impl Caller {
         self.says(text) && self.hears(answer)
     }
 
+    /// Says this, and gives all that comes until the server closes the connection.
+    pub fn hears_all(&mut self, alloc: Global, text: &[u8]) -> io::Result<Vec<u8>> {
+        self.stream.write_all(text)?;
+        let mut heard = Vec::new(alloc);
+        self.stream.read_to_end(&mut heard)?;
+        Ok(heard)
+    }
+
     /// Gives true if the server closes the connection and says no more.
     pub fn hears_the_end(&mut self) -> bool {
-        let mut heard = [0; 1];
-        self.stream.read(&mut heard).is_ok_and(|count| count == 0)
+        matches!(self.stream.read(&mut [0]), Ok(0))
     }
 
     /// Gives true if nothing more comes: the server closes the connection, whether or not it has read all.
