@@ -68,7 +68,7 @@ def try_harm(program: Path, folder: Path, harm: Harm, is_strict: bool, copies: i
         same([get(server.pages, f"/tenants/{name}/file").status for name in "ab"], [503 if is_strict else 500, 200], f"copies, {what}")
         client.close()
         other.close()
-        same(server.end(), "tenant a: failed\n" if is_strict else "", f"further notes, {what}")
+        same(server.end(), "tenant a: failed\na.mw: Stale file handle (os error 116)\n" if is_strict else "", f"further notes, {what}")
 
 
 def same_pages(server: Server, is_strict: bool, what: str) -> None:

@@ -129,7 +129,7 @@ def manual(name: str, version: str, day: str) -> str:
 
 def options_of(source: str) -> List[str]:
     """The options that a source gives to the command line of its program."""
-    return re.findall(r'^ +name: "([a-z-]+)",$', (TOP / source).read_text(encoding="utf-8"), re.MULTILINE)
+    return re.findall(r'"([a-z-]+)",\s+Given::', (TOP / source).read_text(encoding="utf-8"))
 
 
 def faults() -> List[str]:

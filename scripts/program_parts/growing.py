@@ -14,19 +14,21 @@ MWSHOW = BUILT["mwshow"]
 MOST = (1 << 48) - 1
 WHOLE = "words 3\nplaces 2\nword 0 1\nword 1 0\nword 2 7\n"
 OPENED = "second layout at 328\nwords 3\nplaces 4\nopen 0 0 1\nopen 3 2 7\nword 0 1\nword 1 0\nword 2 7\n"
-NOT_WHOLE = "not a whole dump"
 REFUSED = (
-    ("", NOT_WHOLE), ("\n", NOT_WHOLE), (WHOLE[:-1], NOT_WHOLE), (WHOLE + "\n", NOT_WHOLE), (WHOLE + "word 3 0\n", NOT_WHOLE),
-    (WHOLE.replace("word 1 0\n", ""), NOT_WHOLE), (WHOLE.replace("word 2 7\n", ""), NOT_WHOLE), (WHOLE.replace("word 1 0\n", "word 1 00\n"), NOT_WHOLE),
-    (WHOLE.replace("word 1 0\nword 2 7\n", "word 2 7\nword 1 0\n"), NOT_WHOLE), (WHOLE.replace("word 0 1\n", "word 0 +1\n"), NOT_WHOLE),
-    (WHOLE.replace("word 2 7\n", f"word 2 {MOST + 1}\n"), NOT_WHOLE), (WHOLE.replace("word 2 7\n", f"word 2 {1 << 64}\n"), NOT_WHOLE),
-    (WHOLE.replace("word 2 7\n", "word 2 \n"), NOT_WHOLE), (WHOLE.replace("\n", "\r\n"), NOT_WHOLE), (WHOLE.replace("places 2\n", ""), NOT_WHOLE),
-    (WHOLE.replace("words 3", "words 2"), NOT_WHOLE), (WHOLE.replace("words 3", "words 4"), NOT_WHOLE), ("words 0\nplaces 2\n", NOT_WHOLE),
-    (WHOLE + WHOLE, NOT_WHOLE), (OPENED.replace("open 3 2 7", "open 3 2"), NOT_WHOLE), ("damage 6 byte 31\n", NOT_WHOLE),
-    ("words 3\nplaces 2\nword 0 1\nword 2 7\n", NOT_WHOLE), (300_000 * "x", NOT_WHOLE),
-    ("words 5\nplaces 2\n" + "".join(f"word {address} 0\n" for address in range(5)), "more words in the dump"),
-    (WHOLE.replace("places 2", "places 3"), "more places in the dump"), (OPENED.replace("places 4", "places 5"), "more places in the dump"),
-    (WHOLE.replace("places 2", f"places {(1 << 64) + 1}"), NOT_WHOLE),
+    ("", 1), ("\n", 1), (WHOLE[:-1], 5), (WHOLE + "\n", 6), (WHOLE + "word 3 0\n", 6),
+    (WHOLE.replace("word 1 0\n", ""), 4), (WHOLE.replace("word 2 7\n", ""), 5), (WHOLE.replace("word 1 0\n", "word 1 00\n"), 4),
+    (WHOLE.replace("word 1 0\nword 2 7\n", "word 2 7\nword 1 0\n"), 4), (WHOLE.replace("word 0 1\n", "word 0 +1\n"), 3),
+    (WHOLE.replace("word 2 7\n", f"word 2 {MOST + 1}\n"), 5), (WHOLE.replace("word 2 7\n", f"word 2 {1 << 64}\n"), 5),
+    (WHOLE.replace("word 2 7\n", "word 2 \n"), 5), (WHOLE.replace("\n", "\r\n"), 1), (WHOLE.replace("places 2\n", ""), 2),
+    (WHOLE.replace("words 3", "words 2"), 5), (WHOLE.replace("words 3", "words 4"), 6), ("words 0\nplaces 2\n", 3),
+    (WHOLE + WHOLE, 6), (OPENED.replace("open 3 2 7", "open 3 2"), 5), ("damage 6 byte 31\n", 1),
+    ("words 3\nplaces 2\nword 0 1\nword 2 7\n", 4), (300_000 * "x", 1), (WHOLE.replace("places 2", f"places {(1 << 64) + 1}"), 2),
+)
+"""Texts that are no whole dump, and the first line that isn't as it must be."""
+MORE = (
+    ("words 5\nplaces 2\n" + "".join(f"word {address} 0\n" for address in range(5)), "more words in the dump", "WORDS must be at least 5, and is 4"),
+    (WHOLE.replace("places 2", "places 3"), "more places in the dump", "PLACES must be at least 3, and is 2"),
+    (OPENED.replace("places 4", "places 5"), "more places in the dump", "PLACES must be at least 3, and is 2"),
 )
 """Dumps of which no file of 4 words and 2 places is made, and why."""
 
@@ -39,9 +41,11 @@ def ran(folder: Path, *words: object):
 
 def try_refused(folder: Path) -> None:
     """Each is refused, and no file is made, and one that is there isn't touched."""
-    for number, (text, why) in enumerate(REFUSED):
+    cases = [*((text, "not a whole dump", f"line {line} isn't as mwshow --words prints it") for text, line in REFUSED), *MORE]
+    for number, (text, what, why) in enumerate(cases):
         (folder / "dump").write_text(text)
-        same(ran(folder, MWINIT, "--from", "dump", "new.mw", 4, 2), (1, "", f"mwinit: {why}\n"), f"mwinit of the dump {number}, {text[:40]!r}")
+        told = (1, "", f"mwinit: {what}\nmwinit: {why}\n")
+        same(ran(folder, MWINIT, "--from", "dump", "new.mw", 4, 2), told, f"mwinit of the dump {number}, {text[:40]!r}")
         same((folder / "new.mw").exists(), False, f"that there is no file of the dump {number}")
     for dump, why in (("nowhere", "No such file or directory (os error 2)"), (".", "Is a directory (os error 21)")):
         same(ran(folder, MWINIT, "--from", dump, "new.mw", 4, 2), (1, "", f"mwinit: cannot read the dump\nmwinit: {why}\n"), f"mwinit --from {dump}")
@@ -101,4 +105,4 @@ def try_dumps(folder: Path) -> None:
     try_made(folder)
     try_largest(folder)
     try_grown(folder)
-    print(f"dumps: files have their words, and grow; {len(REFUSED)} others are refused")
+    print(f"dumps: files have their words, and grow; {len(REFUSED) + len(MORE)} others are refused")

@@ -1,6 +1,7 @@
 """The built mwserve over a folder of tenants: started with the recorder or without it, asked for all words, killed."""
 import os
 import random
+import re
 import select
 import signal
 import socket
@@ -148,7 +149,8 @@ class Server:
         """What it said that it had no cause for."""
         failed = {name for name, log in logs.items() if log.failed_at is not None}
         known = {f"tenant {name}: {note}" for name in failed for note in KNOWN_NOTES}
-        return [note for note in self.notes() if note not in known]
+        whys = re.compile(f"({'|'.join(failed)})[.]mw: .+ [(]os error [0-9]+[)]|mwserve: [0-9]+ of [0-9]+ tenants down")
+        return [note for note in self.notes() if note not in known and not (failed and whys.fullmatch(note))]
 
     def words(self, tenant: Tenant) -> Optional[Tuple[int, ...]]:
         """All words of a tenant, one read after the other; None where it answers FAULT."""

@@ -7,6 +7,7 @@ ghost use Rattle.mw_config.specs.CommandLine.{ArePermittedArgs, AreSharedWell, I
 
 use clap::builder::ValueParser;
 use clap::error::ErrorKind;
+use clap::parser::ValueSource;
 use clap::{Arg, ArgAction, ArgMatches, Command};
 use mw_main::VERSION;
 use mw_words::{MAX_CONNECTIONS, MAX_POOL, MAX_WORKERS};
@@ -27,6 +28,10 @@ pub struct Args {
     /// If set, each note is followed by one that says which file or address it is about, and what the
     /// system told.
     pub verbose: bool,
+    /// If set, each note begins with its level, as the journal of systemd reads it.
+    pub journal: bool,
+    /// If set, each note begins with the time.
+    pub times: bool,
     /// Where the sessions come from.
     pub mode: Mode,
 }
@@ -109,35 +114,26 @@ const OWNERS_MODE: u32 = 0o600;
 /// The largest file mode of a local socket: everybody may do everything.
 pub const MAX_SOCKET_MODE: u32 = 0o777;
 
-/// A rule of how the options of a command line go together, of which clap knows nothing. Its text says what it asks.
-#[derive(Clone, Copy, Debug, Error)]
-pub enum OptionRule {
-    /// There is exactly one of `--listen` and `--script`.
-    #[error("give exactly one of --listen and --script")]
-    OneMode,
-    /// An option of `--listen` needs it.
-    #[error("--script takes no option of --listen")]
-    OfListen,
-    /// A file mode is at most [`MAX_SOCKET_MODE`], in octal digits.
-    #[error("--mode is 0 to 777, in octal digits")]
-    FileMode,
-    /// Names are for pages alone.
-    #[error("--http-name needs --http")]
-    Pages,
-    /// A name has letters, digits, dots and hyphens, and at most [`MAX_HTTP_NAME`] of them. There are at most
-    /// [`MAX_HTTP_NAMES`].
-    #[error("--http-name is a name of letters, digits, dots and hyphens, without a port, and comes at most {MAX_HTTP_NAMES} times")]
-    HttpName,
-    /// Readers are for shared workers alone.
-    #[error("--readers needs --clients")]
-    Shared,
-    /// One worker at least is no reader.
-    #[error("--clients needs more --workers than --readers, and so at least 2")]
-    Changes,
-    /// The tenants file is given, and each number is in its range. Clap refuses first what breaks this rule.
-    #[error("give --tenants, and each number in its range")]
-    Given,
-}
+/// The rules of how the options of a command line go together, of which clap knows nothing, as a refusal says them.
+const ONE_MODE: &str = "give exactly one of --listen and --script";
+
+const OF_LISTEN: &str = "--script takes no option of --listen";
+
+const FILE_MODE: &str = "--mode is 0 to 777, in octal digits";
+
+const PAGES: &str = "--http-name needs --http";
+
+const HTTP_NAME: &str =
+    "--http-name is a name of letters, digits, dots and hyphens, without a port, and comes at most 16 times";
+
+const _: () = prove!(MAX_HTTP_NAMES == 16);
+
+const SHARED: &str = "--readers needs --clients";
+
+const SOME_CHANGE: &str = "--clients needs more --workers than --readers, and so at least 2";
+
+/// Clap refuses first what breaks this rule.
+const IN_RANGE: &str = "give --tenants, and each number in its range";
 
 /// Tells why a command line is not served.
 #[derive(Debug, Drop, Error)]
@@ -148,7 +144,7 @@ pub enum ArgFault {
     Refused(clap::Error),
     /// Its options break this rule.
     #[error("mwserve: refused 1 command\nmwserve: {0}")]
-    Mode(OptionRule),
+    Mode(&'static str),
     /// Memory was refused.
     #[error("mwserve: memory")]
     Memory,
@@ -171,7 +167,7 @@ impl From<clap::Error> for ArgFault {
 
 /// Reads the command line `args`. Its first argument is the program's own name.
 ///
-/// The form is `mwserve --tenants FILE [--pool P] [--workers N] [--strict] [--verbose]` with either
+/// The form is `mwserve --tenants FILE [--pool P] [--workers N] [--strict] [--verbose] [--journal] [--times]` with either
 /// `--listen ADDR` or `--script FILE`. After `--listen` there may be `[--admin ADDR] [--http ADDR [--http-name NAME ..]]
 /// [--connections C] [--clients M [--readers R]] [--wait SECONDS] [--idle SECONDS] [--line-time SECONDS] [--faults F] [--open]
 /// [--mode MODE]`.
@@ -205,7 +201,7 @@ fn args_of(alloc: Global, matches: &ArgMatches<'_>) -> Result<Args, ArgFault>
         number_of(matches, "pool", u32::from(MAX_POOL)),
         number_of(matches, "workers", u32::from(MAX_WORKERS)),
     ) else {
-        return Err(ArgFault::Mode(OptionRule::Given));
+        return Err(ArgFault::Mode(IN_RANGE));
     };
     Ok(Args {
         tenants: String::from_str(alloc, tenants)?,
@@ -213,6 +209,8 @@ fn args_of(alloc: Global, matches: &ArgMatches<'_>) -> Result<Args, ArgFault>
         workers: workers as u8,
         strict: matches.get_flag("strict"),
         verbose: matches.get_flag("verbose"),
+        journal: matches.get_flag("journal"),
+        times: matches.get_flag("times"),
         mode: mode_of(alloc, matches, workers as u8)?,
     })
 }
@@ -227,20 +225,20 @@ fn mode_of(alloc: Global, matches: &ArgMatches<'_>, workers: u8) -> Result<Mode,
         (None, Some(script)) if !tell_of_connections(matches) => {
             Ok(Mode::Script(String::from_str(alloc, script)?))
         }
-        (None, Some(_)) => Err(ArgFault::Mode(OptionRule::OfListen)),
-        _ => Err(ArgFault::Mode(OptionRule::OneMode)),
+        (None, Some(_)) => Err(ArgFault::Mode(OF_LISTEN)),
+        _ => Err(ArgFault::Mode(ONE_MODE)),
     }
 }
 
 /// Tells whether there is an option for connections only, other than `--listen`.
 fn tell_of_connections(matches: &ArgMatches<'_>) -> bool {
-    matches.get_flag("open")
-        || TEXTS_OF_CONNECTIONS
-            .iter()
-            .any(|name| matches.get_str(name).is_some())
-        || OF_CONNECTIONS
-            .iter()
-            .any(|name| matches.get_one::<u32>(name).is_some())
+    for option in &OF_CONNECTIONS {
+        let (name, _, _) = *option;
+        if let Some(ValueSource::CommandLine) = matches.value_source(name) {
+            return true;
+        }
+    }
+    false
 }
 
 /// Gives the mode for connections to this address, with what the other options say of them.
@@ -283,10 +281,10 @@ fn names_of(alloc: Global, matches: &ArgMatches<'_>) -> Result<Vec<String>, ArgF
         return Ok(Vec::new(alloc));
     };
     if matches.get_str("http").is_none() {
-        return Err(ArgFault::Mode(OptionRule::Pages));
+        return Err(ArgFault::Mode(PAGES));
     }
     if names.len() > MAX_HTTP_NAMES {
-        return Err(ArgFault::Mode(OptionRule::HttpName));
+        return Err(ArgFault::Mode(HTTP_NAME));
     }
     copies_of(alloc, names)
 }
@@ -298,7 +296,7 @@ fn copies_of(alloc: Global, names: &[&str]) -> Result<Vec<String>, ArgFault>
     let mut copies = Vec::new(alloc);
     for name in names {
         if !is_host_name(name.as_bytes()) {
-            return Err(ArgFault::Mode(OptionRule::HttpName));
+            return Err(ArgFault::Mode(HTTP_NAME));
         }
         if copies.push(String::from_str(alloc, name)?).is_err() {
             return Err(ArgFault::Memory);
@@ -325,13 +323,13 @@ fn shared_of(matches: &ArgMatches<'_>, workers: u8) -> Result<Option<SharedWorke
         return if readers.is_none() {
             Ok(None)
         } else {
-            Err(ArgFault::Mode(OptionRule::Shared))
+            Err(ArgFault::Mode(SHARED))
         };
     };
     let usual = u32::from((workers / WORKERS_A_READER).max(1));
     let readers = readers.unwrap_or(usual);
     if readers >= u32::from(workers) {
-        return Err(ArgFault::Mode(OptionRule::Changes));
+        return Err(ArgFault::Mode(SOME_CHANGE));
     }
     Ok(Some(SharedWorkers {
         clients: clients as u16,
@@ -348,7 +346,7 @@ fn socket_mode_of(text: Option<&str>) -> Result<u32, ArgFault>
     };
     match u32::from_str_radix(text, 8) {
         Ok(mode) if mode <= MAX_SOCKET_MODE => Ok(mode),
-        _ => Err(ArgFault::Mode(OptionRule::FileMode)),
+        _ => Err(ArgFault::Mode(FILE_MODE)),
     }
 }
 
@@ -365,20 +363,10 @@ fn copy_of(alloc: Global, text: Option<&str>) -> Result<Option<String>, AllocErr
 fn number_of(matches: &ArgMatches<'_>, name: &str, most: u32) -> Option<u32>
     ensures { IfSome result (λ number. IsUpTo most number) }
 {
-    matches
-        .get_one::<u32>(name)
-        .filter(|number| (1..=most).contains(number))
-}
-
-/// An option of the command line, as the help tells it.
-#[derive(Clone, Copy)]
-struct Choice {
-    /// Its name, without the two dashes.
-    name: &'static str,
-    /// What is given after it.
-    given: Given,
-    /// What it is for.
-    help: &'static str,
+    match matches.get_one::<u32>(name) {
+        Some(number) if (1..=most).contains(&number) => Some(number),
+        _ => None,
+    }
 }
 
 /// Says what is given after an option.
@@ -390,7 +378,7 @@ enum Given {
     Text(&'static str),
     /// The same, as often as it is given.
     Texts(&'static str),
-    /// A number from 1 to the second part. The help calls it by the first part.
+    /// A number from 1 to the second part. The help calls it by the first part, which is its range.
     Number(&'static str, u32),
     /// The same. If none is given, it is the third part.
     NumberOr(&'static str, u32, &'static str),
@@ -398,157 +386,179 @@ enum Given {
     Flag,
 }
 
-/// The options with a text that need `--listen`.
-const TEXTS_OF_CONNECTIONS: [&str; 4] = ["admin", "http", "http-name", "mode"];
+/// The name of an option, without the two dashes, what is given after it, and what it is for.
+type Choice = (&'static str, Given, &'static str);
 
-/// The options with a number that need `--listen`.
-const OF_CONNECTIONS: [&str; 7] = [
-    "connections",
-    "clients",
-    "readers",
-    "wait",
-    "idle",
-    "line-time",
-    "faults",
+/// What the help ends with.
+const AFTER_HELP: &str = "\
+Each line of the tenants file: name words quota path
+Example: mwinit t.mw 1000 4 && echo 't 1000 4 t.mw' > tenants && mwserve --tenants tenants --listen 127.0.0.1:7000
+Documents: docs/OPERATING.md beside README.md, or below /usr/share/doc/mondlexi";
+
+// The names of numbers in the help have these limits.
+const _: () = prove!(MAX_POOL == 256);
+
+const _: () = prove!(MAX_WORKERS == 64);
+
+const _: () = prove!(MAX_CLIENTS == 4096);
+
+const _: () = prove!(MAX_CONNECTIONS == 1_000_000);
+
+const _: () = prove!(MAX_FAULTS == 1_000_000);
+
+const _: () = prove!(MAX_IDLE == 86_400);
+
+/// The options that need no `--listen`, in the order of the help.
+const OPTIONS: [Choice; 9] = [
+    (
+        "tenants",
+        Given::Needed("FILE"),
+        "which tenants are served, and from which files",
+    ),
+    (
+        "pool",
+        Given::NumberOr("1..256", MAX_POOL as u32, "256"),
+        "how many changes of all tenants may be under way at a time",
+    ),
+    (
+        "workers",
+        Given::NumberOr("1..64", MAX_WORKERS as u32, "4"),
+        "how many requests are worked on at once; without --clients each client has a worker",
+    ),
+    (
+        "strict",
+        Given::Flag,
+        "serve nothing if a tenant's file doesn't open",
+    ),
+    (
+        "verbose",
+        Given::Flag,
+        "say after each note which file or address it is about, and what the system told",
+    ),
+    (
+        "journal",
+        Given::Flag,
+        "begin each note with its level, as the journal of systemd reads it: <3>, <4> or <6>",
+    ),
+    (
+        "times",
+        Given::Flag,
+        "begin each note with the time in UTC, as 2026-11-28T06:30:00.125Z",
+    ),
+    (
+        "script",
+        Given::Text("FILE"),
+        "the lines of one session, in place of connections",
+    ),
+    (
+        "listen",
+        Given::Text("ADDR"),
+        "where to wait for connections, each of them a session: HOST:PORT or unix:PATH",
+    ),
 ];
 
-/// The options, in the order of the help.
-const CHOICES: [Choice; 19] = [
-    Choice {
-        name: "tenants",
-        given: Given::Needed("FILE"),
-        help: "which tenants are served, and from which files",
-    },
-    Choice {
-        name: "pool",
-        given: Given::NumberOr("P", MAX_POOL as u32, "256"),
-        help: "how many changes of all tenants may be under way at a time, 1 to 256",
-    },
-    Choice {
-        name: "workers",
-        given: Given::NumberOr("N", MAX_WORKERS as u32, "4"),
-        help: "how many requests are worked on at once, 1 to 64; without --clients each client has a worker",
-    },
-    Choice {
-        name: "listen",
-        given: Given::Text("ADDR"),
-        help: "where to wait for connections, each of them a session: HOST:PORT or unix:PATH",
-    },
-    Choice {
-        name: "admin",
-        given: Given::Text("ADDR"),
-        help: "where to wait for the administrator, who then has a worker beside the others",
-    },
-    Choice {
-        name: "http",
-        given: Given::Text("ADDR"),
-        help: "where to show the server's pages and figures over HTTP: HOST:PORT or unix:PATH; without it, nowhere",
-    },
-    Choice {
-        name: "http-name",
-        given: Given::Texts("NAME"),
-        help: "a name by which the pages may be called, beside addresses and localhost; it may be given 16 times",
-    },
-    Choice {
-        name: "script",
-        given: Given::Text("FILE"),
-        help: "the lines of one session, in place of connections",
-    },
-    Choice {
-        name: "connections",
-        given: Given::Number("C", MAX_CONNECTIONS),
-        help: "after how many connections to end, 1 to 1000000; without it, never",
-    },
-    Choice {
-        name: "clients",
-        given: Given::Number("M", MAX_CLIENTS as u32),
-        help: "how many clients are served at once, 1 to 4096, sharing the workers; without it, as many as there are workers",
-    },
-    Choice {
-        name: "readers",
-        given: Given::Number("R", MAX_WORKERS as u32),
-        help: "how many of the workers only read, with --clients; without it, a quarter of them",
-    },
-    Choice {
-        name: "wait",
-        given: Given::Number("SECONDS", MAX_IDLE),
-        help: "after how many seconds to close a connection for which no session is free, 1 to 86400; without it, never",
-    },
-    Choice {
-        name: "idle",
-        given: Given::Number("SECONDS", MAX_IDLE),
-        help: "after how many seconds of silence to end a session, 1 to 86400; without it, never",
-    },
-    Choice {
-        name: "line-time",
-        given: Given::Number("SECONDS", MAX_IDLE),
-        help: "how many seconds a line or a reply may take from its first byte to its last, 1 to 86400; without it, as --idle",
-    },
-    Choice {
-        name: "faults",
-        given: Given::Number("F", MAX_FAULTS),
-        help: "after how many lines that are answered ERR to end a session, 1 to 1000000; without it, never",
-    },
-    Choice {
-        name: "open",
-        given: Given::Flag,
-        help: "say no note on an address at which other machines may connect",
-    },
-    Choice {
-        name: "mode",
-        given: Given::Text("MODE"),
-        help: "the file mode of a local socket, in octal digits; without it, 0600",
-    },
-    Choice {
-        name: "strict",
-        given: Given::Flag,
-        help: "serve nothing where a tenant's file doesn't open",
-    },
-    Choice {
-        name: "verbose",
-        given: Given::Flag,
-        help: "say behind each note which file or address it is about, and what the system told",
-    },
+/// The options that need `--listen`.
+const OF_CONNECTIONS: [Choice; 12] = [
+    (
+        "admin",
+        Given::Text("ADDR"),
+        "where to wait for the administrator, who then has a worker beside the others",
+    ),
+    (
+        "http",
+        Given::Text("ADDR"),
+        "where to show the server's pages and figures over HTTP: HOST:PORT or unix:PATH; without it, nowhere",
+    ),
+    (
+        "http-name",
+        Given::Texts("NAME"),
+        "a name by which the pages may be called, beside addresses and localhost; it may be given 16 times",
+    ),
+    (
+        "connections",
+        Given::Number("1..1000000", MAX_CONNECTIONS),
+        "after how many connections to end; without it, never",
+    ),
+    (
+        "clients",
+        Given::Number("1..4096", MAX_CLIENTS as u32),
+        "how many clients are served at once, sharing the workers; without it, as many as there are workers",
+    ),
+    (
+        "readers",
+        Given::Number("1..64", MAX_WORKERS as u32),
+        "how many of the workers only read, with --clients; without it, a quarter of them",
+    ),
+    (
+        "wait",
+        Given::Number("1..86400", MAX_IDLE),
+        "after how many seconds to close a connection for which no session is free; without it, never",
+    ),
+    (
+        "idle",
+        Given::Number("1..86400", MAX_IDLE),
+        "after how many seconds of silence to end a session; without it, never",
+    ),
+    (
+        "line-time",
+        Given::Number("1..86400", MAX_IDLE),
+        "how many seconds a line or a reply may take from its first byte to its last; without it, as --idle",
+    ),
+    (
+        "faults",
+        Given::Number("1..1000000", MAX_FAULTS),
+        "after how many lines that are answered ERR to end a session; without it, never",
+    ),
+    (
+        "open",
+        Given::Flag,
+        "say no note on an address at which other machines may connect",
+    ),
+    (
+        "mode",
+        Given::Text("0..777"),
+        "the file mode of a local socket, in octal digits; without it, 600",
+    ),
 ];
 
 fn command<'a>(alloc: Global) -> Result<Command<'a>, AllocError> {
     let command = Command::new(alloc, "mwserve")
         .version(VERSION)
-        .about("Serves tenants' words.");
-    with_choices(alloc, command, &CHOICES)
+        .about("Serves tenants' words.")
+        .after_help(AFTER_HELP);
+    let command = with_options(alloc, command, &OPTIONS)?;
+    with_options(alloc, command, &OF_CONNECTIONS)
 }
 
 /// Gives the command with these options.
-fn with_choices<'a>(
+fn with_options<'a>(
     alloc: Global,
     command: Command<'a>,
-    choices: &[Choice],
+    options: &[Choice],
 ) -> Result<Command<'a>, AllocError> {
     let mut command = command;
-    for choice in choices {
-        command = command.arg(arg_of(alloc, *choice))?;
+    for option in options {
+        let (name, given, help) = *option;
+        let arg = Arg::new(alloc, name).long(name).help(help);
+        command = command.arg(with_value(arg, given))?;
     }
     Ok(command)
 }
 
-/// Gives clap's argument for an option.
-fn arg_of<'a>(alloc: Global, choice: Choice) -> Arg<'a> {
-    let arg = Arg::new(alloc, choice.name)
-        .long(choice.name)
-        .help(choice.help);
-    match choice.given {
-        Given::Needed(value) => arg.value_name(value).action(ArgAction::Set).required(true),
-        Given::Text(value) => arg.value_name(value).action(ArgAction::Set),
+/// Says what is given after an option.
+fn with_value<'a>(arg: Arg<'a>, given: Given) -> Arg<'a> {
+    match given {
+        Given::Needed(value) => arg.value_name(value).required(true),
+        Given::Text(value) => arg.value_name(value),
         Given::Texts(value) => arg.value_name(value).action(ArgAction::Append),
-        Given::Number(value, most) => arg_to(arg, value, most),
-        Given::NumberOr(value, most, usual) => arg_to(arg, value, most).default_value(usual),
+        Given::Number(value, most) => with_number(arg, value, most),
+        Given::NumberOr(value, most, usual) => with_number(arg, value, most).default_value(usual),
         Given::Flag => arg.action(ArgAction::SetTrue),
     }
 }
 
-/// Gives the argument with a number from 1 to `most`.
-fn arg_to<'a>(arg: Arg<'a>, value: &'static str, most: u32) -> Arg<'a> {
+/// Says that a number from 1 to `most` is given after an option.
+fn with_number<'a>(arg: Arg<'a>, value: &'a str, most: u32) -> Arg<'a> {
     arg.value_name(value)
-        .action(ArgAction::Set)
         .value_parser(ValueParser::unsigned(1, u64::from(most)))
 }

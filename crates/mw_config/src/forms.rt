@@ -14,7 +14,7 @@ use mw_line::field;
 use mw_words::{MAX_PATH, is_name};
 
 /// A rule of the form that each line of a tenants file has, `name words quota path`.
-#[derive(Clone, Copy, Debug)]
+#[derive(Clone, Copy)]
 pub enum FormRule {
     /// A line ends with a line feed.
     LineFeed,

@@ -13,7 +13,7 @@ mod tenants;
 
 pub use command_line::{
     ArgFault, Args, Listening, MAX_CLIENTS, MAX_FAULTS, MAX_HTTP_NAME, MAX_HTTP_NAMES, MAX_IDLE,
-    MAX_SOCKET_MODE, Mode, OptionRule, SharedWorkers, read_args,
+    MAX_SOCKET_MODE, Mode, SharedWorkers, read_args,
 };
 pub use forms::{FormRule, broken_rule};
 pub use laws::one_answer;

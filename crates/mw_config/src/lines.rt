@@ -18,7 +18,7 @@ use mw_words::{MAX_PATH, Name, is_name};
 use std::str;
 
 /// A tenant, as its line in the tenants file tells it.
-#[derive(Debug, Default, Drop)]
+#[derive(Default, Drop)]
 pub struct TenantLine {
     /// The tenant's name.
     pub name: Name,

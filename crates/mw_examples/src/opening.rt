@@ -1,6 +1,5 @@
-//! Tests what opens a server's files, over files that fail when they are told to: that a watched, a metered and a tracked file
-//! make each call on the file below them once and give its outcome, and what each of them keeps of it; and that a disk over a
-//! watched file syncs.
+//! Tests what opens a server's files, over files that fail when they are told to: that a watched file makes each call on the file
+//! below it once and gives its outcome, and what it keeps of it; and that a disk over a watched file syncs.
 //!
 //! Nothing else uses it: it may change with what it tests.
 mod fake_file;
@@ -8,7 +7,7 @@ mod fake_file;
 use fake_file::{Call, DEVICE, FakeFile, INTERRUPTED};
 use mw_disk::{Disk, FileDisk};
 use mw_metrics::{CallFigures, TenantCounters};
-use mw_opening::{FileState, LastError, MeteredFile, TrackedFile, WatchedFile};
+use mw_opening::{FileState, WatchedFile};
 use std::fs::OpenFile;
 use std::io;
 use std::os::unix::fs::FileExt;
@@ -46,17 +45,16 @@ enum Layer {
     /// Somebody else, without the server.
     Others,
     Watched,
-    Metered,
-    Tracked,
-    /// A tracked file that was given up.
+    /// A watched file whose calls are counted.
+    Counted,
+    /// The same, after it was given up.
     GivenUp,
 }
 
-/// A file, and what each layer over it keeps.
+/// A file, and what is kept of it.
 #[derive(Drop)]
 struct Bench {
     file: FakeFile,
-    last: LastError,
     counters: TenantCounters,
     state: FileState,
 }
@@ -66,7 +64,6 @@ impl Bench {
     fn new(failing: (usize, i32)) -> Self {
         Bench {
             file: FakeFile::new(BYTES, failing),
-            last: LastError::new(),
             counters: TenantCounters::new(),
             state: FileState::new(),
         }
@@ -77,16 +74,17 @@ impl Bench {
         let file = &self.file;
         let made = match layer {
             Layer::Others => make(&file, call),
-            Layer::Watched => make(&WatchedFile::new(file, &self.last), call),
-            Layer::Metered => make(&MeteredFile::new(file, rt, Some(&self.counters)), call),
-            Layer::Tracked | Layer::GivenUp => make(&TrackedFile::new(file, &self.state), call),
+            Layer::Watched => make(&WatchedFile::new(file, &self.state, rt, None), call),
+            Layer::Counted | Layer::GivenUp => {
+                make(&WatchedFile::new(file, &self.state, rt, Some(&self.counters)), call)
+            }
         };
         made.map_err(number_of)
     }
 
     /// Gives the last error that is kept, 0 if there is none.
     fn last(&self) -> i32 {
-        match self.last.error() {
+        match self.state.last_error().error() {
             Some(error) => number_of(error),
             None => 0,
         }
@@ -136,7 +134,7 @@ fn holds<R: Abort>(rt: &R, row: &str, at: usize, is_so: bool) {
 }
 
 /// Calls on a new file, each alone, by a layer. The call below fails with this error, if it isn't 0.
-static CASES: [(&str, Layer, i32); 9] = [
+static CASES: [(&str, Layer, i32); 8] = [
     ("watched", Layer::Watched, 0),
     ("watched, and the device fails", Layer::Watched, DEVICE),
     (
@@ -144,19 +142,18 @@ static CASES: [(&str, Layer, i32); 9] = [
         Layer::Watched,
         INTERRUPTED,
     ),
-    ("metered", Layer::Metered, 0),
-    ("metered, and the device fails", Layer::Metered, DEVICE),
+    ("counted", Layer::Counted, 0),
+    ("counted, and the device fails", Layer::Counted, DEVICE),
     (
-        "metered, and the call is interrupted",
-        Layer::Metered,
+        "counted, and the call is interrupted",
+        Layer::Counted,
         INTERRUPTED,
     ),
-    ("tracked", Layer::Tracked, 0),
-    ("tracked, and the device fails", Layer::Tracked, DEVICE),
-    ("tracked, and given up", Layer::GivenUp, 0),
+    ("given up", Layer::GivenUp, 0),
+    ("given up, and the device fails", Layer::GivenUp, DEVICE),
 ];
 
-/// What a metered file counts of one such call, with this failure.
+/// What is counted of one such call, with this failure.
 fn once(call: Call, failures: u64) -> [Counted; 3] {
     let one = (1, failures);
     match call {
@@ -177,11 +174,11 @@ fn is_one_call<R: Clock>(rt: &R, layer: Layer, error: i32, call: Call, number: u
     };
     // A call that was interrupted is made again: it is no failure.
     let has_failed = error == DEVICE;
+    let kept = if has_failed { DEVICE } else { 0 };
     let (wanted, calls, last, counted) = match layer {
-        Layer::Watched if has_failed => (wanted, &[call][..], DEVICE, [(0, 0); 3]),
-        Layer::Metered => (wanted, &[call][..], 0, once(call, u64::from(has_failed))),
-        Layer::GivenUp => (Err(STALE), &[][..], 0, [(0, 0); 3]),
-        _ => (wanted, &[call][..], 0, [(0, 0); 3]),
+        Layer::Counted => (wanted, &[call][..], kept, once(call, u64::from(has_failed))),
+        Layer::GivenUp => (Err(STALE), &[][..], STALE, [(0, 0); 3]),
+        _ => (wanted, &[call][..], kept, [(0, 0); 3]),
     };
     if let Layer::GivenUp = layer {
         bench.state.give_up();
@@ -229,7 +226,7 @@ static ROWS: [Row; 4] = [
         steps: &[
             (Layer::Watched, Call::SyncAll, Ok(0), 0, false),
             (Layer::Watched, Call::SyncData, Err(DEVICE), 0, false),
-            (Layer::Watched, Call::Metadata, Ok(6), 0, false),
+            (Layer::Watched, Call::Metadata, Ok(6), 6, false),
         ],
         last: DEVICE,
     },
@@ -238,49 +235,49 @@ static ROWS: [Row; 4] = [
         name: "the size that a file must have",
         failing: (10, DEVICE),
         steps: &[
-            (Layer::Tracked, Call::Metadata, Ok(6), 6, false),
-            (Layer::Tracked, Call::ReadAt(0, 4), Ok(4), 6, false),
-            (Layer::Tracked, Call::WriteAt(1, 4), Ok(4), 6, false),
-            (Layer::Tracked, Call::ReadAt(0, 4), Ok(4), 6, false),
-            (Layer::Tracked, Call::WriteAt(5, 4), Ok(4), 9, false),
-            (Layer::Tracked, Call::Metadata, Ok(9), 9, false),
-            (Layer::Tracked, Call::SetLen(3), Ok(0), 3, false),
-            (Layer::Tracked, Call::Metadata, Ok(3), 3, false),
-            (Layer::Tracked, Call::WriteAt(5, 4), Ok(4), 9, false),
-            (Layer::Tracked, Call::Metadata, Ok(9), 9, false),
-            (Layer::Tracked, Call::WriteAt(9, 4), Err(DEVICE), 9, false),
+            (Layer::Watched, Call::Metadata, Ok(6), 6, false),
+            (Layer::Watched, Call::ReadAt(0, 4), Ok(4), 6, false),
+            (Layer::Watched, Call::WriteAt(1, 4), Ok(4), 6, false),
+            (Layer::Watched, Call::ReadAt(0, 4), Ok(4), 6, false),
+            (Layer::Watched, Call::WriteAt(5, 4), Ok(4), 9, false),
+            (Layer::Watched, Call::Metadata, Ok(9), 9, false),
+            (Layer::Watched, Call::SetLen(3), Ok(0), 3, false),
+            (Layer::Watched, Call::Metadata, Ok(3), 3, false),
+            (Layer::Watched, Call::WriteAt(5, 4), Ok(4), 9, false),
+            (Layer::Watched, Call::Metadata, Ok(9), 9, false),
+            (Layer::Watched, Call::WriteAt(9, 4), Err(DEVICE), 9, false),
         ],
-        last: 0,
+        last: DEVICE,
     },
     // It stays known even after a write has made the file as long as before.
     Row {
         name: "a file that others cut to two bytes",
         failing: NONE,
         steps: &[
-            (Layer::Tracked, Call::Metadata, Ok(6), 6, false),
-            (Layer::Tracked, Call::ReadAt(0, 4), Ok(4), 6, false),
+            (Layer::Watched, Call::Metadata, Ok(6), 6, false),
+            (Layer::Watched, Call::ReadAt(0, 4), Ok(4), 6, false),
             (Layer::Others, Call::SetLen(2), Ok(0), 6, false),
-            (Layer::Tracked, Call::SyncData, Ok(0), 6, false),
-            (Layer::Tracked, Call::Metadata, Err(STALE), 6, true),
-            (Layer::Tracked, Call::WriteAt(4, 4), Ok(4), 8, true),
-            (Layer::Tracked, Call::Metadata, Err(STALE), 8, true),
+            (Layer::Watched, Call::SyncData, Ok(0), 6, false),
+            (Layer::Watched, Call::Metadata, Err(STALE), 6, true),
+            (Layer::Watched, Call::WriteAt(4, 4), Ok(4), 8, true),
+            (Layer::Watched, Call::Metadata, Err(STALE), 8, true),
         ],
-        last: 0,
+        last: STALE,
     },
     // A read of the first byte alone shows nothing.
     Row {
         name: "a file in which others write four bytes from the second one on",
         failing: NONE,
         steps: &[
-            (Layer::Tracked, Call::Metadata, Ok(6), 6, false),
-            (Layer::Tracked, Call::ReadAt(0, 4), Ok(4), 6, false),
+            (Layer::Watched, Call::Metadata, Ok(6), 6, false),
+            (Layer::Watched, Call::ReadAt(0, 4), Ok(4), 6, false),
             (Layer::Others, Call::WriteAt(1, 4), Ok(4), 6, false),
-            (Layer::Tracked, Call::Metadata, Ok(6), 6, false),
-            (Layer::Tracked, Call::ReadAt(0, 1), Ok(1), 6, false),
-            (Layer::Tracked, Call::ReadAt(0, 4), Err(STALE), 6, true),
-            (Layer::Tracked, Call::Metadata, Err(STALE), 6, true),
+            (Layer::Watched, Call::Metadata, Ok(6), 6, false),
+            (Layer::Watched, Call::ReadAt(0, 1), Ok(1), 6, false),
+            (Layer::Watched, Call::ReadAt(0, 4), Err(STALE), 6, true),
+            (Layer::Watched, Call::Metadata, Err(STALE), 6, true),
         ],
-        last: 0,
+        last: STALE,
     },
 ];
 
@@ -338,7 +335,7 @@ fn a_disk_syncs_its_file(rt: HostRuntime) {
         let bench = Bench::new((0, *error));
         let alone = syncs(FileDisk::new(&bench.file), &bench.file, calls, *faults);
         let bench = Bench::new((0, *error));
-        let disk = FileDisk::new(WatchedFile::new(&bench.file, &bench.last));
+        let disk = FileDisk::new(WatchedFile::new(&bench.file, &bench.state, &rt, None));
         let watched = syncs(disk, &bench.file, calls, *faults);
         holds(&rt, name, calls.len(), alone && watched);
     }

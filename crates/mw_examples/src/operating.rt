@@ -22,7 +22,7 @@ serve --verbose
 gives 2 |mwserve: refused 2 file;DIR/tenants: No such file or directory (os error 2);
 write tenants t 2 1 DIR/t.mw;
 serve
-gives 1 |tenant t: disk;mwserve: cannot read;
+gives 1 |tenant t: disk;DIR/t.mw: cannot open: No such file or directory (os error 2);mwserve: cannot read;DIR/script: No such file or directory (os error 2);
 mwinit DIR/t.mw 2 1
 serve --verbose
 gives 1 |mwserve: cannot read;DIR/script: No such file or directory (os error 2);",
@@ -37,9 +37,9 @@ serve --strict
 gives 0 OK 2;VAL 0;|
 write tenants t 2 1 DIR/t.mw;u 2 1 DIR/u.mw;
 serve --strict
-gives 1 |tenant u: disk;
+gives 1 |tenant u: disk;DIR/u.mw: cannot open: No such file or directory (os error 2);
 serve
-gives 0 OK 2;VAL 0;|tenant u: disk;",
+gives 0 OK 2;VAL 0;|tenant u: disk;DIR/u.mw: cannot open: No such file or directory (os error 2);",
     },
     // With `--strict` nothing is served if a tenant's file doesn't open. The server doesn't come to the script, which
     // isn't there, nor to the address.
@@ -50,24 +50,24 @@ mwinit DIR/t.mw 2 1
 write text no file of words, but long enough for a head
 write tenants s 2 1 DIR/t.mw;t 2 1 DIR/no.mw;
 serve --strict
-gives 1 |tenant t: disk;
+gives 1 |tenant t: disk;DIR/no.mw: cannot open: No such file or directory (os error 2);
 mwserve --tenants DIR/tenants --strict --listen nowhere
-gives 1 |tenant t: disk;
+gives 1 |tenant t: disk;DIR/no.mw: cannot open: No such file or directory (os error 2);
 write tenants s 2 1 DIR/t.mw;t 2 1 DIR/./t.mw;
 serve --strict
-gives 1 |tenant t: in use;
+gives 1 |tenant t: in use;DIR/./t.mw: the file of line 1;
 write tenants t 2 1 DIR/text;s 2 1 DIR/t.mw;
 serve --strict
-gives 1 |tenant t: damage 1;
+gives 1 |tenant t: damage 1;DIR/text: it doesn't begin as a tenant's file;
 write tenants t 3 1 DIR/t.mw;
 serve --strict --verbose
-gives 1 |tenant t: misfit;DIR/t.mw: 2 words, 2 places;
+gives 1 |tenant t: misfit;DIR/t.mw: 2 words, 2 places, but its line has 3 words, quota 1;
 write tenants t 2 3 DIR/t.mw;u 2 1 DIR/no.mw;
 serve --strict
-gives 1 |tenant t: misfit;tenant u: disk;
+gives 1 |tenant t: misfit;DIR/t.mw: 2 words, 2 places, but its line has 2 words, quota 3;tenant u: disk;DIR/no.mw: cannot open: No such file or directory (os error 2);
 write tenants t 2 2 DIR/t.mw;
 serve --strict
-gives 1 |mwserve: cannot read;",
+gives 1 |mwserve: cannot read;DIR/script: No such file or directory (os error 2);",
     },
     Story {
         name: "notes-that-say-more",
@@ -79,16 +79,16 @@ serve --verbose
 gives 0 OK ADMIN;|
 write tenants t 2 1 DIR/no.mw;
 serve --verbose
-gives 0 OK ADMIN;|tenant t: disk;DIR/no.mw: No such file or directory (os error 2);
+gives 0 OK ADMIN;|tenant t: disk;DIR/no.mw: cannot open: No such file or directory (os error 2);
 write tenants t 2 3 DIR/t.mw;
 serve --verbose
-gives 0 OK ADMIN;|tenant t: misfit;DIR/t.mw: 2 words, 2 places;
+gives 0 OK ADMIN;|tenant t: misfit;DIR/t.mw: 2 words, 2 places, but its line has 2 words, quota 3;
 write tenants u 2 1 DIR/t.mw;t 2 1 DIR/./t.mw;
 serve --verbose
-gives 0 OK ADMIN;|tenant t: in use;DIR/./t.mw;
+gives 0 OK ADMIN;|tenant t: in use;DIR/./t.mw: the file of line 1;
 write tenants t 2 1 DIR/script;
 serve --verbose
-gives 0 OK ADMIN;|tenant t: damage 6;DIR/script;",
+gives 0 OK ADMIN;|tenant t: damage 6;DIR/script: it is too short;",
     },
     // Command lines with an option that is missing, unknown, or has a number out of its range.
     Story {
@@ -168,19 +168,19 @@ gives 1 |mwserve: cannot read;DIR/tenants/script: Not a directory (os error 20);
 mwinit DIR/t.mw 2 1
 write tenants t 2 1 DIR/t.mw;
 mwserve --tenants DIR/tenants --connections 1 $1
-gives 1 |mwserve: cannot listen;
+gives 1 |mwserve: cannot listen;$2;
 for each of
---listen nowhere
---listen 127.0.0.1
---listen 127.0.0.1:
---listen 127.0.0.1:65536
---listen unix:
---listen unix:DIR
---listen unix:DIR/tenants
---listen unix:DIR/tenants/s
---listen 127.0.0.1:0 --admin nowhere
---listen 127.0.0.1:0 --admin unix:DIR
---listen nowhere --admin 127.0.0.1:0",
+--listen nowhere|nowhere: an address is HOST:PORT, or unix: and a path of at most 107 bytes
+--listen 127.0.0.1|127.0.0.1: an address is HOST:PORT, or unix: and a path of at most 107 bytes
+--listen 127.0.0.1:|127.0.0.1:: an address is HOST:PORT, or unix: and a path of at most 107 bytes
+--listen 127.0.0.1:65536|127.0.0.1:65536: an address is HOST:PORT, or unix: and a path of at most 107 bytes
+--listen unix:|unix:: an address is HOST:PORT, or unix: and a path of at most 107 bytes
+--listen unix:DIR|unix:DIR: entity already exists
+--listen unix:DIR/tenants|unix:DIR/tenants: entity already exists
+--listen unix:DIR/tenants/s|unix:DIR/tenants/s: Not a directory (os error 20)
+--listen 127.0.0.1:0 --admin nowhere|nowhere: an address is HOST:PORT, or unix: and a path of at most 107 bytes
+--listen 127.0.0.1:0 --admin unix:DIR|unix:DIR: entity already exists
+--listen nowhere --admin 127.0.0.1:0|nowhere: an address is HOST:PORT, or unix: and a path of at most 107 bytes",
     },
     // A local socket can't be made at these places, and the file there stays.
     Story {
@@ -190,17 +190,17 @@ mwinit DIR/t.mw 2 1
 write tenants t 2 1 DIR/t.mw;
 mwinit DIR/s 2 1
 mwserve --tenants DIR/tenants --listen unix:DIR/s
-gives 1 |mwserve: cannot listen;
+gives 1 |mwserve: cannot listen;unix:DIR/s: entity already exists;
 new s
 mwserve --tenants DIR/tenants --listen unix:
-gives 1 |mwserve: cannot listen;
+gives 1 |mwserve: cannot listen;unix:: an address is HOST:PORT, or unix: and a path of at most 107 bytes;
 mwserve --tenants DIR/tenants --listen unix:DIR/no/s
-gives 1 |mwserve: cannot listen;
+gives 1 |mwserve: cannot listen;unix:DIR/no/s: No such file or directory (os error 2);
 mwserve --tenants DIR/tenants --listen unix:DIR/a --http unix:DIR/s
-gives 1 |mwserve: cannot listen;
+gives 1 |mwserve: cannot listen;unix:DIR/s: entity already exists;
 new s
 absent a
 mwserve --tenants DIR/tenants --listen unix:DIR/s --http unix:DIR/h
-gives 1 http unix:DIR/h;|mwserve: cannot listen;",
+gives 1 http unix:DIR/h;|mwserve: cannot listen;unix:DIR/s: entity already exists;",
     },
 ];

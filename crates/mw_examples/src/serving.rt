@@ -71,11 +71,11 @@ write tenants t 2 1 DIR/t.mw;
 write script TENANT t;CAS 0:0:1;
 meanwhile --listen 127.0.0.1:0 --connections 1
 serve
-gives 0 OK 2;FAULT;|tenant t: in use;
+gives 0 OK 2;FAULT;|tenant t: in use;DIR/t.mw: another program has it locked;
 serve --strict
-gives 1 |tenant t: in use;
+gives 1 |tenant t: in use;DIR/t.mw: another program has it locked;
 mwserve --tenants DIR/tenants --strict --listen nowhere
-gives 1 |tenant t: in use;
+gives 1 |tenant t: in use;DIR/t.mw: another program has it locked;
 mwinit DIR/t.mw 2 1
 gives 1 |mwinit: cannot make;mwinit: the file: File exists (os error 17);
 alone TENANT t;CAS 0:0:9;QUIT;|OK 2;YES;BYE;
@@ -99,15 +99,15 @@ call ready
 call ready
 ask 0 TENANT t;CAS 0:0:1;|OK 2;YES;
 rename other.mw t.mw
-wait 2
+wait 4
 ask 0 CAS 0:1:2;QUIT;|YES;BYE;
 cut u.mw
-wait 3
+wait 5
 remove v.mw
-wait 4
+wait 6
 ask 1 TENANT w;CAS 0:0:1;QUIT;|OK 2;YES;BYE;
 stop
-ends 0 |tenant x: disk;tenant t: replaced;tenant u: replaced;tenant v: replaced;",
+ends 0 |tenant x: disk;DIR/x.mw: cannot open: No such file or directory (os error 2);mwserve: 1 of 5 tenants down;tenant t: replaced;tenant u: replaced;tenant v: replaced;",
     },
     // A strict server gives up replaced files. It tells this of each, and of a change that it answers FAULT.
     Story {

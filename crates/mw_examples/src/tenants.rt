@@ -102,7 +102,7 @@ t 2 64 a;u 2 64 b;v 2 64 c;w 2 64 d;x 2 1 e;y|3 form line 6;DIR/tenants: line 6 
 write tenants a 2 1 DIR/a;b 2 1 DIR/b;c 2 1 DIR/c;d 2 1 DIR/d;e 2 1 DIR/e;f 2 1 DIR/f;g 2 1 DIR/g;h 2 1 DIR/h;i 2 1 DIR/i;j 2 1 DIR/j;k 2 1 DIR/k;l 2 1 DIR/l;m 2 1 DIR/m;n 2 1 DIR/n;o 2 1 DIR/o;p 2 1 DIR/p;
 write script ADMIN;
 serve
-gives 0 OK ADMIN;|tenant a: disk;tenant b: disk;tenant c: disk;tenant d: disk;tenant e: disk;tenant f: disk;tenant g: disk;tenant h: disk;tenant i: disk;tenant j: disk;tenant k: disk;tenant l: disk;tenant m: disk;tenant n: disk;tenant o: disk;tenant p: disk;
+gives 0 OK ADMIN;|tenant a: disk;DIR/a: cannot open: No such file or directory (os error 2);tenant b: disk;DIR/b: cannot open: No such file or directory (os error 2);tenant c: disk;DIR/c: cannot open: No such file or directory (os error 2);tenant d: disk;DIR/d: cannot open: No such file or directory (os error 2);tenant e: disk;DIR/e: cannot open: No such file or directory (os error 2);tenant f: disk;DIR/f: cannot open: No such file or directory (os error 2);tenant g: disk;DIR/g: cannot open: No such file or directory (os error 2);tenant h: disk;DIR/h: cannot open: No such file or directory (os error 2);tenant i: disk;DIR/i: cannot open: No such file or directory (os error 2);tenant j: disk;DIR/j: cannot open: No such file or directory (os error 2);tenant k: disk;DIR/k: cannot open: No such file or directory (os error 2);tenant l: disk;DIR/l: cannot open: No such file or directory (os error 2);tenant m: disk;DIR/m: cannot open: No such file or directory (os error 2);tenant n: disk;DIR/n: cannot open: No such file or directory (os error 2);tenant o: disk;DIR/o: cannot open: No such file or directory (os error 2);tenant p: disk;DIR/p: cannot open: No such file or directory (os error 2);
 write tenants a 2 1 DIR/a;b 2 1 DIR/b;c 2 1 DIR/c;d 2 1 DIR/d;e 2 1 DIR/e;f 2 1 DIR/f;g 2 1 DIR/g;h 2 1 DIR/h;i 2 1 DIR/i;j 2 1 DIR/j;k 2 1 DIR/k;l 2 1 DIR/l;m 2 1 DIR/m;n 2 1 DIR/n;o 2 1 DIR/o;p 2 1 DIR/p;q 2 1 DIR/q;
 serve
 gives 2 |mwserve: refused 7 many line 17;mwserve: at most 16 lines;",
@@ -115,7 +115,7 @@ long 200 x
 write tenants t 2 1 <LONG>;
 write script ADMIN;
 serve
-gives 0 OK ADMIN;|tenant t: disk;
+gives 0 OK ADMIN;|tenant t: disk;<LONG>: cannot open: No such file or directory (os error 2);
 long 201 x
 write tenants t 2 1 <LONG>;
 serve --verbose
@@ -145,7 +145,7 @@ gives 2 |mwserve: refused 5 quota line 1;mwserve: the quota is 1 to 64;
 new t.mw
 write tenants t 2 3 DIR/t.mw;
 serve
-gives 0 OK 2;FAULT;|tenant t: misfit;
+gives 0 OK 2;FAULT;|tenant t: misfit;DIR/t.mw: 2 words, 2 places, but its line has 2 words, quota 3;
 write tenants t 2 2 DIR/t.mw;
 serve
 gives 0 OK 2;VAL 0;|
@@ -169,7 +169,7 @@ serve --pool 2
 gives 0 OK ADMIN;t                   2  2  2  0 up;free 2;|
 write tenants t 2 3 DIR/t.mw;
 serve
-gives 0 OK ADMIN;t                   2  3  0  0 down;free 256;|tenant t: misfit;
+gives 0 OK ADMIN;t                   2  3  0  0 down;free 256;|tenant t: misfit;DIR/t.mw: 2 words, 2 places, but its line has 2 words, quota 3;
 write tenants t 2 1 DIR/t.mw;
 serve --pool 1
 gives 0 OK ADMIN;t                   2  1  2  0 up;free 1;|
@@ -184,10 +184,10 @@ mwinit DIR/v.mw 2 2
 write tenants t 3 1 DIR/t.mw;u 2 2 DIR/u.mw;v 2 2 DIR/v.mw;
 write script TENANT v;CAS 0:0:1;GET 0;QUIT;
 serve
-gives 0 OK 2;YES;VAL 1;BYE;|tenant t: disk;tenant u: disk;
+gives 0 OK 2;YES;VAL 1;BYE;|tenant t: disk;DIR/t.mw: cannot open: No such file or directory (os error 2);tenant u: disk;DIR/u.mw: cannot open: No such file or directory (os error 2);
 write script ADMIN;REPORT;
 serve
-gives 0 OK ADMIN;t                   3  1  0  0 down;u                   2  2  0  0 down;v                   2  2  4  0 up;free 256;|tenant t: disk;tenant u: disk;",
+gives 0 OK ADMIN;t                   3  1  0  0 down;u                   2  2  0  0 down;v                   2  2  4  0 up;free 256;|tenant t: disk;DIR/t.mw: cannot open: No such file or directory (os error 2);tenant u: disk;DIR/u.mw: cannot open: No such file or directory (os error 2);",
     },
     // What a tenant whose file doesn't open is asked, and what it answers.
     Story {
@@ -197,13 +197,13 @@ nine t.mw
 write tenants t 2 1 DIR/t.mw;
 write script TENANT t;GET 0;GET 2;CAS 0:0:1;
 serve
-gives 0 OK 2;FAULT;ERR 6;FAULT;|tenant t: damage 4;
+gives 0 OK 2;FAULT;ERR 6;FAULT;|tenant t: damage 4;DIR/t.mw: a record is malformed;
 write t.mw
 serve
-gives 0 OK 2;FAULT;ERR 6;FAULT;|tenant t: damage 6;
+gives 0 OK 2;FAULT;ERR 6;FAULT;|tenant t: damage 6;DIR/t.mw: it is too short;
 write t.mw no file of words, but long enough for a head
 serve
-gives 0 OK 2;FAULT;ERR 6;FAULT;|tenant t: damage 1;",
+gives 0 OK 2;FAULT;ERR 6;FAULT;|tenant t: damage 1;DIR/t.mw: it doesn't begin as a tenant's file;",
     },
     Story {
         name: "files-that-do-not-fit",
@@ -212,10 +212,10 @@ mwinit DIR/u.mw 2 1
 write script TENANT t;GET 0;GET 2;CAS 0:0:1;
 write tenants t 2 1 DIR/no.mw;
 serve
-gives 0 OK 2;FAULT;ERR 6;FAULT;|tenant t: disk;
+gives 0 OK 2;FAULT;ERR 6;FAULT;|tenant t: disk;DIR/no.mw: cannot open: No such file or directory (os error 2);
 write tenants t 2 3 DIR/u.mw;
 serve
-gives 0 OK 2;FAULT;ERR 6;FAULT;|tenant t: misfit;",
+gives 0 OK 2;FAULT;ERR 6;FAULT;|tenant t: misfit;DIR/u.mw: 2 words, 2 places, but its line has 2 words, quota 3;",
     },
     // Two tenants of one file, by three other names for it.
     Story {
@@ -227,16 +227,16 @@ soft soft.mw DIR/t.mw
 write tenants u 2 1 DIR/hard.mw;t 2 1 DIR/t.mw;
 write script TENANT t;GET 0;GET 2;CAS 0:0:1;
 serve
-gives 0 OK 2;FAULT;ERR 6;FAULT;|tenant t: in use;
+gives 0 OK 2;FAULT;ERR 6;FAULT;|tenant t: in use;DIR/t.mw: the file of line 1;
 write tenants u 2 1 DIR/soft.mw;t 2 1 DIR/t.mw;
 serve
-gives 0 OK 2;FAULT;ERR 6;FAULT;|tenant t: in use;
+gives 0 OK 2;FAULT;ERR 6;FAULT;|tenant t: in use;DIR/t.mw: the file of line 1;
 write tenants u 2 1 DIR/./t.mw;t 2 1 DIR/t.mw;
 serve
-gives 0 OK 2;FAULT;ERR 6;FAULT;|tenant t: in use;
+gives 0 OK 2;FAULT;ERR 6;FAULT;|tenant t: in use;DIR/t.mw: the file of line 1;
 write script TENANT u;GET 0;
 serve
-gives 0 OK 2;VAL 0;|tenant t: in use;",
+gives 0 OK 2;VAL 0;|tenant t: in use;DIR/t.mw: the file of line 1;",
     },
     // A tenant whose file is locked by another program, and after the lock is released.
     Story {
@@ -247,7 +247,7 @@ hold t.mw
 write tenants t 2 1 DIR/t.mw;
 write script TENANT t;CAS 0:0:1;
 serve
-gives 0 OK 2;FAULT;|tenant t: in use;
+gives 0 OK 2;FAULT;|tenant t: in use;DIR/t.mw: another program has it locked;
 new t.mw
 release
 serve
@@ -262,7 +262,7 @@ mwinit DIR/u.mw 2 1
 write script TENANT s;CAS 0:0:1;
 write tenants s 2 1 DIR/s.mw;t 2 1 DIR/no.mw;u 2 3 DIR/u.mw;v 2 1 DIR/./s.mw;w 2 1 DIR/script;x 2 1 DIR;
 serve --verbose
-gives 0 OK 2;YES;|tenant t: disk;DIR/no.mw: No such file or directory (os error 2);tenant u: misfit;DIR/u.mw: 2 words, 2 places;tenant v: in use;DIR/./s.mw;tenant w: damage 6;DIR/script;tenant x: disk;DIR: Is a directory (os error 21);",
+gives 0 OK 2;YES;|tenant t: disk;DIR/no.mw: cannot open: No such file or directory (os error 2);tenant u: misfit;DIR/u.mw: 2 words, 2 places, but its line has 2 words, quota 3;tenant v: in use;DIR/./s.mw: the file of line 1;tenant w: damage 6;DIR/script: it is too short;tenant x: disk;DIR: cannot open: Is a directory (os error 21);",
     },
     // `mwinit` has the new file locked when it says so, and `mwserve` a tenant's file when it answers.
     Story {

@@ -84,7 +84,7 @@ pub record HasMorePlaces (text : List ℕ) (places : ℕ) : Type 0 where
 
 -- what is so if no file is made of a dump
 abbrev pub HasCause : List ℕ → ℕ → ℕ → DumpFault → Type 0
-HasCause text words places fault.NotWhole = ⊤
-HasCause text words places fault.Words = HasMoreWords text words
-HasCause text words places fault.Places = HasMorePlaces text places
+HasCause text words places (fault.NotWhole line) = ⊤
+HasCause text words places (fault.Words told given) = HasMoreWords text words
+HasCause text words places (fault.Places least given) = HasMorePlaces text places
 HasCause text words places fault.CannotMake = ⊤

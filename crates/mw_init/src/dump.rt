@@ -8,26 +8,35 @@ use mw_words::{MAX_ENTRIES, MAX_PLACES, MAX_VALUE};
 use std::alloc::{AllocError, Global};
 use thiserror::Error;
 
-/// Tells why no file was made of a dump.
+/// Tells why no file was made of a dump. Its text has a second line, which says more.
 #[derive(Debug, Drop, Error)]
 pub enum DumpFault {
-    /// The text isn't all that is printed of a file without damage.
-    #[error("mwinit: not a whole dump")]
-    NotWhole,
-    /// The dump has more words than the new file is to have.
-    #[error("mwinit: more words in the dump")]
-    Words,
-    /// The dump has more record places than the new file will have.
-    #[error("mwinit: more places in the dump")]
-    Places,
+    /// The text isn't all that is printed of a file without damage. This is the number of the first line that isn't so.
+    #[error("mwinit: not a whole dump\nmwinit: line {0} isn't as mwshow --words prints it")]
+    NotWhole(usize),
+    /// The dump has so many words, and the new file is to have fewer.
+    #[error("mwinit: more words in the dump\nmwinit: WORDS must be at least {0}, and is {1}")]
+    Words(usize, u16),
+    /// The dump has more record places than the new file will have, which would need to be made with at least so many.
+    #[error("mwinit: more places in the dump\nmwinit: PLACES must be at least {0}, and is {1}")]
+    Places(u64, u16),
     /// Memory was refused, or the bytes that were made don't read as the words of the dump.
     #[error("mwinit: cannot make\nmwinit: memory")]
     CannotMake,
 }
 
-impl From<AllocError> for DumpFault {
+/// Tells why a text was not read as a dump.
+#[derive(Drop)]
+pub enum Unread {
+    /// It isn't a whole dump from a line on: so many bytes are left from there.
+    At(usize),
+    /// Memory was refused.
+    Memory,
+}
+
+impl From<AllocError> for Unread {
     fn from(_: AllocError) -> Self {
-        DumpFault::CannotMake
+        Unread::Memory
     }
 }
 
@@ -46,8 +55,8 @@ pub struct Dump {
 ///
 /// # Errors
 ///
-/// [`DumpFault::NotWhole`] and [`DumpFault::CannotMake`].
-pub fn read_dump(alloc: Global, text: &[u8]) -> Result<Dump, DumpFault>
+/// As [`Unread`] tells.
+pub fn read_dump(alloc: Global, text: &[u8]) -> Result<Dump, Unread>
     ensures { IfOk result (λ dump. spec.IsDump text.now dump.has_second dump.places dump.words.items) }
 {
     let (has_second, sizes) = after_layout(alloc, text)?;
@@ -63,7 +72,7 @@ pub fn read_dump(alloc: Global, text: &[u8]) -> Result<Dump, DumpFault>
 }
 
 /// Reads the line of a second layout, if there is one. Gives whether there is, and the text after it.
-fn after_layout(alloc: Global, text: &[u8]) -> Result<(bool, &[u8]), DumpFault>
+fn after_layout(alloc: Global, text: &[u8]) -> Result<(bool, &[u8]), Unread>
     ensures { IfOk result (λ x. (at : ℕ) × (text.now ≡ spec.layout_line x.0 at ++ x.1.now)) }
 {
     match number_line(alloc, "second layout at ", text)? {
@@ -73,7 +82,7 @@ fn after_layout(alloc: Global, text: &[u8]) -> Result<(bool, &[u8]), DumpFault>
 }
 
 /// Reads the lines of all entries of open records. Gives the text after them.
-fn after_entries(alloc: Global, text: &[u8]) -> Result<&[u8], DumpFault>
+fn after_entries(alloc: Global, text: &[u8]) -> Result<&[u8], Unread>
     ensures { IfOk result (λ x. spec.HasEntries text.now x.now) }
 {
     let mut rest = text;
@@ -87,7 +96,7 @@ fn after_entries(alloc: Global, text: &[u8]) -> Result<&[u8], DumpFault>
 }
 
 /// Reads the line of an entry of an open record, if one is first. Gives the text after it.
-fn after_entry(alloc: Global, text: &[u8]) -> Result<Option<&[u8]>, DumpFault>
+fn after_entry(alloc: Global, text: &[u8]) -> Result<Option<&[u8]>, Unread>
     ensures { IfOk result (λ x. IfSome x (λ behind. (entry : ℕ × ℕ × ℕ) × (text.now ≡ spec.open_line entry ++ behind.now))) }
 {
     let Some(numbers) = behind(b"open ", text) else {
@@ -101,7 +110,7 @@ fn after_entry(alloc: Global, text: &[u8]) -> Result<Option<&[u8]>, DumpFault>
 }
 
 /// Reads the lines of so many words, which must be all of the text.
-fn read_words(alloc: Global, number: u64, text: &[u8]) -> Result<Vec<u64>, DumpFault>
+fn read_words(alloc: Global, number: u64, text: &[u8]) -> Result<Vec<u64>, Unread>
     ensures text { IfOk result (λ words. text.now ≡ spec.words_text 0 words.items) }
     ensures number { IfOk result (λ words. length words.items ≡ number) }
 {
@@ -112,37 +121,33 @@ fn read_words(alloc: Global, number: u64, text: &[u8]) -> Result<Vec<u64>, DumpF
         rest = behind;
         match words.push(value) {
             Ok(()) => {}
-            Err(_) => return Err(DumpFault::CannotMake),
+            Err(_) => return Err(Unread::Memory),
         }
     }
     if number == 0 || !rest.is_empty() {
-        return Err(DumpFault::NotWhole);
+        return Err(Unread::At(rest.len()));
     }
     Ok(words)
 }
 
 /// Reads the line of the word at an address. Gives its value, at most [`MAX_VALUE`], and the text after it.
-fn read_word(alloc: Global, addr: u64, text: &[u8]) -> Result<(u64, &[u8]), DumpFault>
+fn read_word(alloc: Global, addr: u64, text: &[u8]) -> Result<(u64, &[u8]), Unread>
     ensures { IfOk result (λ x. text.now ≡ spec.word_line addr x.0 ++ x.1.now) }
 {
     let front = format!(in alloc; "word {addr} ")?;
     match number_line(alloc, front.as_str(), text)? {
         Some((value, behind)) if value <= MAX_VALUE => Ok((value, behind)),
-        _ => Err(DumpFault::NotWhole),
+        _ => Err(Unread::At(text.len())),
     }
 }
 
 /// Reads a line of a text and a number behind it. Gives the number and the text after the line.
-fn number_after<'a>(
-    alloc: Global,
-    front: &str,
-    text: &'a [u8],
-) -> Result<(u64, &'a [u8]), DumpFault>
+fn number_after<'a>(alloc: Global, front: &str, text: &'a [u8]) -> Result<(u64, &'a [u8]), Unread>
     ensures { IfOk result (λ x. text.now ≡ spec.number_line front.now x.0 ++ x.1.now) }
 {
     match number_line(alloc, front, text)? {
         Some(found) => Ok(found),
-        None => Err(DumpFault::NotWhole),
+        None => Err(Unread::At(text.len())),
     }
 }
 

@@ -6,7 +6,7 @@ ghost use Rattle.mw_words.specs.declared.limits.TheConstants.{MAX_WORDS};
 ghost use Rattle.mw_record.specs.declared.layout.TheConstants.{FIRST_PLACES, PLACES_GROW};
 ghost use Rattle.mw_init.specs.Dump as spec;
 
-use crate::dump::{Dump, DumpFault, read_dump};
+use crate::dump::{Dump, DumpFault, Unread, read_dump};
 use mw_record::{Image, Layout, PLACES_GROW, decode, header, size};
 use std::alloc::{AllocError, Global};
 
@@ -34,14 +34,14 @@ pub fn file_of_dump(
 {
     let dump = match read_dump(alloc, text) {
         Ok(dump) => dump,
-        Err(DumpFault::NotWhole) => return Err(DumpFault::NotWhole),
-        Err(_) => return Err(DumpFault::CannotMake),
+        Err(Unread::At(left)) => return Err(DumpFault::NotWhole(line_at(text, left))),
+        Err(Unread::Memory) => return Err(DumpFault::CannotMake),
     };
     if dump.words.len() > words as usize {
-        return Err(DumpFault::Words);
+        return Err(DumpFault::Words(dump.words.len(), words));
     }
     if !places_fit(&dump, places) {
-        return Err(DumpFault::Places);
+        return Err(DumpFault::Places(least_places(&dump), places));
     }
     let Ok(bytes) = file_bytes(alloc, &dump.words, words, places) else {
         return Err(DumpFault::CannotMake);
@@ -50,6 +50,27 @@ pub fn file_of_dump(
         return Err(DumpFault::CannotMake);
     }
     Ok(bytes)
+}
+
+/// Gives the number of the line that begins where so many bytes of a text are left. Lines count from 1.
+fn line_at(text: &[u8], left: usize) -> usize {
+    let read = text.len().saturating_sub(left);
+    let mut line: usize = 1;
+    for byte in &text[..read.min(text.len())] {
+        if *byte == b'\n' {
+            line = line.saturating_add(1);
+        }
+    }
+    line
+}
+
+/// Gives how many places a new file is made with that has at least those of the dump, once both were opened.
+fn least_places(dump: &Dump) -> u64 {
+    if dump.has_second {
+        dump.places.div_ceil(u64::from(PLACES_GROW))
+    } else {
+        dump.places
+    }
 }
 
 /// Tells whether a new file with so many places has at least those of the dump, once both were opened.

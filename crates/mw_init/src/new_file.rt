@@ -26,6 +26,15 @@ const OWN_ONLY: u32 = 0o600;
 /// How many bytes of a dump are read. None has so many: 4,096 words and 1,024 entries have lines of less than 32 bytes.
 const MAX_DUMP: u64 = 262_144;
 
+/// What the help ends with.
+const AFTER_HELP: &str = "Example: mwinit t.mw 1000 4
+Documents: docs/OPERATING.md beside README.md, or below /usr/share/doc/mondlexi";
+
+// The help has these numbers.
+const _: () = prove!(MAX_WORDS == 4096);
+
+const _: () = prove!(FIRST_PLACES == 32);
+
 /// Tells why no file was made.
 #[derive(Debug, Drop, Error)]
 enum InitFault {
@@ -88,6 +97,12 @@ pub fn init<R: Files<File = File> + AllocGlobal, O: Write, E: Write>(
         Err(InitFault::Args(fault)) => {
             // The text that clap makes ends with a line feed.
             let _ = write!(err, "{fault}");
+            if let ErrorKind::ValueValidation = fault.kind() {
+                let _ = writeln!(
+                    err,
+                    "mwinit: WORDS is 1 to {MAX_WORDS}, PLACES 1 to {FIRST_PLACES}"
+                );
+            }
             2
         }
         Err(fault) => {
@@ -175,14 +190,20 @@ fn number_of(matches: &ArgMatches<'_>, name: &str, most: u16) -> Option<u16>
 fn command<'a>(alloc: Global) -> Result<Command<'a>, AllocError> {
     let command = Command::new(alloc, "mwinit")
         .version(VERSION)
-        .about("Makes a file of words, all 0 or those of a dump.");
+        .about("Makes a file of words, all 0 or those of a dump.")
+        .after_help(AFTER_HELP);
     let command = command.arg(dump(alloc))?.arg(path(alloc))?;
-    let command = command.arg(size_of(alloc, "WORDS", MAX_WORDS, "how many words it has"))?;
+    let command = command.arg(size_of(
+        alloc,
+        "WORDS",
+        MAX_WORDS,
+        "how many words it has, 1 to 4096",
+    ))?;
     command.arg(size_of(
         alloc,
         "PLACES",
         FIRST_PLACES,
-        "how many changes it can hold at a time",
+        "how many changes it can hold at a time, 1 to 32",
     ))
 }
 

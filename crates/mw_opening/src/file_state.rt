@@ -1,12 +1,13 @@
 //! Which file of the system a tenant's file is, how long it must be and how it must begin, whether others have replaced, cut
-//! or overwritten it, and whether it was given up.
+//! or overwritten it, whether it was given up, and the last error of a call on it.
 //!
-//! Used by: `tracked_file`, which keeps it; `opening`; mw_programs, which looks whether the file was replaced. Many
+//! Used by: `watched_file`, which keeps it; `tenant_disks`; mw_programs, which looks whether the file was replaced. Many
 //! threads may share it; the calls on one file come one after the other. It may change with them.
 ghost use Rattle.std.specs.Prelude.{◌≡◌, ◌<◌, is_ok, not};
 ghost use Rattle.std.specs.Fs.{metadata_len};
 ghost use Rattle.mw_words.specs.declared.limits.TheConstants.{MAX_TENANTS};
 
+use crate::last_error::LastError;
 use mw_record::HEAD_SIZE;
 use mw_words::MAX_TENANTS;
 use std::fs::Metadata;
@@ -22,7 +23,7 @@ const REPLACED: i32 = 116;
 pub const FRONT: usize = 2 * HEAD_SIZE;
 
 /// Which file of the system a file is, and how long it is.
-#[derive(Clone, Copy, Debug, Drop, PartialEq, Eq)]
+#[derive(Clone, Copy, Drop)]
 pub struct SeenFile {
     /// The device that has the file.
     pub device: u64,
@@ -42,6 +43,11 @@ impl SeenFile {
             inode: told.ino(),
             size: told.len(),
         }
+    }
+
+    /// Tells whether both are one file, whatever its size was.
+    pub(crate) fn is_same_file(&self, other: &SeenFile) -> bool {
+        self.device == other.device && self.inode == other.inode
     }
 }
 
@@ -80,7 +86,7 @@ impl Front {
 }
 
 /// Which file a tenant's file is, how long it must be and how it must begin, whether it is known that others have replaced,
-/// cut or overwritten it, and whether it was given up.
+/// cut or overwritten it, whether it was given up, and the last error of a call on it.
 #[derive(Drop)]
 pub struct FileState {
     device: AtomicU64,
@@ -91,6 +97,7 @@ pub struct FileState {
     front: Front,
     was_replaced: AtomicBool,
     is_given_up: AtomicBool,
+    last: LastError,
 }
 
 impl FileState {
@@ -103,7 +110,13 @@ impl FileState {
             front: Front::new(),
             was_replaced: AtomicBool::new(false),
             is_given_up: AtomicBool::new(false),
+            last: LastError::new(),
         }
+    }
+
+    /// Gives what keeps the last error of a call on the file.
+    pub fn last_error(&self) -> &LastError {
+        &self.last
     }
 
     /// Gives which file it is, and how long it must be. It is right once the system was asked of the file, as each
@@ -143,7 +156,8 @@ impl FileState {
     ///
     /// The file was given up.
     pub(crate) fn may_be_called(&self) -> io::Result<()> {
-        none_if(self.is_given_up.load(Ordering::SeqCst))
+        self.last
+            .keep(none_if(self.is_given_up.load(Ordering::SeqCst)))
     }
 
     /// Keeps what the system told of the file. The size that it must have only grows by it.
@@ -157,7 +171,7 @@ impl FileState {
         if seen.size < self.size.fetch_max(seen.size, Ordering::SeqCst) {
             self.keep_replaced();
         }
-        none_if(self.was_replaced())
+        self.last.keep(none_if(self.was_replaced()))
     }
 
     /// Keeps that these bytes were read at this offset.
@@ -172,7 +186,7 @@ impl FileState {
         } else {
             self.front.keep(offset, bytes);
         }
-        none_if(is_overwritten)
+        self.last.keep(none_if(is_overwritten))
     }
 
     /// Keeps that these bytes were written at this offset.

@@ -9,19 +9,19 @@ ghost use Rattle.mw_engine.specs.OpenedFiles.{FitsLine, FitLines};
 ghost use Rattle.mw_opening.specs.SyncedOpenings.{AreOfLines, IsOfLine, IsOpenedAfterSync};
 
 use crate::file_fault::FileFault;
-use crate::notes::note_place;
+use crate::last_error::LastError;
+use crate::notes::{note_place, note_why};
 use crate::plain_file::{ReadFault, open_plain};
 use crate::tenant_disks::OpensDisks;
-use crate::watched_file::LastError;
 use arrayvec::ArrayVec;
-use log::{Log, warn};
+use log::{Log, error};
 use mw_config::{FormRule, Refusal, TenantLine, broken_rule, read_tenants};
 use mw_disk::Disk;
 use mw_file::TenantFile;
 use mw_words::{MAX_TENANTS, MAX_TENANTS_FILE};
 use std::alloc::{AllocError, Global};
 use std::fs::File;
-use std::io::{self, Read};
+use std::io::{self, Read, Write};
 use std::rt::Files;
 use std::str;
 
@@ -31,18 +31,35 @@ const TENANTS_ROOM: usize = 8193;
 
 const _: () = prove!(TENANTS_ROOM == MAX_TENANTS_FILE + 1);
 
-/// Tells why a tenants file is refused.
-#[derive(Debug, Drop)]
+// The text of `Cause::Size` has it too.
+const _: () = prove!(MAX_TENANTS_FILE == 8192);
+
+/// The most bytes of the text of a refusal.
+const MAX_TEXT: usize = 128;
+
+/// Tells why a tenants file is refused, and what more is known of it.
+#[derive(Drop)]
 pub struct TenantsFault {
-    /// The refusal.
-    pub refusal: Refusal,
-    /// What more is known of it.
-    pub cause: Cause,
+    refusal: Refusal,
+    cause: Cause,
+}
+
+impl TenantsFault {
+    /// Writes the fault to the notes, each line of its text as a note. `path` is that of the tenants file.
+    pub fn tell<L: Log>(&self, notes: &L, path: &str) {
+        let refusal = self.refusal;
+        let mut text = ArrayVec::<u8, MAX_TEXT>::new();
+        let _ = write!(text, "{refusal}");
+        for line in str::from_utf8(&text).unwrap_or("?").split('\n') {
+            error!(notes; "{line}");
+        }
+        self.cause.tell(notes, path);
+    }
 }
 
 /// Tells what more is known of why a tenants file is refused.
-#[derive(Debug, Drop)]
-pub enum Cause {
+#[derive(Drop)]
+enum Cause {
     /// The file wasn't opened, or wasn't read to its end, because of this fault.
     Reading(ReadFault),
     /// The file has more than [`MAX_TENANTS_FILE`] bytes.
@@ -73,25 +90,27 @@ impl Cause {
         }
     }
 
-    /// Writes the cause to the notes, with the path of the tenants file: as a warning if it is known, else the path alone
-    /// if they are verbose.
-    pub fn tell<L: Log>(&self, notes: &L, path: &str) {
+    /// Writes the cause to the notes, with the path of the tenants file: as an error if it is known, else the path alone if
+    /// they are verbose.
+    fn tell<L: Log>(&self, notes: &L, path: &str) {
         match self {
-            Cause::Reading(fault) => warn!(notes; "{path}: {fault}"),
-            Cause::Size => warn!(notes; "{path}: more than {MAX_TENANTS_FILE} bytes"),
-            Cause::Form(number, rule) => {
-                let how = rule.broken();
-                warn!(notes; "{path}: line {number} {how}")
-            }
+            Cause::Reading(fault) => note_why(notes, path, "", fault),
+            Cause::Size => note_why(notes, path, "more than 8192 bytes", &""),
+            Cause::Form(number, rule) => note_line(notes, path, *number, rule.broken()),
             Cause::Name(number) => {
-                warn!(notes; "{path}: line {number} has the name of an earlier line")
+                note_line(notes, path, *number, "has the name of an earlier line")
             }
             Cause::Path(number) => {
-                warn!(notes; "{path}: line {number} has the path of an earlier line")
+                note_line(notes, path, *number, "has the path of an earlier line")
             }
             Cause::Unknown => note_place(notes, path),
         }
     }
+}
+
+/// Writes what the line of this number does.
+fn note_line<L: Log>(notes: &L, path: &str, number: u16, does: &str) {
+    error!(notes; "{path}: line {number} {does}");
 }
 
 /// Gives the line of this number, from 1, with its line feed.
@@ -224,8 +243,8 @@ fn open_file<P: OpensDisks, L: Log>(
         Err(FileFault::Memory) => Err(AllocError),
         Err(fault) => {
             let name = str::from_utf8(&line.name).unwrap_or("?");
-            warn!(notes; "tenant {name}: {fault}");
-            fault.tell_more(notes, line.path.as_str());
+            error!(notes; "tenant {name}: {fault}");
+            fault.tell_why(notes, line);
             Ok(None)
         }
     }

@@ -7,10 +7,9 @@ ghost use Rattle.std.specs.Prelude.{◌<◌, ℕ, List, IfOk};
 ghost use Rattle.mw_words.specs.declared.limits.TheConstants.{MAX_TENANTS};
 
 use crate::file_fault::FileFault;
-use crate::file_state::FileStates;
-use crate::metered_file::MeteredFile;
-use crate::tracked_file::TrackedFile;
-use crate::watched_file::{LastError, LastErrors, WatchedFile};
+use crate::file_state::{FileStates, SeenFile};
+use crate::last_error::LastError;
+use crate::watched_file::WatchedFile;
 use mw_disk::{Disk, FileDisk};
 use mw_file::TenantFile;
 use mw_metrics::{Meters, TenantCounters};
@@ -44,35 +43,24 @@ pub trait OpensDisks {
 }
 
 /// The disk of a tenant's file: it keeps the last error, which file it is, and how long its calls took. `R` is the clock.
-pub type TenantDisk<'a, R> = FileDisk<WatchedFile<'a, TrackedFile<'a, MeteredFile<'a, File, R>>>>;
+pub type TenantDisk<'a, R> = FileDisk<WatchedFile<'a, File, R>>;
 
 /// A tenant's file, and the words that it had when it was opened.
 pub type Opened<'a, R> = (TenantFile<TenantDisk<'a, R>>, Vec<u64>);
 
-/// Opens files of the system, each under a lock. What is known of each is kept in the errors and the states. The meters, if
-/// there are any, count the calls of each file.
+/// Opens files of the system, each under a lock. What is known of each is kept in the states. The meters, if there are any,
+/// count the calls of each file.
 #[derive(Drop)]
 pub struct LockedFiles<'a, R> {
     rt: &'a R,
-    errors: &'a LastErrors,
     states: &'a FileStates,
     meters: Option<&'a Meters>,
 }
 
 impl<'a, R> LockedFiles<'a, R> {
     /// Makes what opens the files.
-    pub fn new(
-        rt: &'a R,
-        errors: &'a LastErrors,
-        states: &'a FileStates,
-        meters: Option<&'a Meters>,
-    ) -> Self {
-        LockedFiles {
-            rt,
-            errors,
-            states,
-            meters,
-        }
+    pub fn new(rt: &'a R, states: &'a FileStates, meters: Option<&'a Meters>) -> Self {
+        LockedFiles { rt, states, meters }
     }
 
     /// Gives what counts the calls of the file of the tenant of this number, if they are counted.
@@ -93,36 +81,59 @@ impl<'a, R: Files<File = File> + Clock> OpensDisks for LockedFiles<'a, R> {
     ghost is_over = { λ _ _. Unit {0} };
 
     fn open(&self, tenant: usize, path: &str) -> Result<TenantDisk<'a, R>, FileFault> {
-        let file = open_locked(self.rt, path)?;
-        let file = MeteredFile::new(file, self.rt, self.counters_of(tenant));
-        let file = TrackedFile::new(file, self.states.of(tenant));
-        Ok(FileDisk::new(WatchedFile::new(file, self.errors.of(tenant))))
+        let file = open_locked(self.rt, path, self.states, tenant)?;
+        let (state, counters) = (self.states.of(tenant), self.counters_of(tenant));
+        Ok(FileDisk::new(WatchedFile::new(file, state, self.rt, counters)))
     }
 
     fn last_error(&self, tenant: usize) -> &LastError {
-        self.errors.of(tenant)
+        self.states.of(tenant).last_error()
     }
 }
 
 /// Opens a file for reading and writing, locks it, and has the system drop its copies of it. The lock is held until the
-/// file is closed.
+/// file is closed. The states are those of the tenants' files, and this is the number of the file's tenant.
 ///
 /// # Errors
 ///
-/// [`FileFault::InUse`] if another opening has the lock. [`FileFault::Disk`] if the file can't be opened, its file
-/// system has no locks, or the system refuses to drop its copies.
-fn open_locked<R: Files<File = File>>(rt: &R, path: &str) -> Result<File, FileFault> {
+/// [`FileFault::CannotOpen`] if the file can't be opened. [`FileFault::InUse`] if another opening has the lock.
+/// [`FileFault::CannotLock`] if its file system has no locks. [`FileFault::Disk`] if the system refuses to drop its copies.
+fn open_locked<R: Files<File = File>>(
+    rt: &R,
+    path: &str,
+    states: &FileStates,
+    tenant: usize,
+) -> Result<File, FileFault>
+    requires { tenant < MAX_TENANTS }
+{
     let mut options = OpenOptions::new();
     options.read(true).write(true);
     let file = match options.open(rt, path) {
         Ok(file) => file,
-        Err(error) => return Err(FileFault::Disk(Some(error))),
+        Err(error) => return Err(FileFault::CannotOpen(error)),
     };
     match file.try_lock() {
         Ok(()) => dropped_copies(file),
-        Err(TryLockError::WouldBlock) => Err(FileFault::InUse),
-        Err(TryLockError::Error(error)) => Err(FileFault::Disk(Some(error))),
+        Err(TryLockError::WouldBlock) => Err(FileFault::InUse(line_with(&file, states, tenant))),
+        Err(TryLockError::Error(error)) => Err(FileFault::CannotLock(error)),
     }
+}
+
+/// Gives the number of the line, before that of this tenant, whose file this is. Lines count from 1. If the system doesn't tell,
+/// it gives none.
+fn line_with(file: &File, states: &FileStates, tenant: usize) -> Option<usize>
+    requires { tenant < MAX_TENANTS }
+{
+    let Ok(told) = file.metadata() else {
+        return None;
+    };
+    let seen = SeenFile::of(&told);
+    for earlier in 0..tenant {
+        if states.of(earlier).seen().is_same_file(&seen) {
+            return Some(earlier + 1);
+        }
+    }
+    None
 }
 
 /// Has the system drop its copies of a file's pages, but of those that it must still write, and gives the file back.

@@ -1,111 +1,130 @@
-//! A tenant's file, which keeps the last error that a call on it gave, for a note.
+//! A tenant's file as a server has it: it times its calls and counts them, and keeps in a [`FileState`] what is known of the
+//! file, for notes and for whoever looks whether it was replaced.
 //!
-//! Used by: `opening`, which makes one of each opened file; mw_programs. It may change as long as each call gives what
-//! the file's call gave.
-ghost use Rattle.std.specs.Prelude.{◌≡◌, ◌<◌};
-ghost use Rattle.mw_words.specs.declared.limits.TheConstants.{MAX_TENANTS};
+//! Used by: `tenant_disks`, which makes one of each opened file. It may change as long as each call gives what the file's
+//! call gave, or an error if the file was given up, or others have cut or overwritten it.
+ghost use Rattle.std.specs.Prelude.{◌≡◌};
 
-use mw_words::MAX_TENANTS;
+use crate::file_state::{FileState, SeenFile};
+use mw_metrics::{DeviceCall, Stopwatch, TenantCounters};
 use std::fs::{Metadata, OpenFile};
 use std::io::{self, ErrorKind};
 use std::os::unix::fs::FileExt;
-use std::sync::atomic::{AtomicI32, Ordering};
+use std::time::Clock;
 
-/// The last error that the system told of a file: its number, or 0 if it told none.
+/// A file of whose calls a state keeps the last error, which file it is, how long it must be, and how it must begin. Each call
+/// is one call of the file below, and gives what that gave.
+///
+/// If the file was given up, the call fails, and none is made below. A call that asks for the length fails too if the file is
+/// shorter than it must be, or others have replaced, cut or overwritten it. So does a read at the front that gives other bytes
+/// than the server last read or wrote there.
+///
+/// If there are counters, reads, writes and syncs are timed and counted. Else no clock is read.
 #[derive(Drop)]
-pub struct LastError(AtomicI32);
+pub struct WatchedFile<'a, F, K> {
+    file: F,
+    state: &'a FileState,
+    clock: &'a K,
+    counters: Option<&'a TenantCounters>,
+}
 
-impl LastError {
-    /// Makes one for a file of which the system told no error.
-    pub fn new() -> Self {
-        LastError(AtomicI32::new(0))
-    }
-
-    /// Gives the last error, if there was one.
-    pub fn error(&self) -> Option<io::Error> {
-        match self.0.load(Ordering::SeqCst) {
-            0 => None,
-            code => Some(io::Error::from_raw_os_error(code)),
+impl<'a, F, K: Clock> WatchedFile<'a, F, K> {
+    /// Makes a file that keeps in `state` what is told of it, and whose calls these counters count, by this clock.
+    pub fn new(
+        file: F,
+        state: &'a FileState,
+        clock: &'a K,
+        counters: Option<&'a TenantCounters>,
+    ) -> Self {
+        WatchedFile {
+            file,
+            state,
+            clock,
+            counters,
         }
     }
 
-    // Keeps the error of an outcome. An interrupted call is made again, so its error isn't kept.
-    fn keep<T: Drop>(&self, outcome: io::Result<T>) -> io::Result<T>
+    /// Starts to time a call, if it will be counted.
+    fn start(&self) -> Option<Stopwatch> {
+        match self.counters {
+            Some(_) => Some(Stopwatch::start(self.clock)),
+            None => None,
+        }
+    }
+
+    /// Counts a call that was started then, and keeps its error if it failed. A call that was interrupted has not failed: it
+    /// is made again.
+    fn ended<T: Drop>(
+        &self,
+        call: DeviceCall,
+        started: Option<Stopwatch>,
+        outcome: io::Result<T>,
+    ) -> io::Result<T>
         ensures { result ≡ outcome }
     {
-        if let Err(error) = &outcome {
-            if error.kind() != ErrorKind::Interrupted {
-                self.0
-                    .store(error.raw_os_error().unwrap_or(0), Ordering::SeqCst);
-            }
+        if let (Some(counters), Some(started)) = (self.counters, started) {
+            let nanos = started.nanos(self.clock);
+            counters.record_call(call, nanos, has_failed(&outcome));
         }
-        outcome
+        self.state.last_error().keep(outcome)
     }
 }
 
-/// The last error of each tenant's file.
-#[derive(Drop)]
-pub struct LastErrors([LastError; MAX_TENANTS]);
-
-impl LastErrors {
-    /// Makes them for files of which the system told no error.
-    pub fn new() -> Self {
-        LastErrors([(); MAX_TENANTS].map(|_| LastError::new()))
-    }
-
-    /// Gives the last error of the file of the tenant of this number.
-    pub fn of(&self, tenant: usize) -> &LastError
-        requires { tenant < MAX_TENANTS }
-    {
-        &self.0[tenant]
+/// Tells whether a call failed, and was not only interrupted.
+fn has_failed<T>(outcome: &io::Result<T>) -> bool {
+    match outcome {
+        Ok(_) => false,
+        Err(error) => error.kind() != ErrorKind::Interrupted,
     }
 }
 
-/// A file that keeps the last error that the system told of it. Each call is one call of the file below, and gives what
-/// that gave.
-#[derive(Drop)]
-pub struct WatchedFile<'a, F> {
-    file: F,
-    last: &'a LastError,
-}
-
-impl<'a, F> WatchedFile<'a, F> {
-    /// Makes a file that keeps its errors in `last`.
-    pub fn new(file: F, last: &'a LastError) -> Self {
-        WatchedFile { file, last }
-    }
-}
-
-impl<F: FileExt> FileExt for WatchedFile<'_, F> {
+impl<F: FileExt, K: Clock> FileExt for WatchedFile<'_, F, K> {
     fn read_at(&self, buf: &mut [u8], offset: u64) -> io::Result<usize> {
+        self.state.may_be_called()?;
+        let started = self.start();
         let read = self.file.read_at(buf, offset);
-        self.last.keep(read)
+        let read = self.ended(DeviceCall::Read, started, read)?;
+        self.state.keep_read(offset, &buf[..read.min(buf.len())])?;
+        Ok(read)
     }
 
     fn write_at(&self, buf: &[u8], offset: u64) -> io::Result<usize> {
+        self.state.may_be_called()?;
+        let started = self.start();
         let written = self.file.write_at(buf, offset);
-        self.last.keep(written)
+        let written = self.ended(DeviceCall::Write, started, written)?;
+        self.state
+            .keep_written(offset, &buf[..written.min(buf.len())]);
+        Ok(written)
     }
 }
 
-impl<F: OpenFile> OpenFile for WatchedFile<'_, F> {
+impl<F: OpenFile, K: Clock> OpenFile for WatchedFile<'_, F, K> {
     fn metadata(&self) -> io::Result<Metadata> {
-        let told = self.file.metadata();
-        self.last.keep(told)
+        self.state.may_be_called()?;
+        let told = self.state.last_error().keep(self.file.metadata())?;
+        self.state.keep_seen(SeenFile::of(&told))?;
+        Ok(told)
     }
 
     fn set_len(&self, size: u64) -> io::Result<()> {
-        let set = self.file.set_len(size);
-        self.last.keep(set)
+        self.state.may_be_called()?;
+        self.state.last_error().keep(self.file.set_len(size))?;
+        self.state.keep_size(size);
+        Ok(())
     }
 
     fn sync_all(&self) -> io::Result<()> {
+        self.state.may_be_called()?;
+        let started = self.start();
         let synced = self.file.sync_all();
-        self.last.keep(synced)
+        self.ended(DeviceCall::Sync, started, synced)
     }
 
     fn sync_data(&self) -> io::Result<()> {
+        self.state.may_be_called()?;
+        let started = self.start();
         let synced = self.file.sync_data();
-        self.last.keep(synced)
+        self.ended(DeviceCall::Sync, started, synced)
     }
 }

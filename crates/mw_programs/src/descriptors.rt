@@ -1,11 +1,11 @@
-//! Finds out whether the limit of descriptors leaves room for what a server needs.
+//! Finds out whether the limits of descriptors and of the stack leave room for what a server needs.
 //!
-//! `serving` asks before it serves clients. docs/OPERATING tells how many are needed: change both together.
+//! `serving` asks before it serves clients. docs/OPERATING tells how much is needed: change both together.
 ghost use Rattle.std.specs.Prelude.{◌≡◌, ◌≤◌};
 ghost use Rattle.mw_programs.specs.Descriptors.{needed, needed_to_wait};
 ghost use Rattle.mw_words.specs.declared.limits.TheConstants.{MAX_TENANTS};
 
-use log::{Log, info, warn};
+use log::{Log, error, warn};
 use mw_words::MAX_TENANTS;
 use mw_workers::{DESK_QUEUE, QUEUE, WAITING};
 
@@ -54,13 +54,16 @@ pub(crate) fn needed(
     clients + admin + pages
 }
 
-/// Gives how many descriptors the system lets this program have, or None if it doesn't tell.
-fn limit() -> Option<u64> {
+/// How large the stack of a thread must be, in bytes. The system gives each the limit of the stack.
+const STACK: u64 = 524_288;
+
+/// Gives how much the system lets this program have of a resource, or None if it doesn't tell.
+fn limit_of(resource: i32) -> Option<u64> {
     let mut limit = libc::types::rlimit {
         rlim_cur: 0,
         rlim_max: 0,
     };
-    if libc::getrlimit(libc::RLIMIT_NOFILE, &mut limit) == 0 {
+    if libc::getrlimit(resource, &mut limit) == 0 {
         Some(limit.rlim_cur)
     } else {
         None
@@ -69,10 +72,22 @@ fn limit() -> Option<u64> {
 
 /// Tells whether the program may have so many descriptors, and writes a note if not.
 pub(crate) fn has_descriptors<L: Log>(notes: &L, needed: u64) -> bool {
-    match limit() {
+    match limit_of(libc::RLIMIT_NOFILE) {
         Some(limit) if limit < needed => {
             warn!(notes; "mwserve: too few descriptors");
-            info!(notes; "limit {limit}, needed {needed}");
+            warn!(notes; "limit {limit}, needed {needed}");
+            false
+        }
+        _ => true,
+    }
+}
+
+/// Tells whether the limit of the stack is large enough for a thread, and writes a note if not.
+pub(crate) fn has_stack<L: Log>(notes: &L) -> bool {
+    match limit_of(libc::RLIMIT_STACK) {
+        Some(limit) if limit < STACK => {
+            error!(notes; "mwserve: small stack");
+            error!(notes; "limit {limit}, needed {STACK}");
             false
         }
         _ => true,

@@ -6,9 +6,11 @@
 mod clients;
 mod copies;
 mod descriptors;
+mod doors;
 mod pages;
 mod prompt;
 mod replaced;
+mod room_notes;
 mod services;
 mod serving;
 mod tenants;

@@ -6,7 +6,7 @@
 ghost use Rattle.std.specs.Prelude.{ℕ, ◌≡◌, ◌≤◌, ◌<◌, ◌+◌, All, IfOk, IfSome, is_some, if◌then◌else◌, vec_len};
 ghost use Rattle.mw_engine.specs.Passes.{IsNew};
 
-use crate::clients::serve_clients;
+use crate::clients::{Server, serve_clients};
 use crate::copies::EngineFiles;
 use crate::pages::version;
 use crate::replaced::FileLook;
@@ -38,7 +38,6 @@ pub(crate) fn counted<'m>(listening: &Listening, meters: &'m Meters) -> Option<&
 /// Serves clients, and shows the pages if there is an address for them. The last pass is then for the pages.
 pub(crate) fn serve_all_clients<
     'e,
-    'a,
     J,
     D: Disk + Drop + Send + Sync,
     R,
@@ -49,12 +48,12 @@ pub(crate) fn serve_all_clients<
     rt: &'e R,
     engine: &'e Engine<J, D, NoHold>,
     passes: Vec<Pass>,
-    listening: &'a Listening,
+    listening: &'e Listening,
     out: &mut O,
-    notes: &L,
+    notes: &'e L,
     watch: &'e T,
     meters: &'e Meters,
-) -> Result<(), ServeFault<'a>>
+) -> Result<(), ServeFault>
 where
     J: EngineBrand + Send + Sync,
     R: Files<File = File>
@@ -72,16 +71,19 @@ where
     if passes.is_empty() {
         return Err(ServeFault::Memory);
     }
+    let server = Server {
+        rt,
+        listening,
+        notes,
+        watch,
+        meters,
+    };
     match &listening.shared {
         None => {
-            let meter = counted(listening, meters);
-            let workers = workers_for(rt, engine, passes, watch, meter)?;
-            let counters = meters.server();
-            serve_clients(rt, workers, pages, listening, out, notes, watch, counters)
+            let workers = workers_for(rt, engine, passes, watch, counted(listening, meters))?;
+            serve_clients(&server, workers, pages, out)
         }
-        Some(shared) => serve_shared(
-            rt, engine, passes, pages, listening, *shared, out, notes, watch, meters,
-        ),
+        Some(shared) => serve_shared(&server, engine, passes, pages, *shared, out),
     }
 }
 
@@ -89,7 +91,6 @@ where
 /// last pass is for the clients of that address.
 fn serve_shared<
     'e,
-    'a,
     J,
     D: Disk + Drop + Send + Sync,
     R,
@@ -98,17 +99,13 @@ fn serve_shared<
     P: Pages + Send + Drop,
     T: FaultWatch + FileLook + Sync,
 >(
-    rt: &'e R,
+    server: &Server<'e, R, L, T>,
     engine: &'e Engine<J, D, NoHold>,
     passes: Vec<Pass>,
     pages: Option<P>,
-    listening: &'a Listening,
     shared: SharedWorkers,
     out: &mut O,
-    notes: &L,
-    watch: &'e T,
-    meters: &'e Meters,
-) -> Result<(), ServeFault<'a>>
+) -> Result<(), ServeFault>
 where
     J: EngineBrand + Send + Sync,
     R: Files<File = File>
@@ -121,12 +118,11 @@ where
     requires new { All (IsNew J.identity) passes.items }
     requires clients { 1 ≤ shared.clients }
 {
-    let has_admin = listening.admin.is_some();
-    let meter = counted(listening, meters);
-    let pools = Pools::new(rt, passes, shared.readers, has_admin, meter)?;
-    let borrowers = borrowers_for(rt, engine, &pools, shared.clients, watch, meter)?;
-    let counters = meters.server();
-    serve_clients(rt, borrowers, pages, listening, out, notes, watch, counters)
+    let (rt, listening) = (server.rt, server.listening);
+    let meter = counted(listening, server.meters);
+    let pools = Pools::new(rt, passes, shared.readers, listening.admin.is_some(), meter)?;
+    let borrowers = borrowers_for(rt, engine, &pools, shared.clients, server.watch, meter)?;
+    serve_clients(server, borrowers, pages, out)
 }
 
 /// Makes the pages if they have an address. A worker with the last of these passes gives their figures, and the engine gives

@@ -3,6 +3,7 @@
 //! `mwserve` calls `serve`. docs/OPERATING tells its options, notes and statuses: change them together.
 ghost use Rattle.std.specs.Prelude.{◌≡◌, ◌+◌, ◌<◌, ◌≤◌, All, IfOk, length, vec_len};
 ghost use Rattle.mw_config.specs.CommandLine.{ArePermittedArgs};
+ghost use Rattle.mw_config.specs.Limits.{ArePermitted};
 ghost use Rattle.mw_config.specs.declared.command_line.Mode.TheVariants.{Listen};
 ghost use Rattle.mw_words.specs.declared.limits.TheConstants.{MAX_TENANTS, MAX_WORKERS};
 ghost use Rattle.mw_engine.specs.Passes.{IsNew};
@@ -10,26 +11,25 @@ ghost use Rattle.mw_engine.specs.Parts.{identity_of};
 ghost use Rattle.mw_opening.specs.MadeOfOpened.{AreMadeOfOpened};
 ghost use Rattle.mw_programs.specs.WorkerCount.{one_for, own_workers, served_count, worker_count};
 
-use crate::descriptors::{has_descriptors, needed};
+use crate::descriptors::{has_descriptors, has_stack, needed};
 use crate::replaced::{FileLook, SeesPaths};
 use crate::services::{counted, serve_all_clients};
 use crate::tenants::TenantNotes;
-use log::{Log, warn};
-use mw_config::{ArgFault, Args, Listening, Mode, Refusal, TenantLine, read_args};
+use arrayvec::ArrayVec;
+use log::{Log, error, warn};
+use mw_config::{ArgFault, Args, Listening, Mode, TenantLine, read_args};
 use mw_disk::Disk;
 use mw_engine::{Engine, EngineBrand, EngineParts, NoHold, Pass};
 use mw_metrics::Meters;
 use mw_opening::{
-    Cause, FileStates, LastErrors, LockedFiles, Notes, OpenedParts, OpensDisks, ReadFault,
-    TenantsFault, are_all_open, note_cause, open_parts, open_plain, read_tenants_file,
-    sync_folders,
+    FileStates, LockedFiles, NoteForm, Notes, OpenedParts, OpensDisks, are_all_open, note_why,
+    open_parts, open_plain, read_tenants_file, sync_folders,
 };
 use mw_service::{FaultWatch, Worker};
 use mw_session::{Duplex, Ended, RecordedStream};
-use mw_words::MAX_WORKERS;
+use mw_words::{MAX_TENANTS, MAX_WORKERS};
 use std::alloc::AllocError;
 use std::fs::File;
-use std::io;
 use std::io::Write;
 use std::marker::Brand;
 use std::net::{Net, TcpListener, TcpStream};
@@ -37,79 +37,43 @@ use std::rt::Files;
 use std::sync::Wait;
 use std::thread::Threads;
 use std::time::Clock;
-use thiserror::Error;
 
-/// Tells why nothing was served.
-#[derive(Debug, Drop, Error)]
-pub(crate) enum ServeFault<'a> {
-    /// The tenants file is refused. The cause is what more is known of it.
-    #[error("{0}")]
-    Refused(Refusal, Cause),
-    /// A tenant's file didn't open, and `--strict` asks for all of them. Notes tell which file.
-    #[error("")]
-    NotAll,
-    /// The limit of descriptors is too low, and `--strict` asks for room. A note tells it.
-    #[error("")]
-    FewDescriptors,
-    /// The script at this path can't be opened, or isn't a plain file.
-    #[error("mwserve: cannot read")]
-    CannotRead(&'a str, ReadFault),
-    /// Nobody can listen at this address.
-    #[error("mwserve: cannot listen")]
-    CannotListen(&'a str, io::Error),
-    /// The session ended by a fault, or the program couldn't write that the server is ready. No note is
+/// Tells why nothing more is served. Notes have told it, but of memory.
+#[derive(Clone, Copy)]
+pub(crate) enum ServeFault {
+    /// The tenants file is refused.
+    Refused,
+    /// A tenant's file didn't open or the limit of descriptors is too low, and `--strict` was given; the script can't be read;
+    /// nobody can listen at an address; or the session ended by a fault, or `ready` could not be written, of which no note is
     /// written.
-    #[error("")]
-    Ended,
+    Failed,
     /// Memory was refused before the first session.
-    #[error("mwserve: memory")]
     Memory,
 }
 
-impl ServeFault<'_> {
-    /// Gives the exit status of this fault.
-    fn status(&self) -> u8 {
+impl ServeFault {
+    /// Writes a note if memory was refused. Gives the exit status of this fault.
+    fn tell<L: Log>(self, notes: &L) -> u8 {
         match self {
-            ServeFault::Refused(..) => 2,
-            ServeFault::NotAll
-            | ServeFault::FewDescriptors
-            | ServeFault::CannotRead(..)
-            | ServeFault::CannotListen(..)
-            | ServeFault::Ended
-            | ServeFault::Memory => 1,
-        }
-    }
-
-    /// Writes the fault, and what more is known of it. `tenants` is the path of the tenants file.
-    fn tell<L: Log>(&self, notes: &L, tenants: &str) {
-        if let ServeFault::NotAll | ServeFault::FewDescriptors | ServeFault::Ended = self {
-            return;
-        }
-        warn!(notes; "{self}");
-        match self {
-            ServeFault::Refused(_, cause) => cause.tell(notes, tenants),
-            ServeFault::CannotRead(path, fault) => note_cause(notes, path, fault),
-            ServeFault::CannotListen(place, error) => note_cause(notes, place, error),
-            _ => {}
+            ServeFault::Refused => 2,
+            ServeFault::Failed => 1,
+            ServeFault::Memory => {
+                error!(notes; "mwserve: memory");
+                1
+            }
         }
     }
 }
 
-impl From<AllocError> for ServeFault<'_> {
+impl From<AllocError> for ServeFault {
     fn from(_: AllocError) -> Self {
         ServeFault::Memory
     }
 }
 
-impl From<TenantsFault> for ServeFault<'_> {
-    fn from(fault: TenantsFault) -> Self {
-        ServeFault::Refused(fault.refusal, fault.cause)
-    }
-}
-
 /// Serves what the command line `args` asks for. Its first argument is the program's own name.
 ///
-/// The form is `mwserve --tenants FILE [--pool P] [--workers N] [--strict] [--verbose]`, with one of these:
+/// The form is `mwserve --tenants FILE [--pool P] [--workers N] [--strict] [--verbose] [--journal] [--times]`, with one of these:
 /// - `--script FILE` runs one session from the script to `out`.
 /// - `--listen ADDR [--admin ADDR] [--http ADDR [--http-name NAME ..]] [--connections C] [--clients M [--readers R]]
 ///   [--wait SECONDS] [--idle SECONDS] [--line-time SECONDS] [--faults F] [--open] [--mode MODE]` writes `ready PORT`, or
@@ -123,14 +87,14 @@ impl From<TenantsFault> for ServeFault<'_> {
 /// - 0 if the session ended by `QUIT`, with the script, or at a line that was too long, or if all
 ///   connections were served;
 /// - 1 if the session ended otherwise, if a tenant's file didn't open or the limit of descriptors is too low
-///   and `--strict` was given, if the script couldn't be opened, if nobody can listen at an address, or if
-///   memory was refused;
+///   and `--strict` was given, if the limit of the stack is too low for clients, if the script couldn't be opened, if nobody
+///   can listen at an address, or if memory was refused;
 /// - 2 if the command line or the tenants file is wrong.
 ///
-/// Writes to `err` what went wrong before the first session. It also writes a note on each tenant whose
-/// file doesn't open, is in use or fails, and a note when there is no room for connections. With `--listen`
-/// it also writes a note on each tenant whose file is replaced, one if the limit of descriptors is too low, and one for each
-/// address at which other machines may connect, if `--open` wasn't given. No note keeps a client waiting, if no write to `err`
+/// Writes to `err` what went wrong before the first session, and why. It also writes a note on each tenant whose
+/// file doesn't open, is in use or fails, and a note when there is no room for connections. With `--listen` it tells before
+/// `ready` how many tenants are down, and writes a note on each tenant whose file is replaced, one if the limit of descriptors
+/// is too low, and one for each address at which other machines may connect, if `--open` wasn't given. No note keeps a client waiting, if no write to `err`
 /// waits. The files stay locked until it returns.
 pub fn serve<R, O: Write, E: Write + Send>(rt: &R, args: &[String], out: &mut O, err: &mut E) -> u8
 where
@@ -147,13 +111,15 @@ where
         Ok(args) => args,
         Err(fault) => return refuse(&fault, out, err),
     };
-    let notes = Notes::new(rt, err, args.verbose);
-    let status = match serve_args(rt, &args, out, &notes) {
+    let form = NoteForm {
+        verbose: args.verbose,
+        levels: args.journal,
+        times: args.times,
+    };
+    let notes = Notes::new(rt, err, form);
+    let status = match serve_args(rt, args, out, &notes) {
         Ok(()) => 0,
-        Err(fault) => {
-            fault.tell(&notes, args.tenants.as_str());
-            fault.status()
-        }
+        Err(fault) => fault.tell(&notes),
     };
     notes.finish();
     status
@@ -181,14 +147,44 @@ fn refuse<O: Write, E: Write>(fault: &ArgFault, out: &mut O, err: &mut E) -> u8 
     }
 }
 
+/// What a server is started with.
+#[derive(Drop)]
+struct Setup {
+    /// What the command line asks for.
+    args: Args,
+    /// The tenants of the tenants file.
+    lines: ArrayVec<TenantLine, MAX_TENANTS>,
+}
+
+impl Setup {
+    /// Reads the tenants file that the arguments name. Writes a note if it is refused.
+    fn read<R: Files<File = File>, L: Log>(
+        rt: &R,
+        args: Args,
+        notes: &L,
+    ) -> Result<Self, ServeFault>
+        requires { ArePermittedArgs args }
+        ensures args { IfOk result (λ setup. ArePermittedArgs setup.args) }
+        ensures lines { IfOk result (λ setup. ArePermitted setup.args.pool setup.lines.items) }
+    {
+        match read_tenants_file(rt, args.tenants.as_str(), args.pool) {
+            Ok(lines) => Ok(Setup { args, lines }),
+            Err(fault) => {
+                fault.tell(notes, args.tenants.as_str());
+                Err(ServeFault::Refused)
+            }
+        }
+    }
+}
+
 /// Opens what the arguments name, and serves it. It looks for faults in this order: the tenants file, the
-/// tenants' files, the script or the listeners. Notes tell the faults of the tenants' files.
-fn serve_args<'e, 'a, R, O: Write, L: Log + Sync>(
-    rt: &'e R,
-    args: &'a Args,
+/// tenants' files, the script or the listeners. Notes tell them.
+fn serve_args<R, O: Write, L: Log + Sync>(
+    rt: &R,
+    args: Args,
     out: &mut O,
-    notes: &'e L,
-) -> Result<(), ServeFault<'a>>
+    notes: &L,
+) -> Result<(), ServeFault>
 where
     R: Files<File = File>
         + AllocGlobal
@@ -198,26 +194,32 @@ where
         + Clock
         + Sync
         + SeesPaths,
-    requires { ArePermittedArgs args.now }
+    requires { ArePermittedArgs args }
 {
-    let lines = read_tenants_file(rt, args.tenants.as_str(), args.pool)?;
-    let (errors, states) = (LastErrors::new(), FileStates::new());
-    let meters = Meters::new(rt);
-    let meter = counted_in(&args.mode, &meters);
-    let disks = LockedFiles::new(rt, &errors, &states, meter);
-    let workers = workers_of(args);
+    if !has_stack_for(notes, &args.mode) {
+        return Err(ServeFault::Failed);
+    }
+    let setup = Setup::read(rt, args, notes)?;
+    let (states, meters) = (FileStates::new(), Meters::new(rt));
+    let disks = LockedFiles::new(rt, &states, counted_in(&setup.args.mode, &meters));
     let opened = open_parts(
         rt.alloc(),
         notes,
-        &lines,
+        &setup.lines,
         &disks,
-        args.pool,
-        workers,
+        setup.args.pool,
+        workers_of(&setup.args),
         NoHold,
     )?;
-    serve_opened::<_, LockedFiles<'_, R>, _, _, _>(
-        rt, args, &lines, opened, out, notes, &errors, &states, &meters,
-    )
+    serve_opened::<_, LockedFiles<'_, R>, _, _, _>(rt, &setup, opened, out, notes, &states, &meters)
+}
+
+/// Tells whether the limit of the stack is large enough for the threads of a server, and writes a note if not. A script has none.
+fn has_stack_for<L: Log>(notes: &L, mode: &Mode) -> bool {
+    match mode {
+        Mode::Listen(_) => has_stack(notes),
+        Mode::Script(_) => true,
+    }
 }
 
 /// Gives the meters if there are pages that tell what they count.
@@ -273,17 +275,15 @@ fn for_further(listening: &Listening) -> u8
 /// Serves the tenants with these lines, by an engine whose parts are made of the files that `P` opened. A tenant whose file
 /// isn't open answers FAULT. If `--strict` was given, it serves only if all files are open and the limit of descriptors
 /// leaves room.
-fn serve_opened<'a, D: Disk + Drop + Send + Sync, P: OpensDisks<Device = D>, R, O: Write, L>(
+fn serve_opened<D: Disk + Drop + Send + Sync, P: OpensDisks<Device = D>, R, O: Write, L>(
     rt: &R,
-    args: &'a Args,
-    lines: &[TenantLine],
+    setup: &Setup,
     opened: OpenedParts<D, NoHold>,
     out: &mut O,
     notes: &L,
-    errors: &LastErrors,
     states: &FileStates,
     meters: &Meters,
-) -> Result<(), ServeFault<'a>>
+) -> Result<(), ServeFault>
 where
     R: Files<File = File>
         + AllocGlobal
@@ -294,32 +294,40 @@ where
         + Sync
         + SeesPaths,
     L: Log + Sync,
-    requires args { ArePermittedArgs args.now }
-    requires tenants { length lines.now ≤ MAX_TENANTS }
-    requires opened { AreMadeOfOpened D.facts D.made P.is_over lines.now opened.are_open.items opened.made }
+    requires args { ArePermittedArgs setup.now.args }
+    requires tenants { length setup.now.lines.items ≤ MAX_TENANTS }
+    requires opened { AreMadeOfOpened D.facts D.made P.is_over setup.now.lines.items opened.are_open.items opened.made }
     requires new { IfOk opened.made (λ made. All (IsNew (identity_of made.0)) made.1.items) }
     requires some { IfOk opened.made (λ made. 0 < vec_len made.1) }
 {
+    let (args, lines) = (&setup.args, setup.lines.as_slice());
     if args.strict && !are_all_open(&opened.are_open) {
-        return Err(ServeFault::NotAll);
+        return Err(ServeFault::Failed);
     }
     if !has_room(notes, args, lines.len()) && args.strict {
-        return Err(ServeFault::FewDescriptors);
+        return Err(ServeFault::Failed);
+    }
+    if let Mode::Listen(_) = &args.mode {
+        note_down(notes, &opened.are_open);
     }
     let OpenedParts { are_open, made } = opened;
     sync_folders(rt, notes, lines, &are_open);
-    let watch = TenantNotes::new(
-        rt,
-        notes,
-        lines,
-        errors,
-        states,
-        meters,
-        &are_open,
-        args.strict,
-    );
+    let watch = TenantNotes::new(rt, notes, lines, states, meters, &are_open, args.strict);
     let (parts, passes) = made?;
     serve_engine::<Brand, _, _, _, _, _>(rt, parts, passes, args, out, notes, &watch, meters)
+}
+
+/// Writes a note on how many tenants are down, if some are.
+fn note_down<L: Log>(notes: &L, are_open: &[bool]) {
+    let (mut down, all) = (0usize, are_open.len());
+    for is_open in are_open {
+        if !*is_open {
+            down = down.saturating_add(1);
+        }
+    }
+    if down > 0 {
+        warn!(notes; "mwserve: {down} of {all} tenants down");
+    }
 }
 
 /// Gives the number of workers: as many as were asked for, and one for each further address, but at most [`MAX_WORKERS`].
@@ -344,7 +352,6 @@ fn own_workers(mode: &Mode) -> u8
 
 /// Starts the engine, and serves what the command line asks for.
 fn serve_engine<
-    'a,
     J: EngineBrand + Send + Sync,
     D: Disk + Drop + Send + Sync,
     R,
@@ -355,12 +362,12 @@ fn serve_engine<
     rt: &R,
     parts: EngineParts<D, NoHold>,
     passes: Vec<Pass>,
-    args: &'a Args,
+    args: &Args,
     out: &mut O,
     notes: &L,
     watch: &T,
     meters: &Meters,
-) -> Result<(), ServeFault<'a>>
+) -> Result<(), ServeFault>
 where
     R: Files<File = File>
         + AllocGlobal
@@ -376,7 +383,7 @@ where
 {
     let engine = parts.into_engine::<J>(rt.alloc())?;
     match &args.mode {
-        Mode::Script(path) => run_script(rt, &engine, passes, path.as_str(), out, watch),
+        Mode::Script(path) => run_script(rt, &engine, passes, path.as_str(), out, notes, watch),
         Mode::Listen(listening) => {
             serve_all_clients(rt, &engine, passes, listening, out, notes, watch, meters)
         }
@@ -384,14 +391,15 @@ where
 }
 
 /// Runs one session, from the script to `out`, by the first worker.
-fn run_script<'e, 'a, J: EngineBrand, D: Disk + Drop, R, O: Write, T: FaultWatch>(
+fn run_script<'e, J: EngineBrand, D: Disk + Drop, R, O: Write, L: Log, T: FaultWatch>(
     rt: &'e R,
     engine: &'e Engine<J, D, NoHold>,
     passes: Vec<Pass>,
-    path: &'a str,
+    path: &str,
     out: &mut O,
+    notes: &L,
     watch: &'e T,
-) -> Result<(), ServeFault<'a>>
+) -> Result<(), ServeFault>
 where
     R: Files<File = File> + AllocGlobal + Wait + Clock,
     requires new { All (IsNew J.identity) passes.items }
@@ -399,7 +407,11 @@ where
 {
     let script = match open_plain(rt, path) {
         Ok(script) => script,
-        Err(fault) => return Err(ServeFault::CannotRead(path, fault)),
+        Err(fault) => {
+            error!(notes; "mwserve: cannot read");
+            note_why(notes, path, "", &fault);
+            return Err(ServeFault::Failed);
+        }
     };
     let Some(pass) = passes.into_iter().next() else {
         return Err(ServeFault::Memory);
@@ -411,6 +423,6 @@ where
     });
     match worker.run(rt.alloc(), &mut stream) {
         Ended::Quit | Ended::PeerEnd | Ended::TooLong => Ok(()),
-        Ended::ReadFault | Ended::WriteFault(_) | Ended::Memory => Err(ServeFault::Ended),
+        Ended::ReadFault | Ended::WriteFault(_) | Ended::Memory => Err(ServeFault::Failed),
     }
 }

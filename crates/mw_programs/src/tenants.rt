@@ -6,10 +6,10 @@ ghost use Rattle.std.specs.Prelude.{◌<◌};
 ghost use Rattle.mw_words.specs.declared.limits.TheConstants.{MAX_TENANTS};
 
 use crate::replaced::{FileLook, SeesPaths, leads_elsewhere};
-use log::{Log, warn};
+use log::{Log, error};
 use mw_config::TenantLine;
 use mw_metrics::Meters;
-use mw_opening::{FileState, FileStates, LastErrors, note_cause, note_place};
+use mw_opening::{FileState, FileStates, note_place, note_why};
 use mw_service::FaultWatch;
 use mw_words::MAX_TENANTS;
 use std::str;
@@ -21,7 +21,6 @@ pub struct TenantNotes<'r, 'n, 'l, 'e, L, R> {
     rt: &'r R,
     notes: &'n L,
     lines: &'l [TenantLine],
-    errors: &'e LastErrors,
     states: &'e FileStates,
     meters: &'e Meters,
     /// Whether a file that was replaced is given up.
@@ -39,7 +38,6 @@ impl<'r, 'n, 'l, 'e, L: Log, R: Wait> TenantNotes<'r, 'n, 'l, 'e, L, R> {
         rt: &'r R,
         notes: &'n L,
         lines: &'l [TenantLine],
-        errors: &'e LastErrors,
         states: &'e FileStates,
         meters: &'e Meters,
         are_open: &[bool],
@@ -53,7 +51,6 @@ impl<'r, 'n, 'l, 'e, L: Log, R: Wait> TenantNotes<'r, 'n, 'l, 'e, L, R> {
             rt,
             notes,
             lines,
-            errors,
             states,
             meters,
             strict,
@@ -69,11 +66,11 @@ impl<L: Log, R: Wait> TenantNotes<'_, '_, '_, '_, L, R> {
         requires { tenant < MAX_TENANTS }
     {
         let name = str::from_utf8(&line.name).unwrap_or("?");
-        warn!(self.notes; "tenant {name}: failed");
+        error!(self.notes; "tenant {name}: failed");
         let path = line.path.as_str();
-        match self.errors.of(tenant).error() {
-            Some(error) => note_cause(self.notes, path, &error),
-            None => note_place(self.notes, path),
+        match self.states.of(tenant).last_error().error() {
+            Some(error) => note_why(self.notes, path, "", &error),
+            None => note_why(self.notes, path, "a call on it failed", &""),
         }
     }
 
@@ -91,7 +88,7 @@ impl<L: Log, R: Wait> TenantNotes<'_, '_, '_, '_, L, R> {
     /// Writes that the file of the tenant with this line was replaced.
     fn tell_replaced(&self, line: &TenantLine) {
         let name = str::from_utf8(&line.name).unwrap_or("?");
-        warn!(self.notes; "tenant {name}: replaced");
+        error!(self.notes; "tenant {name}: replaced");
         note_place(self.notes, line.path.as_str());
     }
 }

@@ -317,31 +317,31 @@ fn each_gives<R: Abort + AllocGlobal>(rt: &R, wanted: &str, lines: &str) {
 /// What command lines ask for, and these lines.
 const ACCEPTED: [(&str, &str); 7] = [
     (
-        "Args { tenants: \"t\", pool: 256, workers: 4, strict: false, verbose: false, mode: Script(\"s\") }",
+        "Args { tenants: \"t\", pool: 256, workers: 4, strict: false, verbose: false, journal: false, times: false, mode: Script(\"s\") }",
         "mwserve --tenants t --script s",
     ),
     (
-        "Args { tenants: \"t\", pool: 256, workers: 4, strict: false, verbose: false, mode: Listen(Listening { address: \"a:1\", admin: None, http: None, http_names: [], connections: None, shared: None, wait: None, idle: None, line_time: None, faults: None, open: false, socket_mode: 384 }) }",
+        "Args { tenants: \"t\", pool: 256, workers: 4, strict: false, verbose: false, journal: false, times: false, mode: Listen(Listening { address: \"a:1\", admin: None, http: None, http_names: [], connections: None, shared: None, wait: None, idle: None, line_time: None, faults: None, open: false, socket_mode: 384 }) }",
         "mwserve --listen a:1 --tenants t",
     ),
     (
-        "Args { tenants: \"t\", pool: 1, workers: 64, strict: false, verbose: false, mode: Listen(Listening { address: \"a:1\", admin: None, http: None, http_names: [], connections: Some(1000000), shared: None, wait: None, idle: Some(86400), line_time: Some(86400), faults: None, open: false, socket_mode: 511 }) }",
+        "Args { tenants: \"t\", pool: 1, workers: 64, strict: false, verbose: false, journal: false, times: false, mode: Listen(Listening { address: \"a:1\", admin: None, http: None, http_names: [], connections: Some(1000000), shared: None, wait: None, idle: Some(86400), line_time: Some(86400), faults: None, open: false, socket_mode: 511 }) }",
         "mwserve --tenants t --pool 1 --workers 64 --listen a:1 --connections 1000000 --idle 86400 --mode 777",
     ),
     (
-        "Args { tenants: \"t\", pool: 256, workers: 1, strict: true, verbose: true, mode: Listen(Listening { address: \"a:1\", admin: Some(\"a:2\"), http: None, http_names: [], connections: Some(1), shared: None, wait: None, idle: Some(1), line_time: Some(1), faults: None, open: false, socket_mode: 432 }) }",
-        "mwserve --tenants t --pool=256 --workers=1 --listen=a:1 --connections=1 --strict --idle=1 --admin=a:2 --verbose --mode=0660",
+        "Args { tenants: \"t\", pool: 256, workers: 1, strict: true, verbose: true, journal: true, times: true, mode: Listen(Listening { address: \"a:1\", admin: Some(\"a:2\"), http: None, http_names: [], connections: Some(1), shared: None, wait: None, idle: Some(1), line_time: Some(1), faults: None, open: false, socket_mode: 432 }) }",
+        "mwserve --tenants t --pool=256 --workers=1 --listen=a:1 --connections=1 --strict --idle=1 --admin=a:2 --verbose --times --journal --mode=0660",
     ),
     (
-        "Args { tenants: \"t\", pool: 256, workers: 2, strict: false, verbose: false, mode: Listen(Listening { address: \"a:1\", admin: None, http: Some(\"unix:h\"), http_names: [], connections: None, shared: Some(SharedWorkers { clients: 1, readers: 1 }), wait: Some(1), idle: None, line_time: Some(86400), faults: None, open: false, socket_mode: 384 }) }",
+        "Args { tenants: \"t\", pool: 256, workers: 2, strict: false, verbose: false, journal: false, times: false, mode: Listen(Listening { address: \"a:1\", admin: None, http: Some(\"unix:h\"), http_names: [], connections: None, shared: Some(SharedWorkers { clients: 1, readers: 1 }), wait: Some(1), idle: None, line_time: Some(86400), faults: None, open: false, socket_mode: 384 }) }",
         "mwserve --tenants t --workers 2 --listen a:1 --clients 1 --wait 1 --line-time 86400 --http unix:h",
     ),
     (
-        "Args { tenants: \"t\", pool: 256, workers: 64, strict: false, verbose: false, mode: Listen(Listening { address: \"a:1\", admin: None, http: None, http_names: [], connections: None, shared: Some(SharedWorkers { clients: 4096, readers: 63 }), wait: Some(86400), idle: Some(9), line_time: Some(2), faults: None, open: false, socket_mode: 384 }) }",
+        "Args { tenants: \"t\", pool: 256, workers: 64, strict: false, verbose: false, journal: false, times: false, mode: Listen(Listening { address: \"a:1\", admin: None, http: None, http_names: [], connections: None, shared: Some(SharedWorkers { clients: 4096, readers: 63 }), wait: Some(86400), idle: Some(9), line_time: Some(2), faults: None, open: false, socket_mode: 384 }) }",
         "mwserve --tenants t --workers 64 --listen a:1 --clients 4096 --readers 63 --wait 86400 --idle 9 --line-time 2",
     ),
     (
-        "Args { tenants: \"t\", pool: 256, workers: 4, strict: false, verbose: false, mode: Listen(Listening { address: \"a:1\", admin: None, http: Some(\"a:2\"), http_names: [\"w\", \"W-1.example\"], connections: None, shared: None, wait: None, idle: None, line_time: None, faults: Some(1000000), open: true, socket_mode: 384 }) }",
+        "Args { tenants: \"t\", pool: 256, workers: 4, strict: false, verbose: false, journal: false, times: false, mode: Listen(Listening { address: \"a:1\", admin: None, http: Some(\"a:2\"), http_names: [\"w\", \"W-1.example\"], connections: None, shared: None, wait: None, idle: None, line_time: None, faults: Some(1000000), open: true, socket_mode: 384 }) }",
         "mwserve --tenants t --listen a:1 --http a:2 --http-name w --open --faults 1000000 --http-name=W-1.example",
     ),
 ];
@@ -459,25 +459,30 @@ fn help<R: Abort + AllocGlobal>(rt: &R) -> String {
 /// What the help must name, one a line.
 const OPTIONS: &str = "\
 --tenants <FILE>
---pool <P>
---workers <N>
+--pool <1..256>
+--workers <1..64>
 --listen <ADDR>
---connections <C>
+--connections <1..1000000>
 --script <FILE>
 --strict
 --version
 --admin <ADDR>
 --http <ADDR>
---clients <M>
---readers <R>
---wait <SECONDS>
---idle <SECONDS>
---line-time <SECONDS>
+--clients <1..4096>
+--readers <1..64>
+--wait <1..86400>
+--idle <1..86400>
+--line-time <1..86400>
 --http-name <NAME>
---faults <F>
+--faults <1..1000000>
 --open
---mode <MODE>
---verbose";
+--mode <0..777>
+--verbose
+--journal
+--times
+name words quota path
+docs/OPERATING.md
+mwserve --tenants tenants --listen 127.0.0.1:7000";
 
 #[test]
 fn the_help_names_each_option(rt: HostRuntime) {
