@@ -2,6 +2,7 @@
 
 Used by: scripts/check-clients.
 """
+import json
 import re
 import shutil
 import subprocess
@@ -14,7 +15,7 @@ from package_parts import clients as packed
 TOP = Path(__file__).resolve().parent.parent.parent
 PLAY = Path(__file__).resolve().parent / "play.py"
 VERSION = TOP / "crates/mw_main/src/lib.rt"
-C, RUST, GO = TOP / "clients/c", TOP / "clients/rust", TOP / "clients/go"
+C, RUST, GO, NODE = (TOP / "clients" / name for name in ("c", "rust", "go", "node"))
 VALGRIND = ("valgrind", "-q", "--leak-check=full", "--show-leak-kinds=all", "--errors-for-leak-kinds=all", "--error-exitcode=99")
 
 
@@ -173,10 +174,40 @@ def of_go(folder: Path) -> List[Program]:
     return [Program("go", [f"{folder}/play"])]
 
 
+# Node.
+
+TYPES_OF_NODE = "declare module 'node:tls' { export interface ConnectionOptions { servername?: string } }\n"
+"""What the client's types need of Node's, which a package of another project has."""
+
+
+def check_types(source: Path, folder: Path) -> None:
+    """The types must fit a program that uses each call."""
+    (folder / "node_modules").mkdir()
+    (folder / "node_modules/mondlexi").symlink_to(source)
+    (folder / "package.json").write_text('{ "type": "module" }\n')
+    (folder / "node.d.ts").write_text(TYPES_OF_NODE)
+    shutil.copy(source / "test/types.ts", folder)
+    kind = ("--target", "es2022", "--lib", "es2022,dom", "--module", "node16", "--moduleResolution", "node16")
+    ran("tsc", "--noEmit", "--strict", "--exactOptionalPropertyTypes", *kind, "types.ts", "node.d.ts", at=folder)
+
+
+def of_node(folder: Path) -> List[Program]:
+    """Nothing is built. Its own tests are run, the program of its README is read, and, where tsc is here, its types are tried."""
+    source = source_of(NODE, folder)
+    (source / "example.mjs").write_text(example(NODE / "README.md"))
+    check_version("Node", json.loads((source / "package.json").read_text())["version"])
+    ran("node", "--check", "example.mjs", at=source)
+    ran("node", "--test", "test", at=source)
+    if shutil.which("tsc"):
+        check_types(source, folder)
+    return [Program("node", ["node", f"{source}/play.js"])]
+
+
 CLIENTS = (
     Client("python", (), of_python),
     Client("asyncio", (), of_asyncio),
     Client("c", ("cc", "make"), of_c),
     Client("rust", ("cargo",), of_rust),
     Client("go", ("go",), of_go),
+    Client("node", ("node",), of_node),
 )

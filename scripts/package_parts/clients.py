@@ -1,5 +1,6 @@
-"""The clients in C, Rust and Go as they are packed: their sources with the cases that they pass, and libmondlexi-dev_VERSION_amd64.deb, which has
-the library of C, static and shared, its header, its page of the manual, and what pkg-config says of it.
+"""The clients in other languages than Python as they are packed: their sources with the cases that they pass, and
+libmondlexi-dev_VERSION_amd64.deb, which has the library of C, static and shared, its header, its page of the manual, and what pkg-config
+says of it.
 
 Used by: scripts/package; scripts/check-clients, which builds a program with what it has installed.
 """
@@ -12,8 +13,8 @@ from pathlib import Path
 from typing import Dict
 
 TOP = Path(__file__).resolve().parent.parent.parent
-SOURCES = ("c", "rust", "go", "cases")
-LEFT_OUT = {"out", "target", "Cargo.lock"}
+SOURCES = ("c", "rust", "go", "node", "cases")
+LEFT_OUT = {"out", "target", "Cargo.lock", "node_modules"}
 """What builds leave."""
 LIBRARIES = "/usr/lib/x86_64-linux-gnu"
 CONTROL = """Package: libmondlexi-dev
