@@ -15,7 +15,7 @@ from package_parts import clients as packed
 TOP = Path(__file__).resolve().parent.parent.parent
 PLAY = Path(__file__).resolve().parent / "play.py"
 VERSION = TOP / "crates/mw_main/src/lib.rt"
-C, RUST, GO, NODE = (TOP / "clients" / name for name in ("c", "rust", "go", "node"))
+C, RUST, GO, NODE, JAVA = (TOP / "clients" / name for name in ("c", "rust", "go", "node", "java"))
 VALGRIND = ("valgrind", "-q", "--leak-check=full", "--show-leak-kinds=all", "--errors-for-leak-kinds=all", "--error-exitcode=99")
 
 
@@ -203,6 +203,36 @@ def of_node(folder: Path) -> List[Program]:
     return [Program("node", ["node", f"{source}/play.js"])]
 
 
+# Java.
+
+QUICK = ("-XX:TieredStopAtLevel=1", "-XX:+UseSerialGC", "-Xmx64m")
+"""For a program that doesn't run for long."""
+
+
+def keys_for_tls(folder: Path) -> Path:
+    """A file of keytool with a key for this machine; none is there if keytool isn't."""
+    keys = folder / "keys"
+    if shutil.which("keytool"):
+        about = ("-dname", "CN=server", "-ext", "SAN=IP:127.0.0.1", "-validity", "2", "-storetype", "PKCS12", "-storepass", "changeit")
+        ran("keytool", "-genkeypair", "-alias", "server", "-keyalg", "EC", *about, "-keystore", keys, at=folder)
+    return keys
+
+
+def of_java(folder: Path) -> List[Program]:
+    """By javac, whose warnings are errors. Its own tests are run, and the program of its README is built."""
+    source = source_of(JAVA, folder)
+    (source / "AddOne.java").write_text(example(JAVA / "README.md"))
+    found = re.search('VERSION = "(.*)";', (source / "src/mondlexi/Client.java").read_text())
+    check_version("Java", found[1] if found else "")
+    javac = ("javac", "--release", "17", "-Xlint:all", "-Xdoclint:all/protected", "-Werror", "-d", folder / "out")
+    ran(*javac, *sorted((source / "src/mondlexi").glob("*.java")), at=source)
+    ran("javac", "--release", "17", "-Xlint:all", "-Werror", "-cp", folder / "out", "-d", folder / "out", "play/Play.java",
+        "test/ClientTest.java", "AddOne.java", at=source)
+    java = ("java", *QUICK, "-cp", f"{folder}/out")
+    ran(*java, "ClientTest", keys_for_tls(folder), at=folder)
+    return [Program("java", [*java, "Play"])]
+
+
 CLIENTS = (
     Client("python", (), of_python),
     Client("asyncio", (), of_asyncio),
@@ -210,4 +240,5 @@ CLIENTS = (
     Client("rust", ("cargo",), of_rust),
     Client("go", ("go",), of_go),
     Client("node", ("node",), of_node),
+    Client("java", ("javac", "java"), of_java),
 )

@@ -13,7 +13,7 @@ from pathlib import Path
 from typing import Dict
 
 TOP = Path(__file__).resolve().parent.parent.parent
-SOURCES = ("c", "rust", "go", "node", "cases")
+SOURCES = ("c", "rust", "go", "node", "java", "cases")
 LEFT_OUT = {"out", "target", "Cargo.lock", "node_modules"}
 """What builds leave."""
 LIBRARIES = "/usr/lib/x86_64-linux-gnu"
