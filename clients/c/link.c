@@ -146,65 +146,125 @@ static int connect_at_path(mondlexi_client *client, int64_t end) {
     }
 }
 
+/* How many bytes a system call sent or received, 1 or more; what has to be waited for; or that the connection has ended. */
+static int code_of(mondlexi_client *client, ssize_t count, int wait) {
+    if (count > 0) {
+        return (int)count;
+    }
+    if (count < 0 && (errno == EAGAIN || errno == EWOULDBLOCK || errno == EINTR)) {
+        return wait;
+    }
+    mdx_say(client, "%s", count ? strerror(errno) : "the server closed the connection");
+    return MONDLEXI_ENDED;
+}
+
+/* Waits for what a call has answered: 1. 0 if the connection has ended, or the time is over. */
+static int wait_as_told(mondlexi_client *client, int code, int64_t end) {
+    if (code != MONDLEXI_WAIT_TO_READ && code != MONDLEXI_WAIT_TO_WRITE) {
+        if (client->stream) {
+            mdx_say(client, "the stream has ended");
+        }
+        return 0;
+    }
+    if (mdx_now() >= end) {
+        client->is_late = 1;
+        mdx_say(client, "timed out");
+        return 0;
+    }
+    return wait_for(client, client->fd, code == MONDLEXI_WAIT_TO_READ ? POLLIN : POLLOUT, end);
+}
+
+/* Begins a stream over the connection, and waits until it is ready. */
+static int greet(mondlexi_client *client, int64_t end) {
+    const mondlexi_streams *streams = client->options.streams;
+    client->stream = streams->begin(streams->context, client->fd);
+    if (!client->stream) {
+        mdx_say(client, "the stream can't begin");
+        return 0;
+    }
+    for (;;) {
+        int code = streams->greet(client->stream);
+        if (code >= 0) {
+            return 1;
+        }
+        if (!wait_as_told(client, code, end)) {
+            return 0;
+        }
+    }
+}
+
 /* `is_full`: whether the server reset the connection while it was made. */
 int mdx_connect(mondlexi_client *client, int64_t end, int *is_full) {
     mdx_drop(client);
     *is_full = 0;
     client->fd = client->host[0] ? connect_over_tcp(client, end, is_full) : connect_at_path(client, end);
+    if (client->fd >= 0 && client->options.streams && !greet(client, end)) {
+        mdx_drop(client);
+    }
+    *is_full = *is_full && !client->options.streams;
     return client->fd >= 0;
+}
+
+static int send_some(mondlexi_client *client, const char *bytes, size_t count) {
+    if (client->stream) {
+        return client->options.streams->send(client->stream, bytes, (int)count);
+    }
+    return code_of(client, send(client->fd, bytes, count, MSG_NOSIGNAL), MONDLEXI_WAIT_TO_WRITE);
 }
 
 int mdx_send(mondlexi_client *client, const char *bytes, size_t count, int64_t end) {
     while (count) {
-        ssize_t sent = send(client->fd, bytes, count, MSG_NOSIGNAL);
-        if (sent >= 0) {
+        int sent = send_some(client, bytes, count);
+        if (sent > 0) {
             bytes += sent;
             count -= (size_t)sent;
-        } else if (errno == EAGAIN || errno == EWOULDBLOCK) {
-            if (!wait_for(client, client->fd, POLLOUT, end)) {
-                return 0;
-            }
-        } else if (errno != EINTR) {
-            mdx_say(client, "sending: %s", strerror(errno));
+        } else if (!wait_as_told(client, sent, end)) {
             return 0;
         }
     }
     return 1;
 }
 
+static int receive_some(mondlexi_client *client, char *bytes, size_t room) {
+    if (client->stream) {
+        return client->options.streams->receive(client->stream, bytes, (int)room);
+    }
+    return code_of(client, recv(client->fd, bytes, room, 0), MONDLEXI_WAIT_TO_READ);
+}
+
 /* Takes more of what the server has sent. The buffer must have room. */
 int mdx_receive(mondlexi_client *client, int64_t end) {
     for (;;) {
-        if (!wait_for(client, client->fd, POLLIN, end)) {
-            return 0;
-        }
-        ssize_t came = recv(client->fd, client->in + client->end, sizeof client->in - client->end, 0);
+        int came = receive_some(client, client->in + client->end, sizeof client->in - client->end);
         if (came > 0) {
             client->end += (size_t)came;
             client->is_silent = 0;
             return 1;
         }
-        if (came == 0 || (errno != EAGAIN && errno != EWOULDBLOCK && errno != EINTR)) {
-            mdx_say(client, "%s", came == 0 ? "the server closed the connection" : strerror(errno));
+        if (!wait_as_told(client, came, end)) {
             return 0;
         }
     }
 }
 
-/* Says QUIT, ends the writing side, and reads to the end. */
+/* Says QUIT, ends the writing side, and reads to the end; of a stream it reads what comes first. */
 void mdx_goodbye(mondlexi_client *client, int64_t end) {
-    if (!mdx_send(client, "QUIT\n", 5, end) || shutdown(client->fd, SHUT_WR)) {
+    if (!mdx_send(client, "QUIT\n", 5, end) || (!client->stream && shutdown(client->fd, SHUT_WR))) {
         return;
     }
     do {
         client->begin = client->end = 0;
-    } while (mdx_receive(client, end));
+    } while (mdx_receive(client, end) && !client->stream);
 }
 
 void mdx_drop(mondlexi_client *client) {
+    if (client->stream) {
+        client->options.streams->end(client->stream);
+    }
     if (client->fd >= 0) {
         close(client->fd);
     }
+    client->stream = NULL;
     client->fd = -1;
     client->begin = client->end = 0;
     client->is_silent = 1;

@@ -55,15 +55,30 @@ typedef enum {
     MONDLEXI_MOVED
 } mondlexi_status;
 
+/* What a client speaks over in place of its bare connection: streams of TLS, for example, as over_openssl.c makes them. The caller
+   makes these functions. The library connects a socket, calls `begin` and then `greet` for each connection, and calls `end` before it
+   closes the socket. None of them may wait for the other side: they answer what the library is to wait for, within its own limits
+   of time, and are then called again with the same arguments. They run in the thread that calls the library. */
+enum { MONDLEXI_ENDED = -1, MONDLEXI_WAIT_TO_READ = -2, MONDLEXI_WAIT_TO_WRITE = -3 };
+typedef struct {
+    void *(*begin)(void *context, int socket); /* a new stream over a socket that doesn't block; NULL if there is none */
+    int (*greet)(void *stream);                /* 0 or more once the stream is ready; else one of the three above, as below */
+    int (*send)(void *stream, const char *bytes, int count); /* how many bytes were taken, 1 or more */
+    int (*receive)(void *stream, char *bytes, int room);     /* how many bytes have come, 1 or more */
+    void (*end)(void *stream);
+    void *context; /* for `begin` */
+} mondlexi_streams;
+
 /* Times in milliseconds, up to MONDLEXI_MAX_TIME. */
 typedef struct {
     int timeout;    /* how long to wait for a connection, and then for each reply; 1 or more */
     int patience;   /* for how long cas and read ask again, with growing pauses, while the server is busy; 0 for not at all */
     int within;     /* for how long to try again if connecting fails; 0 for one try */
     int reconnects; /* how often one call connects anew and asks again if the connection has broken, 0 to MONDLEXI_MAX_RECONNECTS */
+    const mondlexi_streams *streams; /* NULL for the bare connection; else it must live as long as the client */
 } mondlexi_options;
 
-#define MONDLEXI_DEFAULTS {10000, 5000, 0, 1}
+#define MONDLEXI_DEFAULTS {10000, 5000, 0, 1, NULL}
 
 /* A part of a change. */
 typedef struct {

@@ -25,7 +25,8 @@ struct mondlexi_client {
     char host[MAX_HOST + 1], port[6], path[MAX_PATH + 1], tenant[17]; /* an empty host: at the path; an empty tenant: the administrator */
     mondlexi_options options;
     mdx_state state;
-    int fd; /* -1 if there is none */
+    int fd;       /* -1 if there is none */
+    void *stream; /* of options.streams, or NULL */
     unsigned words;
     int is_silent, is_late; /* whether no byte has come over this connection; whether the last failure was a reply in time */
     char in[4096];

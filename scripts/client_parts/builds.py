@@ -12,6 +12,8 @@ from typing import Callable, List, NamedTuple, Sequence
 
 from package_parts import clients as packed
 
+from .secure import try_example
+
 TOP = Path(__file__).resolve().parent.parent.parent
 PLAY = Path(__file__).resolve().parent / "play.py"
 VERSION = TOP / "crates/mw_main/src/lib.rt"
@@ -117,12 +119,23 @@ def check_page(page: Path) -> None:
             raise NotBuilt(told)
 
 
+def try_secure(compiler: str, folder: Path) -> None:
+    """Builds the example over OpenSSL, where that is installed, and tries it."""
+    if not shutil.which("openssl") or not Path("/usr/include/openssl/ssl.h").is_file():
+        return
+    ran("make", f"CC={compiler}", f"OUT={folder}/out", f"{folder}/out/over_openssl", at=C)
+    found = try_example(folder / "out/over_openssl")
+    if found:
+        raise NotBuilt(f"over_openssl: {found}")
+
+
 def of_c(folder: Path) -> List[Program]:
     """By each C compiler; the program of the first one also under valgrind, where it is here."""
     programs = []
     for compiler in compilers():
         ran("make", f"CC={compiler}", f"OUT={folder}/{compiler}/out", "all", f"{folder}/{compiler}/out/play", at=C)
         install_c(compiler, folder / compiler)
+        try_secure(compiler, folder / compiler)
         programs.append(Program(f"c by {compiler}", [f"{folder}/{compiler}/out/play"]))
     check_page(C / "mondlexi.3")
     try_package(folder / "package")

@@ -16,6 +16,8 @@ TOP = Path(__file__).resolve().parent.parent.parent
 SOURCES = ("c", "rust", "go", "node", "java", "cases")
 LEFT_OUT = {"out", "target", "Cargo.lock", "node_modules"}
 """What builds leave."""
+DOCUMENTS = ("README.md", "over_openssl.c")
+"""Of the client in C, in libmondlexi-dev."""
 LIBRARIES = "/usr/lib/x86_64-linux-gnu"
 CONTROL = """Package: libmondlexi-dev
 Version: {version}
@@ -66,7 +68,8 @@ def lay_out(root: Path, room: Path, moment: int) -> None:
     pack_page(root / "usr/share/man/man3/mondlexi.3", moment)
     documents = root / "usr/share/doc/libmondlexi-dev"
     documents.mkdir(parents=True)
-    shutil.copyfile(TOP / "clients/c/README.md", documents / "README.md")
+    for name in DOCUMENTS:
+        shutil.copyfile(TOP / "clients/c" / name, documents / name)
     for path in (root, *root.rglob("*")):
         if not path.is_symlink():
             path.chmod(0o755 if path.is_dir() else 0o644)

@@ -1,8 +1,11 @@
 //! The calls of a tenant and of the administrator.
 
+use std::io;
+use std::net::TcpStream;
 use std::time::{Duration, Instant};
 
 use crate::error::Error;
+use crate::link::{Layer, Stream};
 use crate::protocol::{
     cas, checked_entries, get, place_of, report, Entry, Gone, Greeting, Miss, Outcome, Report,
     MAX_ENTRIES,
@@ -23,7 +26,23 @@ impl Client {
     /// `Invalid`, with nothing sent; `Lost`; `Full`; `Refused`, with number 5, if no tenant has the name.
     pub fn connect(server: &str, tenant: &str, options: Options) -> Result<Client, Error> {
         let greeting = Greeting::tenant(tenant)?;
-        let session = Session::begin(place_of(server)?, options, greeting)?;
+        let session = Session::begin(place_of(server)?, options, greeting, None)?;
+        Ok(Client { session })
+    }
+
+    /// As [`connect`](Client::connect), to a `HOST:PORT`, but it speaks over a stream that `layer` makes of each connection: by TLS,
+    /// for example, to a proxy in front of the server, which has none itself.
+    ///
+    /// `layer` makes the greeting of its protocol too. Its error is `Lost`. Each read and write of the connection below ends at the
+    /// call's limit of time, with the kind of error that the connection gives; the stream hands this on.
+    pub fn connect_over<S: Stream + 'static>(
+        server: &str,
+        tenant: &str,
+        options: Options,
+        layer: impl FnMut(TcpStream) -> io::Result<S> + Send + 'static,
+    ) -> Result<Client, Error> {
+        let greeting = Greeting::tenant(tenant)?;
+        let session = Session::begin(place_of(server)?, options, greeting, boxed(layer))?;
         Ok(Client { session })
     }
 
@@ -148,6 +167,12 @@ impl Client {
     }
 }
 
+fn boxed<S: Stream + 'static>(
+    mut layer: impl FnMut(TcpStream) -> io::Result<S> + Send + 'static,
+) -> Option<Layer> {
+    Some(Box::new(move |socket| Ok(Box::new(layer(socket)?))))
+}
+
 /// Where an address is among sorted ones.
 fn place_of_address(addresses: &[u16], address: u16) -> usize {
     addresses.partition_point(|it| *it < address)
@@ -161,7 +186,19 @@ pub struct Administrator {
 impl Administrator {
     /// Connects to `server`, perhaps at a place for the administrator alone. Otherwise as [`Client::connect`].
     pub fn connect(server: &str, options: Options) -> Result<Administrator, Error> {
-        let session = Session::begin(place_of(server)?, options, Greeting::Administrator)?;
+        let greeting = Greeting::Administrator;
+        let session = Session::begin(place_of(server)?, options, greeting, None)?;
+        Ok(Administrator { session })
+    }
+
+    /// As [`Client::connect_over`].
+    pub fn connect_over<S: Stream + 'static>(
+        server: &str,
+        options: Options,
+        layer: impl FnMut(TcpStream) -> io::Result<S> + Send + 'static,
+    ) -> Result<Administrator, Error> {
+        let greeting = Greeting::Administrator;
+        let session = Session::begin(place_of(server)?, options, greeting, boxed(layer))?;
         Ok(Administrator { session })
     }
 

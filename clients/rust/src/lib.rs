@@ -12,8 +12,12 @@ mod session;
 pub use client::{Administrator, Client};
 pub use counted::Counted;
 pub use error::Error;
+pub use link::Stream;
 pub use protocol::{Entry, Miss, Outcome, Report, TenantReport, MAX_ENTRIES, MAX_VALUE, MAX_WORDS};
 pub use session::{Options, MAX_RECONNECTS, MAX_TIME};
+
+#[cfg(test)]
+mod stream_tests;
 
 #[cfg(test)]
 mod tests {

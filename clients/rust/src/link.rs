@@ -52,6 +52,17 @@ fn left(end: Instant) -> io::Result<Duration> {
     Ok(left)
 }
 
+/// Whether this says that the server has closed or reset the connection.
+pub(crate) fn is_end_of_link(error: &io::Error) -> bool {
+    matches!(
+        error.kind(),
+        io::ErrorKind::UnexpectedEof
+            | io::ErrorKind::ConnectionReset
+            | io::ErrorKind::ConnectionAborted
+            | io::ErrorKind::BrokenPipe
+    )
+}
+
 /// Whether this says that the time is over.
 pub(crate) fn is_late(error: &io::Error) -> bool {
     matches!(
@@ -67,24 +78,46 @@ fn ended() -> io::Error {
     )
 }
 
+/// What a client can speak over in place of its bare connection: a stream of TLS, for example.
+pub trait Stream: Read + Write + Send {}
+
+impl<T: Read + Write + Send> Stream for T {}
+
+/// What makes a stream over each new connection of a client.
+pub(crate) type Layer = Box<dyn FnMut(TcpStream) -> io::Result<Box<dyn Stream>> + Send>;
+
 /// A connection.
 pub(crate) enum Link {
     Tcp(TcpStream),
     Local(UnixStream),
+    /// A stream, and the connection that it is over, whose limits of time are set.
+    Over(Box<dyn Stream>, TcpStream),
+}
+
+/// Lets reads and writes of a connection fail at this moment. A stream over it may do either for each of its own.
+fn limit(socket: &TcpStream, end: Instant) -> io::Result<()> {
+    let limit = Some(left(end)?);
+    socket.set_read_timeout(limit)?;
+    socket.set_write_timeout(limit)
 }
 
 impl Link {
     /// Sends all of this.
     pub(crate) fn send(&mut self, bytes: &[u8], end: Instant) -> io::Result<()> {
-        let limit = Some(left(end)?);
+        let time = Some(left(end)?);
         match self {
             Link::Tcp(stream) => {
-                stream.set_write_timeout(limit)?;
+                stream.set_write_timeout(time)?;
                 stream.write_all(bytes)
             }
             Link::Local(stream) => {
-                stream.set_write_timeout(limit)?;
+                stream.set_write_timeout(time)?;
                 stream.write_all(bytes)
+            }
+            Link::Over(stream, socket) => {
+                limit(socket, end)?;
+                stream.write_all(bytes)?;
+                stream.flush()
             }
         }
     }
@@ -93,14 +126,18 @@ impl Link {
     pub(crate) fn receive(&mut self, to: &mut Vec<u8>, end: Instant) -> io::Result<()> {
         let mut piece = [0; PIECE];
         loop {
-            let limit = Some(left(end)?);
+            let time = Some(left(end)?);
             let came = match self {
                 Link::Tcp(stream) => {
-                    stream.set_read_timeout(limit)?;
+                    stream.set_read_timeout(time)?;
                     stream.read(&mut piece)
                 }
                 Link::Local(stream) => {
-                    stream.set_read_timeout(limit)?;
+                    stream.set_read_timeout(time)?;
+                    stream.read(&mut piece)
+                }
+                Link::Over(stream, socket) => {
+                    limit(socket, end)?;
                     stream.read(&mut piece)
                 }
             };
@@ -116,12 +153,13 @@ impl Link {
         }
     }
 
-    /// Says `QUIT`, ends the writing side, and reads to the end.
+    /// Says `QUIT`, ends the writing side, and reads to the end; of a stream it reads what comes first.
     pub(crate) fn finish(&mut self, end: Instant) -> io::Result<()> {
         self.send(b"QUIT\n", end)?;
         match self {
             Link::Tcp(stream) => stream.shutdown(Shutdown::Write)?,
             Link::Local(stream) => stream.shutdown(Shutdown::Write)?,
+            Link::Over(..) => return self.receive(&mut Vec::new(), end),
         }
         let mut rest = Vec::new();
         loop {
@@ -134,14 +172,17 @@ impl Link {
 /// What connects, again and again, to one place.
 pub(crate) struct Dialer {
     place: Place,
+    layer: Option<Layer>,
     /// A connection to a local socket that was full when the time was over: its thread still waits for room.
     waiting: Option<Receiver<io::Result<UnixStream>>>,
 }
 
 impl Dialer {
-    pub(crate) fn new(place: Place) -> Dialer {
+    /// `layer`: for a port alone.
+    pub(crate) fn new(place: Place, layer: Option<Layer>) -> Dialer {
         Dialer {
             place,
+            layer,
             waiting: None,
         }
     }
@@ -149,7 +190,17 @@ impl Dialer {
     /// A new connection.
     pub(crate) fn connect(&mut self, end: Instant) -> io::Result<Link> {
         match &self.place {
-            Place::Port(host, port) => over_tcp(host, *port, end).map(Link::Tcp),
+            Place::Port(host, port) => {
+                let socket = over_tcp(host, *port, end)?;
+                match &mut self.layer {
+                    None => Ok(Link::Tcp(socket)),
+                    Some(layer) => {
+                        let own = socket.try_clone()?;
+                        limit(&own, end)?;
+                        Ok(Link::Over(layer(socket)?, own))
+                    }
+                }
+            }
             Place::LocalSocket(path) => {
                 let path = path.clone();
                 self.at_local_socket(path, end).map(Link::Local)

@@ -4,7 +4,7 @@ use std::io;
 use std::time::{Duration, Instant};
 
 use crate::error::Error;
-use crate::link::{is_late, Dialer, Link, Pause};
+use crate::link::{is_end_of_link, is_late, Dialer, Layer, Link, Pause};
 use crate::protocol::{
     failure_of, is_end, is_too_long, Gone, Greeting, Place, Question, Reply, LINES_AT_ONCE,
     MAX_REPLY,
@@ -80,6 +80,8 @@ pub(crate) struct Session {
     pub(crate) words: u16,
     greeting: Greeting,
     dialer: Dialer,
+    /// Whether no stream is over its connections.
+    is_bare: bool,
     state: State,
     link: Option<Link>,
     /// What came and was not taken yet.
@@ -103,14 +105,21 @@ impl Session {
         place: Place,
         options: Options,
         greeting: Greeting,
+        layer: Option<Layer>,
     ) -> Result<Session, Error> {
         check(&options)?;
+        if layer.is_some() && matches!(place, Place::LocalSocket(_)) {
+            return Err(Error::Invalid(
+                "a stream is over TCP, not over a local socket".into(),
+            ));
+        }
         let end = Instant::now() + options.within;
         let mut session = Session {
             options,
             words: 0,
             greeting,
-            dialer: Dialer::new(place),
+            is_bare: layer.is_none(),
+            dialer: Dialer::new(place, layer),
             state: State::Closed,
             link: None,
             rest: Vec::new(),
@@ -165,7 +174,7 @@ impl Session {
         self.drop_link();
         match self.dialer.connect(Instant::now() + self.options.timeout) {
             Ok(link) => self.link = Some(link),
-            Err(error) if error.kind() == io::ErrorKind::ConnectionReset => {
+            Err(error) if self.is_bare && error.kind() == io::ErrorKind::ConnectionReset => {
                 return Err(Error::Full(format!("connecting: {error}")))
             }
             Err(error) => return Err(Error::Lost(format!("connecting: {error}"))),
@@ -245,7 +254,7 @@ impl Session {
 
     /// Closes the connection, and tells what that means.
     fn gone(&mut self, gone: Gone, error: &io::Error) -> Error {
-        let is_full = self.is_silent && !is_late(error);
+        let is_full = self.is_silent && is_end_of_link(error);
         self.is_late = is_late(error);
         self.drop_link();
         let text = error.to_string();

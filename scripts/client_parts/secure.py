@@ -1,0 +1,69 @@
+"""The example of libmondlexi over OpenSSL, at a front that speaks TLS. `openssl` makes the certificates.
+
+Used by: builds.py.
+"""
+import socket
+import subprocess
+import tempfile
+from pathlib import Path
+from typing import List, Optional, Sequence, Tuple
+
+from program_parts.tls import NAME, Front, make_certificates
+
+from .peer import HOST, Different, Peer
+from .table import Case, Step, steps_of
+
+GOES_WELL = ("again", "sent GET 0", r"says VAL 5\n", "sent CAS 0:5:6", r"says YES\n", "sent QUIT", r"says BYE\n", "ends")
+BREAKS = ("again", "sent GET 0", "shuts", *GOES_WELL)
+IS_FULL = ("opens", "shuts")
+DONE = (0, "6\n", "")
+REFUSED = "there is no connection"
+FULL = "the server closed the connection before any reply"
+LONGEST = 30
+
+
+def server_of(lines: Sequence[str], folder: Path) -> Peer:
+    """A server that plays these steps."""
+    steps: List[Step] = [step for line in lines for step in steps_of(line, line)]
+    return Peer(Case("over TLS", [], steps), folder)
+
+
+def told_by(program: Path, folder: Path, at: str, name: str = HOST, authority: str = "authority.pem") -> Tuple[int, str, str]:
+    """What the example tells: its status, what it prints, and the meaning of its failure."""
+    words = [str(program), at, name, authority]
+    ended = subprocess.run(words, cwd=folder, stdin=subprocess.DEVNULL, capture_output=True, text=True, timeout=LONGEST)
+    return ended.returncode, ended.stdout, ended.stderr.rpartition("\n")[0].rpartition("\n")[2].partition(":")[0]
+
+
+def try_server(program: Path, folder: Path, kind: str, lines: Sequence[str], wanted: Tuple[int, str, str]) -> Optional[str]:
+    """What is the matter at a server behind a front of this kind; None if nothing is."""
+    peer = server_of(lines, folder)
+    told = told_by(program, folder, Front(folder, kind, peer.at).at, HOST if kind == "host" else NAME)
+    try:
+        peer.wait()
+    except Different as found:
+        return str(found)
+    finally:
+        peer.close()
+    return None if told == wanted else f"{' '.join(lines)}: {told}"
+
+
+def try_refused(program: Path, folder: Path, at: str, *words: str) -> Optional[str]:
+    """What is the matter where it may not connect; None if nothing is."""
+    told = told_by(program, folder, at, *words)
+    return None if told == (1, "", REFUSED) else f"{' '.join([at, *words])}: {told}"
+
+
+def try_example(program: Path) -> Optional[str]:
+    """What is the matter; None if nothing is."""
+    with tempfile.TemporaryDirectory(prefix="secure-") as room:
+        folder = Path(room)
+        make_certificates(folder)
+        found = [try_server(program, folder, kind, lines, wanted) for kind, lines, wanted in (
+            ("host", GOES_WELL, DONE), ("name", GOES_WELL, DONE), ("host", BREAKS, DONE), ("host", IS_FULL, (1, "", FULL)))]
+        # Nobody takes what comes there, so that a greeting of TLS gets no answer.
+        with socket.create_server((HOST, 0)) as silent:
+            found.append(try_refused(program, folder, f"{HOST}:{silent.getsockname()[1]}"))
+        named = Front(folder, "name", f"{HOST}:1").at
+        found += [try_refused(program, folder, named), try_refused(program, folder, named, NAME, "client.pem")]
+        return next((it for it in found if it), None)
