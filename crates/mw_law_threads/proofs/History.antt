@@ -2,5 +2,7 @@
 pub mod AnswerMomentLaws
 pub mod ArrivalsInRuns
 pub mod HandOuts
+pub mod SameReplies
+pub mod AnswersInOneRunLaws
 pub mod OneHistoryLaws
 pub mod OwnHandOuts

@@ -3,6 +3,7 @@
 //!
 //! No code calls them. A change of a contract here changes a theorem.
 ghost use Rattle.mw_law_threads.specs.History.AnswerMoments.{AnswersHaveMoments, AnswersHaveMomentsInOneRun, AnswersKeepTheOrderOfTime};
+ghost use Rattle.mw_law_threads.specs.History.AnswersInOneRun.{AnswersAreInOneRun, AnswersComeAfterEarlierOnes};
 ghost use Rattle.mw_law_threads.specs.History.OneHistory.{MomentsHaveOneHistory};
 
 use mw_rule::Begins;
@@ -43,4 +44,18 @@ pub fn answers_have_moments<B: Begins>()
     ensures own { AnswersHaveMoments }
     ensures one_run { (key : B) → AnswersHaveMomentsInOneRun (B.config key) (B.begun key) }
     ensures time { (key : B) → AnswersKeepTheOrderOfTime (B.config key) (B.begun key) }
+{}
+
+/// A reply is in the one run behind all passes, whichever session was told it: the session of a worker with a pass of its own, or one
+/// that borrows a pass for each request. It is enough that some thread knows what the pass knew with the reply. The session itself
+/// does so by its note. The premise is that the table was made at a start, as an engine's is.
+///
+/// - `right`: the reply is right at its position among its tenant's sealed changes, and the run handed it out. It was true at a moment
+///   between the arrival of its request and itself, as in [`answers_have_moments`]. If it is VAL, NO or BUSY, no change of its
+///   request is sealed, nor is the change in doubt its own.
+/// - `time`: its request comes after all that had happened in the run when the pass was idle, had learned from the session's note if
+///   one borrowed it, and learned nothing more until the request came.
+pub fn answers_are_in_one_run<B: Begins>()
+    ensures right { (key : B) → AnswersAreInOneRun (B.config key) (B.begun key) }
+    ensures time { (key : B) → AnswersComeAfterEarlierOnes (B.config key) (B.begun key) }
 {}

@@ -11,7 +11,8 @@
 //! - `Durable`: a change that was answered YES is in every file that a crash may leave, and any other is there wholly or not
 //!   at all.
 //! - `Sessions`: the same of sessions that borrow a pass for each request.
-//! - `NextRuns`: one store alone takes what a server did before a start, the start, and what the next server did.
+//! - `NextRuns`: one store alone takes what a server did before a start, the start, and what the next server did, and so on for
+//!   any number of servers.
 //!
 //! Of `Durable` these laws hold on an honest disk:
 //!
@@ -27,6 +28,9 @@
 //! Of sessions: one with `--clients` is told that some pass of the engine gave each reply, and not which one (mw_service). It has
 //! its note, which tells the run that the pass knew. What follows:
 //!
+//! - [`answers_are_in_one_run`]: each reply is in the one run behind all passes, and a refused request makes no change.
+//! - [`replies_are_to_own_requests`]: two replies are to two requests, if two workers served them, or if the later one's pass knew the
+//!   other reply when its request came.
 //! - [`replies_have_moments_in_order`]: each reply but WORN was true at a moment of its own call, and each call comes in the run
 //!   after the reply before it.
 //! - [`sessions_keep_changes`]: whichever passes it borrows later, the change of a YES stays in the tenant's file.
@@ -40,9 +44,8 @@
 //! - That a call's device calls are over when its event comes. The body of `Core::file` of mw_core makes them before.
 //! - The change that a call seals fits the words before it. This is said of the change in doubt between calls (`Whole`), and
 //!   of each sealed change.
-//! - After a crash in a seal: that the next server's run is of the same store alone.
-//! - That two sessions are not told the reply to one request. The lock of a pass doesn't tell which pass it holds.
-//!   `IdlePass::serve` of mw_service says it of each pass.
+//! - That two sessions are not told the reply to one request, if one pass served both at once. A lock lends its pass to one session
+//!   at a time: the library's type says it, and no contract.
 //!
 //! Nothing uses it: its laws are theorems about mw_rule, mw_engine and mw_service.
 //!
@@ -59,8 +62,15 @@ mod whole_laws;
 pub use durable_laws::{
     calls_keep_changes, engines_start_with_changes, every_moment_keeps_changes, starts_find_changes,
 };
-pub use history_laws::{answers_have_moments, every_moment_has_one_history};
+pub use history_laws::{
+    answers_are_in_one_run, answers_have_moments, every_moment_has_one_history,
+};
 pub use moment_laws::replies_have_moments;
-pub use next_run_laws::{crashes_leave_next_runs, next_runs_are_of_one_store, stores_go_on};
-pub use session_laws::{replies_have_moments_in_order, sessions_keep_changes};
+pub use next_run_laws::{
+    crashes_leave_next_runs, next_runs_are_of_one_store, next_tables_are_of_one_store,
+    servers_in_turn_are_of_one_store, stores_go_on,
+};
+pub use session_laws::{
+    replies_are_to_own_requests, replies_have_moments_in_order, sessions_keep_changes,
+};
 pub use whole_laws::{changes_are_whole, refused_requests_make_no_change};

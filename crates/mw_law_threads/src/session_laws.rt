@@ -1,12 +1,29 @@
-//! States when the replies of a session that borrows its passes were true, and which files a crash may leave then. The functions
-//! do nothing; their contracts are the facts.
+//! States of sessions that two replies are to two requests; when the replies of a session that borrows its passes were true; and which
+//! files a crash may leave then. The functions do nothing; their contracts are the facts.
 //!
 //! No code calls them. A change of a contract here changes a theorem.
+ghost use Rattle.mw_law_threads.specs.Sessions.OwnRequests.{BorrowersHaveOwnRequests, RepliesAreToOwnRequests};
 ghost use Rattle.mw_law_threads.specs.Sessions.SessionChanges.{SessionsKeepChanges, SessionsLeaveWhollyOrNot};
 ghost use Rattle.mw_law_threads.specs.Sessions.SessionMoments.{SessionRepliesHaveMomentsInOneRun, SessionsKeepTheOrderOfTime, SessionsKeepTheOrderOfTimeAmongThem};
 
 use mw_disk::Disk;
 use mw_rule::Begins;
+
+/// Replies that sessions are told are to requests of their own, at every moment of the shared words. A session has a worker, with a
+/// pass of its own, or borrows a pass for each request.
+///
+/// - `own`: two replies of one tenant are to two requests if two workers served them, or if the pass that served the later one knew
+///   the other reply when the later request came. Two YES then have two changes. The premise is that, at one moment, some thread knows
+///   what each pass knew with its reply: the pass itself, or a session by its note.
+/// - `borrowed`: the same of two sessions that borrow their passes. A pass knew the other reply if it was lent after it was given back
+///   with that one.
+///
+/// A session is told that some lending of some pass gave its reply, and not which. So no contract says that it is told the reply of its
+/// own lending, nor that a lock lends what was given back.
+pub fn replies_are_to_own_requests<B: Begins>()
+    ensures own { (key : B) → RepliesAreToOwnRequests (B.config key) (B.begun key) }
+    ensures borrowed { (key : B) → BorrowersHaveOwnRequests (B.config key) (B.begun key) }
+{}
 
 /// Whichever passes a session borrows, each reply that it is told, but WORN, was true at a moment of its own call. BUSY and
 /// FAULT had their cause at the tenant's door then.

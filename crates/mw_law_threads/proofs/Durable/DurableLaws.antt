@@ -58,7 +58,7 @@ use Rattle.mw_law_threads.proofs.Durable.Stakes.{doubt_is_asked, doubt_is_pendin
 
 -- Prefixes.
 
-prefix_on : (first between last : List SealedChange) → IsBeginning first between → IsBeginning between last → IsBeginning first last
+pub prefix_on : (first between last : List SealedChange) → IsBeginning first between → IsBeginning between last → IsBeginning first last
 prefix_on first between last one two = record {
   rest = one.rest ++ two.rest;
   parted = two.parted ∙ (ap (λ (all : List SealedChange). all ++ two.rest) one.parted ∙ append_assoc first one.rest two.rest);
@@ -70,7 +70,7 @@ got_append (x ∷ ones) more zero one is = is
 got_append (x ∷ ones) more (suc place) one is = got_append ones more place one is
 
 -- a change that was seen is at the same place among all
-got_on : (first all : List SealedChange) (place : ℕ) (one : SealedChange) → IsBeginning first all → slice_get first place ≡ Some one → slice_get all place ≡ Some one
+pub got_on : (first all : List SealedChange) (place : ℕ) (one : SealedChange) → IsBeginning first all → slice_get first place ≡ Some one → slice_get all place ≡ Some one
 got_on first all place one begins at = ap (λ (ones : List SealedChange). slice_get ones place) begins.parted ∙ got_append first begins.rest place one at
 
 -- What a view that fits a run knows of a tenant's sealed changes.
@@ -124,7 +124,7 @@ sealed_for old new tenant more sealed goes there are =
     }))
 
 -- the tenant of a request that was answered is one of the world's
-tenant_of : (first now : View) (tenant : ℕ) (job : Job) (reply : Reply) → IsAnswered first now tenant job reply → tenant < tenants_of now.config
+pub tenant_of : (first now : View) (tenant : ℕ) (job : Job) (reply : Reply) → IsAnswered first now tenant job reply → tenant < tenants_of now.config
 tenant_of first now tenant job reply answered =
     (each_last (IsFinished now) first.mine (finished_as answered.token tenant job reply answered.answered.place) (subst (Each (IsFinished now)) answered.answered.noted answered.right.mine)).there
 

@@ -58,12 +58,12 @@ begins_with worker tenant job (one ∷ left) right (event ∷ done) more is same
     (later.0, λ i. it i ∷ later.1 i)
 
 -- The request is at its worker, and of its tenant.
-record BeginsIt (next : State) (tenant worker : ℕ) : Type 0 where
-  actor : ActorState
-  sits : (next.worker_states worker).actor ≡ Some actor
-  its : actor.tenant ≡ tenant
+pub record BeginsIt (next : State) (tenant worker : ℕ) : Type 0 where
+  pub actor : ActorState
+  pub sits : (next.worker_states worker).actor ≡ Some actor
+  pub its : actor.tenant ≡ tenant
 
-begins_it : (config : Config) (state next : State) (worker tenant : ℕ) (job : Job) → step config state (Come worker tenant job) ≡ Some next → BeginsIt next tenant worker
+pub begins_it : (config : Config) (state next : State) (worker tenant : ℕ) (job : Job) → step config state (Come worker tenant job) ≡ Some next → BeginsIt next tenant worker
 begins_it config state next worker tenant job comes =
     subst (λ (one : State). BeginsIt one tenant worker) (come_leads config state next worker tenant job comes)
     (record { actor = first_of worker tenant (state.tenant_states tenant).quota config.pool job; sits = ap (λ (one : WorkerState). one.actor) (upd_here state.worker_states worker _); its = refl })

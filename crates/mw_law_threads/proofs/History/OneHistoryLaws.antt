@@ -124,7 +124,7 @@ module _ (config : Config) (begun : (ℕ → TenantStart) → List WorldEvent �
   spent_or_live view spent (inl alive) = let e = spent.flag in cc
   spent_or_live view spent (inr (one, rest, are)) = let e = spent.no_tokens in cc
 
-  fits_live : (id : ℕ) (view : View) → get_elem? s.views id ≡ some view → IsLive view → Fits config rule.past.openings rule.state rule.events view
+  pub fits_live : (id : ℕ) (view : View) → get_elem? s.views id ≡ some view → IsLive view → Fits config rule.past.openings rule.state rule.events view
   fits_live id view at live = elim (rule.fits id view at) [ inl spent ↦ absurd (spent_or_live view spent live) | inr fits ↦ fits ]
 
   pub one_history : IsOneHistory config begun s rule

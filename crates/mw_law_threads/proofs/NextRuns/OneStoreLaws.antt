@@ -1,6 +1,6 @@
 -- Two servers' runs, with a start between them, are of one store alone: the start is a legal mark of the first run's store, and what it
 -- leaves is the second run's first store, with later numbers.
--- Used by: the law next_runs_are_of_one_store. It may change freely as long as this crate checks.
+-- Used by: the law next_runs_are_of_one_store, ServersInTurnLaws. It may change freely as long as this crate checks.
 use Rattle.std.specs.Prelude.{ℕ, ◌≡◌, ◌<◌, ◌≤◌, ◌⊎◌, ◌++◌, not, Bool, true, false, if◌then◌else◌, nat_le, List, [], ◌∷◌, map, Option, Some, None}
 use Rattle.std.proofs.Common.{refl, sym, ap, subst, ◌∙◌, inl, inr, append_assoc}
 use Rattle.std.proofs.lemmas.Bool.{and_from, le-leb}
@@ -70,10 +70,10 @@ module _ (config : Config) (openings : ℕ → TenantStart) (events : List World
       (λ first rest between parted came. let begun = begins first rest between parted came in (facts_of first between begun, runs_are_not_worn config openings first between begun))
       (starts_served config openings tenant is.played.starts low) is.played.runs
 
-  served : IsServed openings state tenant
+  pub served : IsServed openings state tenant
   served = through.served
 
-  legal : run_of_store (store_at (openings tenant)) (marks_of state tenant) ≡ Some served.store
+  pub legal : run_of_store (store_at (openings tenant)) (marks_of state tenant) ≡ Some served.store
   unfolding served
   legal = serving.all_legal events_served restarts_served config openings tenant state through.served.store through.served.legal
 
@@ -81,10 +81,10 @@ module _ (config : Config) (openings : ℕ → TenantStart) (events : List World
   facts = facts_of events state is
 
   -- The start is legal, and leaves the words that it found.
-  record Starts (words : List ℕ) (opened : Bool) (quota : ℕ) : Type 0 where
-    interrupted : Option ℕ
-    take : Bool
-    goes : step_of_store served.store (Restart interrupted take opened quota) ≡ Some (store_after_start served.store words opened quota)
+  pub record Starts (words : List ℕ) (opened : Bool) (quota : ℕ) : Type 0 where
+    pub interrupted : Option ℕ
+    pub take : Bool
+    pub goes : step_of_store served.store (Restart interrupted take opened quota) ≡ Some (store_after_start served.store words opened quota)
 
   module _ (words : List ℕ) (opened : Bool) (quota : ℕ) (fits : is_quota quota ≡ true) (found : IsFoundAfter config state tenant words) where
     abbrev cut : Option ℕ
@@ -128,11 +128,11 @@ module _ (config : Config) (openings : ℕ → TenantStart) (events : List World
         with_mark true (λ e. is_there cut entry rest (sym same_doubt ∙ is_more))
         (after ∙ ap (λ (contents : List ℕ). put contents doubt) same_words ∙ ap (put served.store.words) same_doubt)
 
-    starts_so : Starts words opened quota
+    pub starts_so : Starts words opened quota
     starts_so = by_words doubt refl found.found
 
 -- a quota that a start gives is one that a tenant may have
-quota_fits : (quota : ℕ) → (1 ≤ quota) × (quota ≤ MAX_QUOTA) → is_quota quota ≡ true
+pub quota_fits : (quota : ℕ) → (1 ≤ quota) × (quota ≤ MAX_QUOTA) → is_quota quota ≡ true
 quota_fits quota fits = and_from (nat_le 1 quota) (nat_le quota MAX_QUOTA) (le-leb 1 quota fits.0) (le-leb quota MAX_QUOTA fits.1)
 
 pub next_runs_are_of_one_store : NextRunsAreOfOneStore

@@ -34,7 +34,7 @@ module _ (before first : View) where
   learned_run None learns = tt
   learned_run (Some said) learns = learns.known_run
 
-  own_run : (old : Option Note) → LearnsNote old before first → ExtendsKnownRun before.known_run first.known_run
+  pub own_run : (old : Option Note) → LearnsNote old before first → ExtendsKnownRun before.known_run first.known_run
   own_run None learns = subst (λ (view : View). ExtendsKnownRun before.known_run view.known_run) (sym learns) (stays before.known_run)
   own_run (Some said) learns = learns.keeps.keeps.known_run
 

@@ -1,0 +1,53 @@
+-- Defines that a reply is in the one run that ties the shared words to the model, whichever session was told it: a session of a worker with a
+-- pass (a handle to the engine) of its own, or one that borrows a pass for each request. That a thread knows what the pass knew with the
+-- reply is enough: the pass itself, the session by its note, or a pass that has learned the note.
+-- Used by: the law answers_are_in_one_run (src/history_laws.rt), specs/Sessions/OwnRequests. A change here changes what these laws say.
+use Rattle.std.specs.Prelude.{ℕ, ◌≡◌, List, [], ◌∷◌}
+use mathlib.Core.Option.{some}
+use lib.ListN.{get_elem?}
+use Rattle.atomic_table.specs.Table.{State as Table}
+use Rattle.mw_words.specs.declared.jobs.Job.{Job}
+use Rattle.mw_words.specs.declared.replies.Reply.{Reply}
+use Rattle.mw_actor.specs.ActorState.{ActorState}
+use Rattle.mw_world.specs.declared.config.Config.{Config}
+use Rattle.mw_world.specs.Definition.Events.{WorldEvent}
+use Rattle.mw_world.specs.Definition.State.{State, TenantStart}
+use Rattle.mw_rule.specs.Rule.{Continues, IsLive, TableInvariant}
+use Rattle.mw_rule.specs.Steps.{ExtendsView, finished_as}
+use Rattle.mw_rule.specs.declared.views.View.{View}
+use Rattle.mw_rule.specs.declared.views.WorkerToken.{WorkerToken}
+use Rattle.mw_engine.specs.History.{IsAnswered}
+use Rattle.mw_law_threads.specs.History.AnswerMoments.{ComesAfter, HasMomentInRun}
+use Rattle.mw_law_threads.specs.History.OneHistory.{IsRightInRun}
+use Rattle.mw_law_threads.specs.Whole.Refusals.{MakesNoChange, TellsOfNoChange}
+
+-- At this moment of the table a live thread knows at least this.
+pub record IsKnownAt (s : Table ActorState View) (known : View) : Type 0 where
+  pub id : ℕ
+  pub view : View
+  pub at : get_elem? s.views id ≡ some view
+  pub live : IsLive view
+  pub knows : ExtendsView known view
+
+-- The reply is right in this run, at its place among the tenant's sealed changes, and the run handed it out (`right`). It was true at a moment
+-- between the arrival of its request and itself (`moment`). If it is VAL, NO or BUSY, no change of its request is sealed, and the change
+-- in doubt, if there is one, is another's (`refused`).
+pub record IsInOneRun (config : Config) (openings : ℕ → TenantStart) (before events : List WorldEvent) (state : State) {first now : View} {tenant : ℕ} {job : Job} {reply : Reply} (one : IsAnswered first now tenant job reply) : Type 0 where
+  pub right : IsRightInRun config openings before events state (finished_as one.token tenant job reply one.answered.place)
+  pub moment : HasMomentInRun config openings before events first one.token.worker tenant one.token.request job reply
+  pub refused : TellsOfNoChange reply → MakesNoChange openings state tenant one.token.request
+
+-- The table was made at a start, as an engine's is, and is under the rule. A thread knows what a pass knew with a reply. Then the reply is in
+-- the one run so.
+abbrev pub AnswersAreInOneRun : Config → ((ℕ → TenantStart) → List WorldEvent → Type 0) → Type 0
+AnswersAreInOneRun config begun = (s : Table ActorState View) (tied : TableInvariant config begun s) (first now : View) (tenant : ℕ) (job : Job) (reply : Reply) (one : IsAnswered first now tenant job reply)
+    → tied.past.before ≡ [] → IsKnownAt s now → IsInOneRun config tied.past.openings tied.past.before tied.events tied.state one
+
+-- At a moment of such a table a pass knows `first`: it is idle and, if a session borrowed it, has learned the session's note. Its worker's next
+-- request came when it still knew just that. At a later moment a thread knows what the pass knew with the reply. Then the request comes, in
+-- the one run, after all that had happened at the first moment: so after each reply that any session was told by then.
+abbrev pub AnswersComeAfterEarlierOnes : Config → ((ℕ → TenantStart) → List WorldEvent → Type 0) → Type 0
+AnswersComeAfterEarlierOnes config begun = (s next : Table ActorState View) (tied : TableInvariant config begun s) (more : List WorldEvent) (on : Continues config begun s tied more next) (id : ℕ) (first now : View) (was : WorkerToken)
+    (tenant : ℕ) (job : Job) (reply : Reply) (one : IsAnswered first now tenant job reply) → tied.past.before ≡ []
+    → get_elem? s.views id ≡ some first → first.tokens ≡ was ∷ [] → was.worker ≡ one.token.worker → IsKnownAt next now
+    → ComesAfter config on.after.past.openings on.after.past.before on.after.events tied.events first one.token.worker tenant one.token.request job reply
