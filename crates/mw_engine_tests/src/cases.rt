@@ -1,31 +1,37 @@
 //! Plays cases on an engine: tenants with new files, what its workers do, and the files afterwards.
 //!
-//! Used by: `disks`, `held_tests`, `plain_tests`, `race_tests`, `session_tests`, `socket_tests`, `starts`, other
-//! modules. It may change freely as long as this crate checks and its tests pass.
+//! Used by: all other modules. It may change freely as long as this crate checks and its tests pass.
 ghost use Rattle.std.specs.Prelude.{◌≡◌, ◌≤◌, All, IfSome};
 ghost use Rattle.mw_config.specs.Limits.{ArePermitted};
 ghost use Rattle.mw_words.specs.declared.limits.TheConstants.{MAX_POOL};
 ghost use Rattle.mw_engine.specs.Passes.{IsNew, IsPassOf};
 ghost use Rattle.mw_engine.specs.Parts.{identity_of};
 
-use crate::disks::{have_words, new_disks};
-use crate::latch::{ByLatch, Latch, LatchedDisk, Place};
-use crate::peers::Peer;
-use crate::races::{Race, is_run};
-use crate::rings::{RING, is_closed};
-use crate::starts::{Started, start};
-use crate::talks::{Story, Talk, are_served, are_told, is_played};
-use crate::twins::{answer_alike, leave_the_same_words, new_plain};
-use crate::workers::{LatchedEngine, Worker, workers_of};
+use crate::disks::{are_left, new_disks};
+use crate::latch::{ByLatch, FIRST_SYNC, Latch, LatchedDisk, Stop};
+use crate::plays::is_done;
+use crate::races::Race;
+use crate::starts::start;
+use crate::talks::Talk;
+use crate::twins::new_plain;
+use crate::workers::{LatchedEngine, workers_of};
 use arrayvec::ArrayVec;
 use mw_config::{TenantLine, read_tenants};
 use mw_engine::{EngineBrand, EngineParts, Pass};
 use mw_plain::Plain;
 use mw_words::{MAX_POOL, MAX_TENANTS};
 use std::alloc::Global;
+use std::fs::File;
 use std::marker::Brand;
+use std::net::{Net, TcpListener, TcpStream};
+use std::process::Abort;
+use std::rt::Files;
 use std::sync::Wait;
 use std::thread::Threads;
+use std::time::Clock;
+
+/// What a test says if memory is refused.
+pub(crate) const MEMORY: &str = "memory";
 
 /// Says how a tenant's disk behaves.
 #[derive(Clone, Copy)]
@@ -43,34 +49,46 @@ pub(crate) enum Device {
 }
 
 /// Says what the workers do.
-#[derive(Drop)]
+#[derive(Clone, Copy)]
 pub(crate) enum Play<'c> {
     /// Each has its session, one after the other.
-    Talks(&'c [Talk]),
-    /// The same, with peers that say and take single bytes.
-    Peers(&'c [Peer<'c>]),
-    /// They have their sessions at once, while one of them is held.
-    Story(Story<'c>),
+    Talks(&'c [Talk<'c>]),
+    /// They have their sessions at once, each in a thread of its own, while those that the latch stops are held.
+    Story(&'c [Talk<'c>]),
     /// They count up words at once.
     Race(Race),
     /// Eight workers each change a word and the next one's word, all at once. One word after the other is asked for.
     Ring,
     /// They make requests by turns, all made from this number. The plain store over files of its own must
     /// reply the same, and leave files with the same words.
-    Beside(&'c u64),
+    Beside(u64),
+    /// Two serve clients over sockets.
+    Sockets,
 }
 
 /// Tenants with new files, what the workers of an engine do, and the files that it leaves.
-#[derive(Drop)]
+#[derive(Clone, Copy)]
 pub(crate) struct Case<'c> {
     /// The text of the tenants file.
     pub(crate) tenants: &'c [u8],
     pub(crate) pool: u16,
     pub(crate) devices: &'c [Device],
+    /// Who is stopped meanwhile.
+    pub(crate) stop: Stop,
     pub(crate) play: Play<'c>,
     /// The first words of the tenants' files afterwards. Nobody looks at these if the plain store is asked
     /// too.
     pub(crate) words: &'c [&'c [u64]],
+}
+
+/// A case of a table of tests.
+pub(crate) struct Row {
+    pub(crate) name: &'static str,
+    /// Which of the cases of this name it is.
+    pub(crate) number: u64,
+    /// How many times it is played.
+    pub(crate) times: u8,
+    pub(crate) case: Case<'static>,
 }
 
 impl Case<'_> {
@@ -79,16 +97,8 @@ impl Case<'_> {
         ensures { result ≤ 8 }
     {
         match self.play {
-            Play::Ring => RING,
+            Play::Ring => 8,
             _ => 4,
-        }
-    }
-
-    /// Whether workers gather while a sync is held.
-    fn gathers(&self) -> bool {
-        match &self.play {
-            Play::Story(story) => story.gathers,
-            _ => false,
         }
     }
 }
@@ -105,132 +115,137 @@ pub(crate) fn lines_of(case: &Case<'_>) -> Option<ArrayVec<TenantLine, MAX_TENAN
     read_tenants(case.tenants, case.pool).ok()
 }
 
-/// Gives where the latch of a case is.
-fn latch_of(case: &Case<'_>) -> Latch {
-    match &case.play {
-        Play::Story(story) => Latch::new(story.place),
-        Play::Ring => Latch::new(Place::Sync),
-        _ => Latch::new(Place::Nowhere),
+/// Each of these cases comes out as it says, each time.
+pub(crate) fn come_out<R>(rt: &R, rows: &[Row])
+where
+    R: Abort
+        + AllocGlobal
+        + Files<File = File>
+        + Net<Listener = TcpListener, Stream = TcpStream>
+        + Threads
+        + Wait
+        + Clock
+        + Sync,
+{
+    for row in rows {
+        comes_out(rt, row.name, row.number, row.times, &row.case);
     }
 }
 
-/// Tells whether a case comes out as it says. Gives false also if memory is refused.
-pub(crate) fn is_so<R: Threads + Wait + Sync>(rt: &R, alloc: Global, case: &Case<'_>) -> bool {
-    let latch = latch_of(case);
-    let second = Latch::new(Place::Sync);
-    let gathering = if case.gathers() { Some(&second) } else { None };
-    let Some(disks) = new_disks(alloc, case, gathering.unwrap_or(&latch)) else {
-        return false;
-    };
+/// A case of this name and number comes out as it says, so many times.
+pub(crate) fn comes_out<R>(rt: &R, name: &str, number: u64, times: u8, case: &Case<'_>)
+where
+    R: Abort
+        + AllocGlobal
+        + Files<File = File>
+        + Net<Listener = TcpListener, Stream = TcpStream>
+        + Threads
+        + Wait
+        + Clock
+        + Sync,
+{
+    for _ in 0..times {
+        assert!(rt; is_so(rt, rt.alloc(), case), "{name}, number {number}");
+    }
+}
+
+/// Tells whether a case comes out as it says.
+fn is_so<R>(rt: &R, alloc: Global, case: &Case<'_>) -> bool
+where
+    R: Abort
+        + Files<File = File>
+        + Net<Listener = TcpListener, Stream = TcpStream>
+        + Threads
+        + Wait
+        + Clock
+        + Sync,
+{
+    let latch = Latch::new(case.stop);
+    let second = Latch::new(FIRST_SYNC);
     let hold = ByLatch {
         latch: &latch,
-        gathering,
+        second: &second,
     };
+    let disks = new_disks(alloc, case, hold.of_disks()).expect(rt, MEMORY);
     match start(alloc, case, disks, hold) {
-        Some(Started { parts, passes }) => {
-            is_so_of::<Brand, R>(rt, alloc, parts, passes, case, &latch, &second)
+        Some(started) => {
+            let (parts, passes) = started;
+            is_so_of::<Brand, R>(rt, alloc, parts, passes, case, hold)
         }
         None => false,
     }
 }
 
 /// Tells whether a case comes out as it says on the engine of these parts.
-fn is_so_of<'l, J: EngineBrand + Send + Sync, R: Threads + Wait + Sync>(
+fn is_so_of<'l, J, R>(
     rt: &R,
     alloc: Global,
     parts: EngineParts<LatchedDisk<'l>, ByLatch<'l>>,
     passes: Vec<Pass>,
     case: &Case<'_>,
-    latch: &Latch,
-    second: &Latch,
+    hold: ByLatch<'_>,
 ) -> bool
+where
+    J: EngineBrand + Send + Sync,
+    R: Abort
+        + Files<File = File>
+        + Net<Listener = TcpListener, Stream = TcpStream>
+        + Threads
+        + Wait
+        + Clock
+        + Sync,
     requires same { identity_of parts ≡ J.identity }
     requires passes { All (IsNew J.identity) passes.items }
 {
-    let Ok(engine) = parts.into_engine::<J>(alloc) else {
-        return false;
+    let engine = parts.into_engine::<J>(alloc).expect(rt, MEMORY);
+    let mut plain = new_plain(alloc, case, hold.latch);
+    let (is_done, pass) = done_by_workers(rt, alloc, &engine, passes, case, hold, &mut plain);
+    let is_looked_at = !matches!(case.play, Play::Sockets);
+    let ended = match pass {
+        Some(last) => {
+            let mut last = last;
+            if is_looked_at {
+                engine.into_disks_with(alloc, &mut last)
+            } else {
+                engine.into_disks(alloc)
+            }
+        }
+        None => engine.into_disks(alloc),
     };
-    let mut plain = plain_beside(alloc, case, latch);
-    let Some((is_done, mut pass)) = done_by_workers(
-        rt, alloc, &engine, passes, case, latch, second, &mut plain,
-    ) else {
-        return false;
+    let disks = match ended {
+        Ok(disks) => disks,
+        Err(_) => Vec::new(alloc),
     };
-    match engine.into_disks_with(alloc, &mut pass) {
-        Ok(disks) => is_done && are_left(alloc, disks, case, plain),
-        Err(_) => false,
-    }
+    are_left(alloc, disks, case, plain) && is_done
 }
 
 /// Makes workers of these passes, and has all but the last do what the case says. Gives whether they do, and the pass
-/// of the last one. Gives None if memory is refused.
-fn done_by_workers<J: EngineBrand + Send + Sync, R: Threads + Wait + Sync>(
+/// of the last one.
+fn done_by_workers<J, R>(
     rt: &R,
     alloc: Global,
     engine: &LatchedEngine<'_, J>,
     passes: Vec<Pass>,
     case: &Case<'_>,
-    latch: &Latch,
-    second: &Latch,
+    hold: ByLatch<'_>,
     plain: &mut Option<Plain<LatchedDisk<'_>>>,
-) -> Option<(bool, Pass)>
+) -> (bool, Option<Pass>)
+where
+    J: EngineBrand + Send + Sync,
+    R: Abort
+        + Files<File = File>
+        + Net<Listener = TcpListener, Stream = TcpStream>
+        + Threads
+        + Wait
+        + Clock
+        + Sync,
     requires passes { All (IsNew J.identity) passes.items }
-    ensures own { IfSome result (λ made. IsPassOf J.identity made.1) }
+    ensures own { IfSome result.1 (λ pass. IsPassOf J.identity pass) }
 {
-    let mut workers = workers_of(rt, alloc, engine, passes)?;
-    let pass = workers.pop()?.into_pass();
-    Some((
-        is_done(rt, alloc, workers, case, latch, second, plain),
-        pass,
-    ))
-}
-
-/// Makes the plain store that is asked beside the engine. Gives None if the case has none, or memory is
-/// refused.
-fn plain_beside<'l>(
-    alloc: Global,
-    case: &Case<'_>,
-    latch: &'l Latch,
-) -> Option<Plain<LatchedDisk<'l>>> {
-    match &case.play {
-        Play::Beside(_) => new_plain(alloc, case, latch),
-        _ => None,
-    }
-}
-
-/// Tells whether the files on an engine's disks have the words that they must: those of the plain store's
-/// files, if one was asked beside the engine, else those that the case says.
-fn are_left(
-    alloc: Global,
-    disks: Vec<Option<LatchedDisk<'_>>>,
-    case: &Case<'_>,
-    plain: Option<Plain<LatchedDisk<'_>>>,
-) -> bool {
-    match plain {
-        Some(plain) => leave_the_same_words(alloc, disks, plain),
-        None => have_words(alloc, disks, case),
-    }
-}
-
-/// Tells whether the workers do what the case says.
-fn is_done<J: EngineBrand + Send + Sync, R: Threads + Wait + Sync>(
-    rt: &R,
-    alloc: Global,
-    workers: Vec<Worker<'_, '_, J, R>>,
-    case: &Case<'_>,
-    latch: &Latch,
-    second: &Latch,
-    plain: &mut Option<Plain<LatchedDisk<'_>>>,
-) -> bool {
-    match &case.play {
-        Play::Talks(talks) => are_told(alloc, workers, talks),
-        Play::Peers(peers) => are_served(alloc, workers, peers),
-        Play::Story(story) => is_played(rt, alloc, workers, story, latch, second),
-        Play::Race(race) => is_run(rt, workers, *race),
-        Play::Ring => is_closed(rt, workers, latch),
-        Play::Beside(first) => match plain {
-            Some(plain) => answer_alike(workers, plain, **first),
-            None => false,
-        },
-    }
+    let mut workers = workers_of(rt, alloc, engine, passes);
+    let pass = match workers.pop() {
+        Some(worker) => Some(worker.into_pass()),
+        None => None,
+    };
+    (is_done(rt, alloc, workers, case, hold, plain), pass)
 }

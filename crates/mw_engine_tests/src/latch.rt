@@ -1,12 +1,11 @@
 //! A latch, which stops a worker in the middle of its request until the test lets it go.
 //!
-//! Used by: `cases`, `disks`, `held_tests`, `socket_tests`, `starts`, `talks`, `twins`, other modules. It may
-//! change freely as long as this crate checks and its tests pass.
+//! Used by: most other modules. It may change freely as long as this crate checks and its tests pass.
 ghost use Rattle.mw_disk.specs.Memory.{memory_facts, memory_made};
 
 use mw_disk::{Disk, DiskFault, MemDisk};
 use mw_engine::{Hold, Point};
-use std::sync::atomic::{AtomicBool, AtomicU64, Ordering};
+use std::sync::atomic::{AtomicU64, Ordering};
 use std::thread;
 
 /// How many times a waiting worker looks again: for ten seconds or more, because the machine's host may
@@ -14,7 +13,7 @@ use std::thread;
 const MOST_TURNS: u32 = 30_000_000;
 
 /// Says where a worker comes to the latch.
-#[derive(Clone, Copy, PartialEq, Eq)]
+#[derive(Clone, Copy)]
 pub(crate) enum Place {
     /// Nowhere: nobody is stopped.
     Nowhere,
@@ -30,133 +29,118 @@ pub(crate) enum Place {
     Sync,
 }
 
+/// Says who is stopped.
+#[derive(Clone, Copy)]
+pub(crate) struct Stop {
+    pub(crate) place: Place,
+    /// How many come there before the first one that is stopped.
+    pub(crate) before: u64,
+    /// Whether workers 1 and 2 gather meanwhile with their seals, until a sync of worker 3 is under way. It lasts until
+    /// both go on.
+    pub(crate) gathers: bool,
+}
+
+/// Nobody is stopped.
+pub(crate) const NOBODY: Stop = Stop {
+    place: Place::Nowhere,
+    before: 0,
+    gathers: false,
+};
+
+/// The first sync is stopped, from the moment on at which the latch is set.
+pub(crate) const FIRST_SYNC: Stop = Stop {
+    place: Place::Sync,
+    before: 0,
+    gathers: false,
+};
+
 /// Stops the worker that comes to it as the one of a number, or so many from this one on, until all others have
 /// left or the turns are used up. So a test fails, and ends, if workers wait for one that is stopped.
 #[derive(Drop)]
 pub(crate) struct Latch {
-    /// The place of the latch.
-    place: Place,
+    pub(crate) stop: Stop,
     /// How many come before the first one that is stopped.
     before: AtomicU64,
     /// How many are stopped.
     stops: AtomicU64,
-    came: AtomicU64,
-    has_stopped: AtomicBool,
+    /// How many have come.
+    pub(crate) came: AtomicU64,
+    /// 1 when all that are to be stopped were.
+    pub(crate) has_stopped: AtomicU64,
     /// How many others haven't left.
     others: AtomicU64,
-    is_open: AtomicBool,
-    has_expired: AtomicBool,
+    /// 1 when the last of the others has left.
+    is_open: AtomicU64,
+    /// 1 when one that was stopped went on before that.
+    has_expired: AtomicU64,
     /// How many have gathered.
-    gathered: AtomicU64,
+    pub(crate) gathered: AtomicU64,
 }
 
 impl Latch {
-    /// Makes a latch at a place. It stops nobody until it is set.
-    pub(crate) fn new(place: Place) -> Latch {
+    /// Makes a latch. It stops nobody until it is set.
+    pub(crate) fn new(stop: Stop) -> Latch {
         Latch {
-            place,
+            stop,
             before: AtomicU64::new(u64::MAX),
             stops: AtomicU64::new(1),
             came: AtomicU64::new(0),
-            has_stopped: AtomicBool::new(false),
+            has_stopped: AtomicU64::new(0),
             others: AtomicU64::new(0),
-            is_open: AtomicBool::new(false),
-            has_expired: AtomicBool::new(false),
+            is_open: AtomicU64::new(0),
+            has_expired: AtomicU64::new(0),
             gathered: AtomicU64::new(0),
         }
     }
 
-    /// Sets the latch for so many workers: so many come before the first one that is stopped. It opens when all that
-    /// are not stopped have left.
-    pub(crate) fn set(&self, before: u64, workers: u64) {
+    /// Sets the latch for so many workers. It opens when all that are not stopped have left.
+    pub(crate) fn set(&self, workers: u64) {
         let others = workers.saturating_sub(1);
-        let (stops, others) = match self.place {
+        let (stops, others) = match self.stop.place {
             Place::AllButOne(_) => (others, 1),
             _ => (1, others),
         };
         self.stops.store(stops, Ordering::SeqCst);
         self.others.store(others, Ordering::SeqCst);
         self.came.store(0, Ordering::SeqCst);
-        self.before.store(before, Ordering::SeqCst);
+        self.before.store(self.stop.before, Ordering::SeqCst);
     }
 
-    /// Tells whether the latch stops each worker but worker 1.
-    pub(crate) fn holds_all_but_one(&self) -> bool {
-        matches!(self.place, Place::AllButOne(_))
-    }
-
-    /// Waits until so many have come to the latch. Gives false if they haven't.
-    pub(crate) fn meets(&self, count: u64) -> bool {
-        comes_to(&self.came, count)
-    }
-
-    /// Gathers: one of the others waits until the one that the latch stops has come, and leaves.
-    fn gather(&self) {
-        self.gathered.fetch_add(1, Ordering::SeqCst);
-        self.stops_one();
-        self.leave();
-    }
-
-    /// Waits until so many have gathered. Gives false if they haven't.
-    pub(crate) fn has_gathered(&self, count: u64) -> bool {
-        comes_to(&self.gathered, count)
-    }
-
-    /// Comes to the latch if this is its place.
-    fn meet(&self, place: Place) {
-        if place == self.place {
-            self.pass();
+    /// Comes to the latch, if it is where the worker is.
+    fn pass(&self, is_here: bool) {
+        if !is_here {
+            return;
         }
-    }
-
-    /// Comes to the latch.
-    fn pass(&self) {
         let came = self.came.fetch_add(1, Ordering::SeqCst);
         let stops = self.stops.load(Ordering::SeqCst);
         match came.checked_sub(self.before.load(Ordering::SeqCst)) {
             Some(stopped) if stopped < stops => {
                 if stopped == stops - 1 {
-                    self.has_stopped.store(true, Ordering::SeqCst);
+                    self.has_stopped.store(1, Ordering::SeqCst);
                 }
             }
             _ => return,
         }
-        if !comes_true(&self.is_open) {
-            self.has_expired.store(true, Ordering::SeqCst);
+        if !comes_to(&self.is_open, 1) {
+            self.has_expired.store(1, Ordering::SeqCst);
         }
-    }
-
-    /// Waits until all that are to be stopped were. Gives false if they weren't.
-    pub(crate) fn stops_one(&self) -> bool {
-        comes_true(&self.has_stopped)
     }
 
     /// Records that one of the others leaves. The last one opens the latch.
     pub(crate) fn leave(&self) {
         if self.others.fetch_sub(1, Ordering::SeqCst) == 1 {
-            self.is_open.store(true, Ordering::SeqCst);
+            self.is_open.store(1, Ordering::SeqCst);
         }
     }
 
     /// Tells whether all that are to be stopped were, and went on only when all others had left.
     pub(crate) fn has_held(&self) -> bool {
-        self.has_stopped.load(Ordering::SeqCst) && !self.has_expired.load(Ordering::SeqCst)
+        self.has_stopped.load(Ordering::SeqCst) == 1 && self.has_expired.load(Ordering::SeqCst) == 0
     }
-}
-
-/// Waits until the flag is set. Gives false if the turns are used up before.
-fn comes_true(flag: &AtomicBool) -> bool {
-    for _ in 0..MOST_TURNS {
-        if flag.load(Ordering::SeqCst) {
-            return true;
-        }
-        thread::yield_now();
-    }
-    false
 }
 
 /// Waits until a counter has come to this count. Gives false if the turns are used up before.
-fn comes_to(counter: &AtomicU64, count: u64) -> bool {
+pub(crate) fn comes_to(counter: &AtomicU64, count: u64) -> bool {
     for _ in 0..MOST_TURNS {
         if counter.load(Ordering::SeqCst) >= count {
             return true;
@@ -166,27 +150,38 @@ fn comes_to(counter: &AtomicU64, count: u64) -> bool {
     false
 }
 
-/// Has workers come to a latch at each point of their requests. If there is a second latch, workers 1 and 2 gather
-/// there before they seal.
-#[derive(Drop)]
+/// Has workers come to a latch at each point of their requests. If workers gather, they do so at the second latch.
+#[derive(Clone, Copy)]
 pub(crate) struct ByLatch<'l> {
     pub(crate) latch: &'l Latch,
-    pub(crate) gathering: Option<&'l Latch>,
+    pub(crate) second: &'l Latch,
+}
+
+impl<'l> ByLatch<'l> {
+    /// Gives the latch to which disks come.
+    pub(crate) fn of_disks(self) -> &'l Latch {
+        if self.latch.stop.gathers {
+            self.second
+        } else {
+            self.latch
+        }
+    }
 }
 
 impl Hold for ByLatch<'_> {
     fn at(&self, worker: u8, point: Point) {
-        self.latch.meet(Place::Anyone(point));
-        if worker == 0 {
-            self.latch.meet(Place::At(point));
-        }
-        if worker != 1 {
-            self.latch.meet(Place::AllButOne(point));
-        }
-        if let Some(gathering) = self.gathering {
-            if point == Point::BeforeSeal && (worker == 1 || worker == 2) {
-                gathering.gather();
-            }
+        let is_here = match self.latch.stop.place {
+            Place::At(place) => place == point && worker == 0,
+            Place::Anyone(place) => place == point,
+            Place::AllButOne(place) => place == point && worker != 1,
+            _ => false,
+        };
+        self.latch.pass(is_here);
+        let gathers = self.latch.stop.gathers && (worker == 1 || worker == 2);
+        if gathers && point == Point::BeforeSeal {
+            self.second.gathered.fetch_add(1, Ordering::SeqCst);
+            comes_to(&self.second.has_stopped, 1);
+            self.second.leave();
         }
     }
 }
@@ -208,12 +203,14 @@ impl Disk for LatchedDisk<'_> {
     }
 
     fn write_at(&mut self, at: u64, bytes: &[u8]) -> Result<(), DiskFault> {
-        self.latch.meet(Place::Write);
+        self.latch
+            .pass(matches!(self.latch.stop.place, Place::Write));
         self.disk.write_at(at, bytes)
     }
 
     fn sync(&mut self) -> Result<(), DiskFault> {
-        self.latch.meet(Place::Sync);
+        self.latch
+            .pass(matches!(self.latch.stop.place, Place::Sync));
         self.disk.sync()
     }
 

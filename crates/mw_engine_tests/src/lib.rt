@@ -1,6 +1,8 @@
 //! Tests the engine: whole sessions by one worker, requests of several threads at once, and requests that
 //! are held while others go on. The tests are apart from the crates that they test, so that those are
 //! proved once.
+//!
+//! A test is a table of cases (`cases`) or a sweep, and `cases` plays each.
 #![tactic(auto)]
 
 #[cfg(test)]
@@ -12,11 +14,7 @@ mod held_tests;
 #[cfg(test)]
 mod latch;
 #[cfg(test)]
-mod peers;
-#[cfg(test)]
-mod plain_tests;
-#[cfg(test)]
-mod race_tests;
+mod plays;
 #[cfg(test)]
 mod races;
 #[cfg(test)]
@@ -24,7 +22,7 @@ mod rings;
 #[cfg(test)]
 mod session_tests;
 #[cfg(test)]
-mod socket_tests;
+mod sockets;
 #[cfg(test)]
 mod starts;
 #[cfg(test)]
@@ -33,6 +31,8 @@ mod steps;
 mod sweep_tests;
 #[cfg(test)]
 mod talks;
+#[cfg(test)]
+mod thread_tests;
 #[cfg(test)]
 mod twins;
 #[cfg(test)]

@@ -1,6 +1,6 @@
 //! Starts an engine for a test.
 //!
-//! Used by: `cases`, `socket_tests`, `twins`. It may change freely as long as this crate checks and its tests pass.
+//! Used by: `cases`, `twins`. It may change freely as long as this crate checks and its tests pass.
 ghost use Rattle.std.specs.Prelude.{All, IfSome};
 ghost use Rattle.mw_engine.specs.OpenedFiles.{FitLines, FitsLine};
 ghost use Rattle.mw_engine.specs.Passes.{IsNew};
@@ -17,11 +17,18 @@ use std::alloc::Global;
 /// A tenant's file, and the words that it had when it was opened.
 type Opened<D> = (TenantFile<D>, Vec<u64>);
 
-/// Opens the file on a disk, which it syncs first. Gives None if the file doesn't open, or isn't as the
-/// tenant's line says.
-fn opened<D: Disk + Drop>(alloc: Global, line: &TenantLine, mut disk: D) -> Option<Opened<D>>
+/// Opens the file on the next disk, which it syncs first. Gives None if there is none, or the file doesn't open, or
+/// isn't as the tenant's line says.
+fn opened<D: Disk + Drop>(
+    alloc: Global,
+    line: &TenantLine,
+    next: Option<Option<D>>,
+) -> Option<Opened<D>>
     ensures { FitsLine D.facts line.now result }
 {
+    let Some(Some(mut disk)) = next else {
+        return None;
+    };
     let Ok(()) = disk.sync() else {
         return None;
     };
@@ -31,24 +38,11 @@ fn opened<D: Disk + Drop>(alloc: Global, line: &TenantLine, mut disk: D) -> Opti
             if words.len() == usize::from(line.words) && u16::from(line.quota) <= file.places() {
                 Some((file, words))
             } else {
+                file.into_disk();
                 None
             }
         }
         Err(_) => None,
-    }
-}
-
-/// The same on the next disk, if there is one.
-fn opened_next<D: Disk + Drop>(
-    alloc: Global,
-    line: &TenantLine,
-    next: Option<Option<D>>,
-) -> Option<Opened<D>>
-    ensures { FitsLine D.facts line.now result }
-{
-    match next {
-        Some(Some(disk)) => opened(alloc, line, disk),
-        _ => None,
     }
 }
 
@@ -63,19 +57,12 @@ pub(crate) fn all_opened<D: Disk + Drop>(
     let mut files = Vec::with_capacity(alloc, lines.len()).ok()?;
     let mut disks = disks.into_iter();
     for line in lines {
-        let file = opened_next(alloc, line, disks.next());
+        let file = opened(alloc, line, disks.next());
         let Ok(()) = files.push(file) else {
             return None;
         };
     }
     Some(files)
-}
-
-/// An engine's parts, and the passes of its workers.
-#[derive(Drop)]
-pub(crate) struct Started<'l> {
-    pub(crate) parts: EngineParts<LatchedDisk<'l>, ByLatch<'l>>,
-    pub(crate) passes: Vec<Pass>,
 }
 
 /// Starts an engine of a case's tenants, whose files are on these disks. It has a pass for each of the case's workers,
@@ -85,17 +72,14 @@ pub(crate) fn start<'l>(
     case: &Case<'_>,
     disks: Vec<Option<LatchedDisk<'l>>>,
     hold: ByLatch<'l>,
-) -> Option<Started<'l>>
-    ensures { IfSome result (λ started. All (IsNew (identity_of started.parts)) started.passes.items) }
+) -> Option<(EngineParts<LatchedDisk<'l>, ByLatch<'l>>, Vec<Pass>)>
+    ensures { IfSome result (λ started. All (IsNew (identity_of started.0)) started.1.items) }
 {
     let lines = lines_of(case)?;
     let files = all_opened(alloc, &lines, disks)?;
     let passes = case.workers().saturating_add(1);
     match EngineParts::new(alloc, &lines, files, case.pool, passes, hold) {
-        Ok(made) => {
-            let (parts, passes) = made;
-            Some(Started { parts, passes })
-        }
+        Ok(started) => Some(started),
         Err(_) => None,
     }
 }

@@ -1,18 +1,21 @@
 //! A worker of an engine, with its pass, for tests.
 //!
-//! Used by: `cases`, `races`, `socket_tests`, `steps`, `talks`, `twins`. It may change freely as long as this crate
+//! Used by: `cases`, `plays`, `races`, `rings`, `sockets`, `twins`. It may change freely as long as this crate
 //! checks and its tests pass.
 ghost use Rattle.std.specs.Prelude.{◌≡◌, true, All};
 ghost use Rattle.mw_engine.specs.Passes.{IsNew, IsPassOf};
 
+use crate::cases::MEMORY;
 use crate::latch::{ByLatch, LatchedDisk};
-use crate::peers::Peer;
 use crate::steps::by_steps;
+use crate::talks::Talk;
 use mw_engine::{Engine, EngineBrand, Pass};
 use mw_report::Figures;
 use mw_session::{Duplex, NoOthers, RecordedStream, Service, Session};
+use mw_test_peers::{Failure, Page, Sender};
 use mw_words::{Entries, Entry, Job, Name, Reply};
 use std::alloc::Global;
+use std::process::Abort;
 use std::sync::Wait;
 
 /// An engine whose workers and disks come to a latch.
@@ -24,6 +27,9 @@ pub(crate) struct Worker<'a, 'l, J: EngineBrand, R> {
     engine: &'a LatchedEngine<'l, J>,
     rt: &'a R,
     pass: Pass,
+    /// Whether it could do its part of what the workers do at once, and what it was told.
+    pub(crate) went_well: bool,
+    pub(crate) reply: Option<Reply>,
     ghost own: { IsPassOf J.identity pass },
     ghost idle: { pass.idle ≡ true },
 }
@@ -33,7 +39,13 @@ impl<'a, 'l, J: EngineBrand, R> Worker<'a, 'l, J, R> {
         requires own { IsPassOf J.identity pass }
         requires idle { pass.idle ≡ true }
     {
-        Worker { engine, rt, pass }
+        Worker {
+            engine,
+            rt,
+            pass,
+            went_well: false,
+            reply: None,
+        }
     }
 }
 
@@ -46,34 +58,29 @@ impl<'a, 'l, J: EngineBrand, R: Wait> Worker<'a, 'l, J, R> {
             engine: _,
             rt: _,
             pass,
+            went_well: _,
+            reply: _,
         } = self;
         pass
     }
 
     /// Gives the worker's number in the engine.
-    pub(crate) fn number(&self) -> usize {
-        usize::from(self.pass.worker())
+    pub(crate) fn number(&self) -> u8 {
+        self.pass.worker()
     }
 
     /// Gives the reply to a job of the tenant with this name, and None if there is no such tenant, or it
-    /// may not ask for this.
-    pub(crate) fn ask(&mut self, name: &[u8], job: &Job) -> Option<Reply> {
+    /// may not ask for this. If so asked, each step is made by itself.
+    pub(crate) fn ask(&mut self, name: &[u8], job: &Job, by_itself: bool) -> Option<Reply> {
         let name = Name::try_from(name).unwrap_or_default();
         let (tenant, words) = self.engine.find(&name)?;
         if !job.is_well_formed(usize::from(words)) {
             return None;
+        }
+        if by_itself {
+            return Some(by_steps(self.engine, self.rt, &mut self.pass, tenant, job));
         }
         Some(self.engine.serve(self.rt, &mut self.pass, tenant, job))
-    }
-
-    /// The same, with each step made by itself.
-    pub(crate) fn ask_by_steps(&mut self, name: &[u8], job: &Job) -> Option<Reply> {
-        let name = Name::try_from(name).unwrap_or_default();
-        let (tenant, words) = self.engine.find(&name)?;
-        if !job.is_well_formed(usize::from(words)) {
-            return None;
-        }
-        Some(by_steps(self.engine, self.rt, &mut self.pass, tenant, job))
     }
 
     /// Gives the reply to a read of a word of the tenant with this name. It runs the read's program once,
@@ -95,28 +102,23 @@ impl<'a, 'l, J: EngineBrand, R: Wait> Worker<'a, 'l, J, R> {
         self.engine.meet(&mut self.pass, &mut other.pass);
     }
 
-    /// Runs a session of this worker with a client that says this. Gives what the client is told.
-    pub(crate) fn session(&mut self, alloc: Global, says: &[u8]) -> Vec<u8> {
-        let mut told = Vec::new(alloc);
+    /// Tells whether a session of this worker goes as the talk of its number says, if there is one.
+    pub(crate) fn is_told(&mut self, alloc: Global, talks: &[Talk<'_>]) -> bool {
+        let Some(talk) = talks.get(usize::from(self.number())) else {
+            return true;
+        };
+        let (piece, takes, failure) = match talk.cut {
+            Some(cut) => (1, cut.takes, cut.failure),
+            None => (usize::MAX, usize::MAX, Failure::Nothing),
+        };
+        let mut page = Page::new(piece, takes, failure);
         let mut stream = RecordedStream::new(Duplex {
-            reader: says,
-            writer: &mut told,
-        });
-        let rt = self.rt;
-        Session::run(alloc, rt, &NoOthers, &mut stream, self);
-        told
-    }
-
-    /// Tells whether a session of this worker with this peer goes as it must.
-    pub(crate) fn serves(&mut self, alloc: Global, peer: &Peer<'_>) -> bool {
-        let mut page = peer.page();
-        let mut stream = RecordedStream::new(Duplex {
-            reader: peer.sender(),
+            reader: Sender::new(talk.says, piece, failure),
             writer: &mut page,
         });
         let rt = self.rt;
         let ended = Session::run(alloc, rt, &NoOthers, &mut stream, self);
-        ended == peer.ended && peer.was_told(&page)
+        talk.was_told(&page, ended)
     }
 }
 
@@ -140,29 +142,32 @@ impl<J: EngineBrand, R: Wait> Service for Worker<'_, '_, J, R> {
     }
 }
 
-/// Makes a worker for each pass. Gives None if memory is refused.
-pub(crate) fn workers_of<'a, 'l, J: EngineBrand, R>(
+/// Makes a worker for each pass.
+pub(crate) fn workers_of<'a, 'l, J: EngineBrand, R: Abort>(
     rt: &'a R,
     alloc: Global,
     engine: &'a LatchedEngine<'l, J>,
     passes: Vec<Pass>,
-) -> Option<Vec<Worker<'a, 'l, J, R>>>
+) -> Vec<Worker<'a, 'l, J, R>>
     requires { All (IsNew J.identity) passes.items }
 {
-    let mut workers = Vec::with_capacity(alloc, passes.len()).ok()?;
+    let mut workers = Vec::new(alloc);
     for pass in passes {
-        workers.push(Worker::new(engine, rt, pass)).ok()?;
+        let worker = Worker::new(engine, rt, pass);
+        workers.push(worker).expect(rt, MEMORY);
     }
-    Some(workers)
+    workers
 }
 
-/// Makes a change of one word from one value to another.
-pub(crate) fn change(addr: u16, expected: u64, new: u64) -> Job {
+/// Makes a change of words from one value to another. The addresses rise.
+pub(crate) fn change(addresses: &[u8], expected: u64, new: u64) -> Job {
     let mut entries = Entries::new();
-    entries.push(Entry {
-        addr,
-        expected,
-        new,
-    });
+    for address in addresses {
+        let _ = entries.try_push(Entry {
+            addr: u16::from(*address),
+            expected,
+            new,
+        });
+    }
     Job::Cas(entries)
 }

@@ -11,5 +11,5 @@ loop-line-preserved g c =
     let facts = g.D.Disk.facts in
     let lines = c.args.lines.now in
     let index = c.loop-line.line-index in
-    let more = fit_next facts lines index c.line-item.result c.loop-line.files.items c.opened_next-file.result c.loop-line-test.true (sym c.line-item.is) c.opened_next-file.ensures c.loop-line.invariant in
+    let more = fit_next facts lines index c.line-item.result c.loop-line.files.items c.opened-file.result c.loop-line-test.true (sym c.line-item.is) c.opened-file.ensures c.loop-line.invariant in
     subst (λ files. FitLines facts (take (index + 1) lines) files) (sym c.in-Ok.ensures.items) more

@@ -1,22 +1,16 @@
-//! Tests that one client is served over a socket while another one's request is held.
+//! Serves clients over sockets: one while another one's request is held.
 //!
-//! Nothing else uses it: it may change with what it tests.
-ghost use Rattle.std.specs.Prelude.{◌≡◌, ◌<◌, All, vec_len};
-ghost use Rattle.mw_engine.specs.Passes.{IsNew};
-ghost use Rattle.mw_engine.specs.Parts.{identity_of};
+//! Used by: `plays`. It may change freely as long as this crate checks and its tests pass.
+ghost use Rattle.std.specs.Prelude.{◌<◌, vec_len};
 
-use crate::cases::{Case, Device, Play};
-use crate::disks::{have_words, new_disks};
-use crate::latch::{ByLatch, Latch, LatchedDisk, Place};
-use crate::starts::{Started, start};
-use crate::workers::{Worker, workers_of};
+use crate::latch::{Latch, comes_to};
+use crate::workers::Worker;
 use mw_connections::{TimeLimits, listen_at, port_of};
-use mw_engine::{EngineBrand, EngineParts, Pass, Point};
+use mw_engine::EngineBrand;
 use mw_workers::{ServeEnd, serve_all};
 use std::alloc::Global;
 use std::fs::File;
 use std::io::{self, Read, Write};
-use std::marker::Brand;
 use std::net::{Net, TcpListener, TcpStream};
 use std::rt::Files;
 use std::sync::Wait;
@@ -65,7 +59,7 @@ fn are_told<R: Net<Listener = TcpListener, Stream = TcpStream>>(
     latch: &Latch,
 ) -> io::Result<bool> {
     let held = client(rt, port, HELD)?;
-    let has_stopped = latch.stops_one();
+    let has_stopped = comes_to(&latch.has_stopped, 1);
     let beside = is_told(client(rt, port, BESIDE)?);
     latch.leave();
     Ok(has_stopped && beside && is_told(held) && latch.has_held())
@@ -86,7 +80,7 @@ fn come_and_go<R: Net<Listener = TcpListener, Stream = TcpStream>>(
 }
 
 /// Tells whether two of these workers serve both clients so.
-fn serve_both<J, R>(
+pub(crate) fn are_served<J, R>(
     rt: &R,
     alloc: Global,
     mut workers: Vec<Worker<'_, '_, J, R>>,
@@ -111,7 +105,7 @@ where
     };
     let listener = listen_at(rt, "127.0.0.1:0", 0, limits)?;
     let port = port_of(&listener)?.unwrap_or(0);
-    latch.set(0, 2);
+    latch.set(2);
     let (told, served) = thread::join(
         rt,
         || come_and_go(rt, port, latch),
@@ -120,80 +114,4 @@ where
         { serve_all(rt, alloc, listener, workers, Some(CONNECTIONS), None) },
     );
     Ok(told? && served.0 == ServeEnd::Served)
-}
-
-/// Tells whether all this happens to an engine of these parts.
-fn happens_to<'l, J, R>(
-    rt: &R,
-    alloc: Global,
-    parts: EngineParts<LatchedDisk<'l>, ByLatch<'l>>,
-    passes: Vec<Pass>,
-    case: &Case<'_>,
-    latch: &Latch,
-) -> bool
-where
-    J: EngineBrand + Send + Sync,
-    R: Files<File = File>
-        + Net<Listener = TcpListener, Stream = TcpStream>
-        + Threads
-        + Wait
-        + Clock
-        + Sync,
-    requires same { identity_of parts ≡ J.identity }
-    requires passes { All (IsNew J.identity) passes.items }
-{
-    let Ok(engine) = parts.into_engine::<J>(alloc) else {
-        return false;
-    };
-    let served = match workers_of(rt, alloc, &engine, passes) {
-        Some(workers) => serve_both(rt, alloc, workers, latch).unwrap_or(false),
-        None => false,
-    };
-    match engine.into_disks(alloc) {
-        Ok(disks) => served && have_words(alloc, disks, case),
-        Err(_) => false,
-    }
-}
-
-/// Tells whether all this happens to an engine with new files.
-fn happens<R>(rt: &R, alloc: Global) -> bool
-where
-    R: Files<File = File>
-        + Net<Listener = TcpListener, Stream = TcpStream>
-        + Threads
-        + Wait
-        + Clock
-        + Sync,
-{
-    let case = Case {
-        tenants: b"t 2 2 t.mw\nu 1 1 u.mw\n",
-        pool: 3,
-        devices: &[Device::Sound, Device::Sound],
-        play: Play::Talks(&[]),
-        words: &[&[2, 1], &[0]],
-    };
-    let latch = Latch::new(Place::Anyone(Point::Planted));
-    let Some(disks) = new_disks(alloc, &case, &latch) else {
-        return false;
-    };
-    let hold = ByLatch {
-        latch: &latch,
-        gathering: None,
-    };
-    match start(alloc, &case, disks, hold) {
-        Some(Started { parts, passes }) => {
-            happens_to::<Brand, R>(rt, alloc, parts, passes, &case, &latch)
-        }
-        None => false,
-    }
-}
-
-/// How many times it is tried.
-const TIMES: u8 = 100;
-
-#[test]
-fn held_sockets(rt: HostRuntime) {
-    for time in 0..TIMES {
-        assert!(rt; happens(&rt, rt.alloc()), "time {time}");
-    }
 }
