@@ -29,14 +29,24 @@ fn is_at(states: &[PlaceState], place: Place, stage: Stage) -> bool
 fn writes_at(writes: &[(u16, u64)], addr: u16) -> bool
     ensures { result ≡ holds writes.now addr }
 {
-    writes.iter().any(|write| write.0 == addr)
+    for write in writes {
+        if write.0 == addr {
+            return true;
+        }
+    }
+    false
 }
 
 /// Tells whether these writes share no address with the others.
 fn are_apart(writes: &[(u16, u64)], others: &[(u16, u64)]) -> bool
     ensures { result ≡ spec.are_apart writes.now others.now }
 {
-    writes.iter().all(|write| !writes_at(others, write.0))
+    for write in writes {
+        if writes_at(others, write.0) {
+            return false;
+        }
+    }
+    true
 }
 
 /// Tells whether these writes share no address with this place's change, if that is sealed.
@@ -53,7 +63,12 @@ fn is_apart(writes: &[(u16, u64)], state: &PlaceState) -> bool
 fn apart_from_sealed(writes: &[(u16, u64)], states: &[PlaceState]) -> bool
     ensures { result ≡ list_all (spec.is_apart writes.now) states.now }
 {
-    states.iter().all(|state| is_apart(writes, state))
+    for state in states {
+        if !is_apart(writes, state) {
+            return false;
+        }
+    }
+    true
 }
 
 /// Tells whether the change in this place shares no address with any sealed one.
@@ -97,7 +112,12 @@ fn has_room(words: u16, states: &[PlaceState], change: &NewChange) -> bool
 fn has_room_for(words: u16, states: &[PlaceState], changes: &[NewChange]) -> bool
     ensures { result ≡ list_all (spec.has_room words states.now) changes.now }
 {
-    changes.iter().all(|change| has_room(words, states, change))
+    for change in changes {
+        if !has_room(words, states, change) {
+            return false;
+        }
+    }
+    true
 }
 
 /// Tells whether the place of each change is above the one before it.
