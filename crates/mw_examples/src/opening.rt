@@ -76,7 +76,10 @@ impl Bench {
             Layer::Others => make(&file, call),
             Layer::Watched => make(&WatchedFile::new(file, &self.state, rt, None), call),
             Layer::Counted | Layer::GivenUp => {
-                make(&WatchedFile::new(file, &self.state, rt, Some(&self.counters)), call)
+                make(
+                    &WatchedFile::new(file, &self.state, rt, Some(&self.counters)),
+                    call,
+                )
             }
         };
         made.map_err(number_of)
@@ -175,15 +178,15 @@ fn is_one_call<R: Clock>(rt: &R, layer: Layer, error: i32, call: Call, number: u
     // A call that was interrupted is made again: it is no failure.
     let has_failed = error == DEVICE;
     let kept = if has_failed { DEVICE } else { 0 };
-    let (wanted, calls, last, counted) = match layer {
-        Layer::Counted => (wanted, &[call][..], kept, once(call, u64::from(has_failed))),
-        Layer::GivenUp => (Err(STALE), &[][..], STALE, [(0, 0); 3]),
-        _ => (wanted, &[call][..], kept, [(0, 0); 3]),
+    let (wanted, made, last, counted) = match layer {
+        Layer::Counted => (wanted, 1, kept, once(call, u64::from(has_failed))),
+        Layer::GivenUp => (Err(STALE), 0, STALE, [(0, 0); 3]),
+        _ => (wanted, 1, kept, [(0, 0); 3]),
     };
     if let Layer::GivenUp = layer {
         bench.state.give_up();
     }
-    let ended = bench.make(rt, layer, call) == wanted && bench.file.has_made(calls);
+    let ended = bench.make(rt, layer, call) == wanted && bench.file.has_made(&[call][..made]);
     ended && bench.last() == last && bench.has_counted(counted)
 }
 

@@ -44,6 +44,14 @@ impl Told {
             locks: AtomicU16::new(0),
         }
     }
+
+    /// Learns the ports from what a program has written.
+    fn learn(&self, text: &[u8]) {
+        let text = str::from_utf8(text).unwrap_or("");
+        tell(&self.admin, text, "admin ");
+        tell(&self.http, text, "http ");
+        tell(&self.ready, text, "ready ");
+    }
 }
 
 /// Waits until a number is at least so much, but not for ever, and gives it.
@@ -104,12 +112,8 @@ impl Write for Output<'_> {
         Ok(count)
     }
 
-    /// Tells the ports.
     fn flush(&mut self) -> io::Result<()> {
-        let text = str::from_utf8(&self.text).unwrap_or("");
-        tell(&self.told.admin, text, "admin ");
-        tell(&self.told.http, text, "http ");
-        tell(&self.told.ready, text, "ready ");
+        self.told.learn(&self.text);
         Ok(())
     }
 }

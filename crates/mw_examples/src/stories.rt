@@ -19,14 +19,7 @@ const SYSTEM: &str = "the system";
 #[test]
 fn stories_of_programs(rt: HostRuntime) {
     let faulty = FaultyRuntime::new(&rt);
-    let tables: [&[Story]; 6] = [
-        &FAULTS,
-        &FILES,
-        &LINES,
-        &SESSIONS,
-        &TENANTS_FILES,
-        &TENANTS,
-    ];
+    let tables: [&[Story]; 6] = [&FAULTS, &FILES, &LINES, &SESSIONS, &TENANTS_FILES, &TENANTS];
     for stories in tables {
         let failed = play(&faulty, &rt, stories).expect(&rt, SYSTEM);
         assert!(rt; failed.is_none(), "{failed:?}");

@@ -9,8 +9,8 @@ use crate::serving::{Count, serve_desk_scene};
 use mw_test_peers::{Place, Shelf};
 use mw_workers::{ServeEnd, TURN};
 use std::fs::File;
-use std::io;
 use std::net::{Net, TcpListener, TcpStream};
+use std::process::Abort;
 use std::rt::Files;
 use std::sync::{Mutex, Wait};
 use std::thread::Threads;
@@ -108,7 +108,7 @@ static ROWS: [Row; 5] = [
 
 /// Plays a row. Gives how many of its steps went as they say, and whether serving ended well and a lack of room was told as
 /// often as it must be.
-fn plays<R>(rt: &R, row: &'static Row) -> io::Result<(usize, bool)>
+fn plays<R>(rt: &R, row: &'static Row) -> (usize, bool)
 where
     R: Files<File = File>
         + Net<Listener = TcpListener, Stream = TcpStream>
@@ -116,12 +116,22 @@ where
         + Threads
         + Wait
         + Clock
-        + Sync,
+        + Sync
+        + Abort,
 {
+    let name = row.name;
     let (tally, elsewhere) = (Tally::new(), Tally::new());
     let (watch, shelf) = (Count::new(), Mutex::new(Shelf::new(2)));
-    let (own, closer, port) = open(rt, "127.0.0.1:0", NO_LIMITS, None, row.refusals, &tally)?;
-    let (others, _, other_port) = open(rt, "127.0.0.1:0", NO_LIMITS, None, 0, &elsewhere)?;
+    let (own, closer, port) = open(
+        rt,
+        name,
+        "127.0.0.1:0",
+        NO_LIMITS,
+        None,
+        row.refusals,
+        &tally,
+    );
+    let (others, _, other_port) = open(rt, name, "127.0.0.1:0", NO_LIMITS, None, 0, &elsewhere);
     let site = Site {
         place: Place::Port(port.unwrap_or(0)),
         elsewhere: Place::Port(other_port.unwrap_or(0)),
@@ -139,13 +149,16 @@ where
         &shelf,
         row.steps,
     );
-    Ok((went, end? == ServeEnd::Served && watch.told() == row.told))
+    (
+        went,
+        matches!(end, Ok(ServeEnd::Served)) && watch.told() == row.told,
+    )
 }
 
 #[test]
 fn administrators_take_turns(rt: HostRuntime) {
     for row in &ROWS {
-        let (went, served) = plays(&rt, row).unwrap_or((0, false));
+        let (went, served) = plays(&rt, row);
         holds(&rt, row.name, went, served && went == row.steps.len());
     }
 }

@@ -10,6 +10,7 @@ use mw_metrics::ServerCounters;
 use std::fs::File;
 use std::io::{self, ErrorKind};
 use std::net::{Net, TcpListener, TcpStream};
+use std::process::Abort;
 use std::rt::Files;
 use std::sync::atomic::{AtomicU32, Ordering};
 use std::time::Clock;
@@ -77,26 +78,28 @@ impl<'a, K: Clock + Sync> Listener for Door<'a, K> {
 /// A door, what ends its wait for a client, and its port, if it has one.
 pub type Opened<'a, R> = (Door<'a, R>, Closer, Option<u16>);
 
-/// Opens a door at an address, which has no room for so many calls first. The sessions of its clients end after so many lines
-/// with a fault, if there is a number.
+/// Opens a door at an address for a row of a test, which has no room for so many calls first. The sessions of its clients end
+/// after so many lines with a fault, if there is a number. If the system refuses, the test ends, and names the row.
 pub fn open<'a, R>(
     rt: &'a R,
+    row: &str,
     address: &str,
     limits: TimeLimits,
     faults: Option<u32>,
     refusals: u32,
     tally: &'a Tally,
-) -> io::Result<Opened<'a, R>>
+) -> Opened<'a, R>
 where
-    R: Files<File = File> + Net<Listener = TcpListener, Stream = TcpStream>,
+    R: Files<File = File> + Net<Listener = TcpListener, Stream = TcpStream> + Abort,
 {
-    let clients = listen_at(rt, address, OWNER_AND_GROUP, limits)?.with_faults(faults);
-    let closer = clients.closer()?;
-    let port = port_of(&clients)?;
+    let clients = listen_at(rt, address, OWNER_AND_GROUP, limits).expect(rt, row);
+    let clients = clients.with_faults(faults);
+    let closer = clients.closer().expect(rt, row);
+    let port = port_of(&clients).expect(rt, row);
     let door = Door {
         sockets: MeteredListener::new(clients, &tally.counters),
         refusals,
         tally,
     };
-    Ok((door, closer, port))
+    (door, closer, port)
 }

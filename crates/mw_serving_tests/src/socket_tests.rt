@@ -22,7 +22,7 @@ use std::{env, fs, io, process};
 
 /// Plays a row at this address. Gives how many of its steps went as they say, and whether serving ended well: not if others
 /// may come to the local socket, or somebody else could listen there.
-fn plays<R>(rt: &R, row: &'static Row, address: &str) -> io::Result<(usize, bool)>
+fn plays<R>(rt: &R, row: &'static Row, address: &str) -> (usize, bool)
 where
     R: Files<File = File>
         + Net<Listener = TcpListener, Stream = TcpStream>
@@ -30,20 +30,21 @@ where
         + Threads
         + Wait
         + Clock
-        + Sync,
+        + Sync
+        + Abort,
 {
-    let tally = Tally::new();
-    let (door, _, port) = open(rt, address, row.limits, row.faults, 0, &tally)?;
-    let (place, kept) = match port {
-        Some(port) => (Place::Port(port), true),
-        None => (Place::Path(path_of(address)), is_kept(rt, address)?),
-    };
     let shop = row.shop;
     if shop.workers == 0 {
-        return Ok((0, false));
+        return (0, false);
     }
+    let tally = Tally::new();
+    let (door, _, port) = open(rt, row.name, address, row.limits, row.faults, 0, &tally);
+    let (place, kept) = match port {
+        Some(port) => (Place::Port(port), true),
+        None => (Place::Path(path_of(address)), is_kept(rt, address)),
+    };
     let (went, end) = serve_scene(rt, rt.alloc(), door, shop, place, &tally, row.steps);
-    Ok((went, kept && end? == ServeEnd::Served))
+    (went, kept && matches!(end, Ok(ServeEnd::Served)))
 }
 
 /// Plays these rows at this address. All of their steps go as they say.
@@ -59,7 +60,7 @@ where
         + Abort,
 {
     for row in rows {
-        let (went, served) = plays(rt, row, address).unwrap_or((0, false));
+        let (went, served) = plays(rt, row, address);
         holds(rt, row.name, went, served && went == row.steps.len());
     }
 }
@@ -105,16 +106,15 @@ fn mode_of<R: Files<File = File>>(rt: &R, address: &str) -> io::Result<u32> {
 }
 
 /// Tells whether only its owner and group may connect to the socket at this address, and nobody else can listen there.
-fn is_kept<R>(rt: &R, address: &str) -> io::Result<bool>
+fn is_kept<R>(rt: &R, address: &str) -> bool
 where
     R: Files<File = File> + Net<Listener = TcpListener, Stream = TcpStream>,
 {
-    let mode = mode_of(rt, address)?;
     let taken = match listen_at(rt, address, OWNER_AND_GROUP, NO_LIMITS) {
         Ok(_) => false,
         Err(fault) => fault.kind() == ErrorKind::AddrInUse,
     };
-    Ok(taken && mode == OWNER_AND_GROUP)
+    taken && matches!(mode_of(rt, address), Ok(OWNER_AND_GROUP))
 }
 
 #[test]
