@@ -3,7 +3,6 @@ server is killed (SIGKILL) four times. What each was told as made is compared wi
 
 Used by: scripts/check-clients.
 """
-import random
 import subprocess
 import sys
 import tempfile
@@ -12,7 +11,9 @@ import time
 from pathlib import Path
 from typing import List, Sequence
 
-from .peer import HOST, Different
+from program_parts.served import HOST, Served, kill_often, make_tenants
+
+from .peer import Different
 from .players import Player
 
 PROCESSES = 12
@@ -30,33 +31,6 @@ LONGEST = 300.0
 AFTER = 2.5
 """After so many seconds no line is on its way any more."""
 PROXY = Path(__file__).resolve().parent / "proxy.py"
-
-
-class Server:
-    """mwserve over one tenant, at a port that isn't among those given to clients."""
-
-    def __init__(self, mwinit: Path, mwserve: Path, folder: Path) -> None:
-        self._mwserve, self._folder = mwserve, folder
-        subprocess.run([mwinit, "a.mw", str(WORDS), str(QUOTA)], cwd=folder, stdout=subprocess.DEVNULL, check=True)
-        (folder / "tenants").write_text(f"a {WORDS} {QUOTA} a.mw\n")
-        self.port = random.randrange(20000, 30000)
-        while not self.start():
-            self.port += 2
-
-    def start(self) -> bool:
-        """Whether it listens; it doesn't where another program has the port."""
-        words = [str(self._mwserve), "--tenants", "tenants", "--workers", str(WORKERS), "--listen", f"{HOST}:{self.port}"]
-        self.process = subprocess.Popen(words, cwd=self._folder, stdin=subprocess.DEVNULL, stdout=subprocess.PIPE, stderr=subprocess.DEVNULL)
-        assert self.process.stdout
-        said = self.process.stdout.readline()
-        if not said:
-            self.process.wait()
-        return bool(said)
-
-    def kill(self) -> None:
-        """Kills it."""
-        self.process.kill()
-        self.process.wait()
 
 
 class Adder:
@@ -115,16 +89,6 @@ class Adder:
         self.told += told == "made"
 
 
-def kill_and_start(server: Server) -> None:
-    """Kills the server four times, and starts it again."""
-    for _ in range(KILLS):
-        time.sleep(BETWEEN * random.uniform(0.5, 1.5))
-        server.kill()
-        time.sleep(random.uniform(0, 0.2))
-        while not server.start():
-            time.sleep(0.05)
-
-
 def differences(adders: Sequence[Adder], values: Sequence[int]) -> List[str]:
     """What went wrong."""
     found = [adder.found for adder in adders if adder.found]
@@ -133,12 +97,12 @@ def differences(adders: Sequence[Adder], values: Sequence[int]) -> List[str]:
     return found
 
 
-def run_twelve(words: Sequence[str], server: Server, proxy_port: int) -> str:
+def run_twelve(words: Sequence[str], server: Served, proxy_port: int) -> str:
     """The run. What it did; Different if something was wrong."""
     import mondlexi
     end = time.monotonic() + LONGEST
     adders = [Adder(number, f"{HOST}:{proxy_port}", words, end) for number in range(PROCESSES)]
-    kill_and_start(server)
+    kill_often(server, KILLS, BETWEEN, False)
     for adder in adders:
         adder.thread.join()
     time.sleep(AFTER)
@@ -153,7 +117,8 @@ def run_twelve(words: Sequence[str], server: Server, proxy_port: int) -> str:
 def try_twelve(words: Sequence[str], mwinit: Path, mwserve: Path) -> str:
     """The run of one client's program. What it did; Different if something was wrong."""
     with tempfile.TemporaryDirectory(prefix="clients-") as name:
-        server = Server(mwinit, mwserve, Path(name))
+        make_tenants(mwinit, Path(name), {"a": WORDS}, QUOTA)
+        server = Served(mwserve, Path(name), ("--workers", str(WORKERS)))
         proxy = subprocess.Popen([sys.executable, PROXY, str(server.port + 1), str(server.port)], stdout=subprocess.PIPE, text=True)
         try:
             assert proxy.stdout

@@ -5,16 +5,15 @@ Used by: scripts/check-programs, the other files of this folder.
 """
 import importlib.util
 import os
-import random
 import shutil
-import signal
 import socket
-import subprocess
 import sys
 import threading
 import time
 from pathlib import Path
 from typing import NoReturn
+
+from .served import HOST, Served, make_tenants
 
 TOP = Path(__file__).resolve().parent.parent.parent
 sys.path.insert(0, str(TOP / "clients/python"))
@@ -22,12 +21,10 @@ sys.path.insert(0, str(TOP / "clients/python"))
 PROGRAMS = ("mwinit", "mwserve", "mwshow", "mwreplay", "mwbench")
 BUILT = {name: TOP / "crates" / name / "out" / name for name in PROGRAMS}
 MWINIT, MWSERVE, MWBENCH = (BUILT[name] for name in ("mwinit", "mwserve", "mwbench"))
-HOST = "127.0.0.1"
 QUOTA = 5
 WORDS = 26
 PATIENCE = 60
 """For how many seconds what has to come is waited for. What needs longer hangs."""
-HOLD_UP = 0.5
 
 
 def wrong(text: str) -> NoReturn:
@@ -78,46 +75,14 @@ def at(port):
     return f"{HOST}:{port}"
 
 
-class Server:
+class Server(Served):
     """mwserve over the tenants of a folder: at a local socket, or at a port that isn't among those given to clients."""
 
     def __init__(self, folder, tenants, local):
-        self.folder, self.local = folder, local
-        lines = ""
-        for name, words in tenants.items():
-            made = subprocess.run([MWINIT, f"{name}.mw", str(words), str(QUOTA)], cwd=folder, stdout=subprocess.PIPE, check=True)
-            same(made.stdout.decode(), f"made {32 + 8 * words + 136 * QUOTA}\n", "mwinit")
+        make_tenants(MWINIT, folder, tenants, QUOTA, "away 2 1 away.mw\n")
+        for name in tenants:
             same((folder / f"{name}.mw").stat().st_mode & 0o777, 0o600, "the mode of a new file")
-            lines += f"{name} {words} {QUOTA} {name}.mw\n"
-        (folder / "tenants").write_text(lines + "away 2 1 away.mw\n")
-        if local:
-            self.at = self.ready = f"unix:{folder / 'socket'}"
-            same(self.start(), True, "a server at a local socket")
-            return
-        self.ready = random.randrange(20000, 30000)
-        self.at = at(self.ready)
-        while not self.start():
-            self.ready += 1
-            self.at = at(self.ready)
-
-    def start(self):
-        """Whether it listens; it doesn't where another program has the port."""
-        self.process = subprocess.Popen([MWSERVE, "--tenants", "tenants", "--workers", "32", "--listen", self.at], cwd=self.folder,
-                                        stdin=subprocess.DEVNULL, stdout=subprocess.PIPE, stderr=subprocess.DEVNULL)
-        said = self.process.stdout.readline().decode()
-        if said != f"ready {self.ready}\n":
-            self.process.wait()
-        return bool(said)
-
-    def hold_up(self):
-        self.process.send_signal(signal.SIGSTOP)
-        time.sleep(HOLD_UP)
-        self.process.send_signal(signal.SIGCONT)
-
-    def kill(self):
-        self.process.kill()
-        self.process.wait()
-        self.process.stdout.close()
+        super().__init__(MWSERVE, folder, ("--workers", "32"), local)
 
 
 class Peer:

@@ -10,6 +10,7 @@ import random
 import time
 
 from .common import same, wrong
+from .served import kill_often
 
 import mondlexi  # noqa: E402
 from mondlexi._session import TenantSession  # noqa: E402
@@ -123,14 +124,7 @@ def run_eight(server, work, folder):
     processes = [context.Process(target=work, args=(k, server.at, stop, done, folder), daemon=True) for k in range(PROCESSES)]
     for process in processes:
         process.start()
-    for _ in range(KILLS):
-        time.sleep(BETWEEN * random.uniform(0.5, 1.5))
-        server.kill()
-        time.sleep(random.uniform(0, 0.2))
-        while not server.start():
-            time.sleep(0.05)
-        time.sleep(BETWEEN * random.uniform(0.5, 1.5))
-        server.hold_up()
+    kill_often(server, KILLS, BETWEEN, True)
     end = time.monotonic() + LONGEST
     time.sleep(BETWEEN)
     while done.value < ENOUGH and time.monotonic() < end:

@@ -6,14 +6,13 @@ import json
 import multiprocessing
 import os
 import random
-import signal
-import subprocess
 import time
 import traceback
 from pathlib import Path
 from typing import Any, Callable, Dict, List, NamedTuple, Optional
 
 from program_parts.common import BUILT
+from program_parts.served import Served, make_tenants
 
 import mondlexi
 
@@ -83,43 +82,6 @@ class Life:
         os._exit(0)
 
 
-class Server:
-    """mwserve over one tenant of words that are all 0."""
-
-    def __init__(self, folder: Path, clients: int) -> None:
-        self.folder, self.clients = folder, clients
-        subprocess.run([BUILT["mwinit"], "a.mw", str(WORDS), str(QUOTA)], cwd=folder, stdout=subprocess.DEVNULL, check=True)
-        (folder / "tenants").write_text(f"{TENANT} {WORDS} {QUOTA} a.mw\n")
-        self.port = random.randrange(20000, 30000, 2)
-        while not self.start():
-            self.port += 2
-
-    def start(self) -> bool:
-        """Whether it listens; it doesn't if another program has the port."""
-        self.process = subprocess.Popen(
-            [BUILT["mwserve"], "--tenants", "tenants", "--listen", f"{HOST}:{self.port}", "--workers", "16",
-             "--clients", str(self.clients)],
-            cwd=self.folder, stdin=subprocess.DEVNULL, stdout=subprocess.PIPE, stderr=subprocess.DEVNULL)
-        assert self.process.stdout
-        is_ready = self.process.stdout.readline().startswith(b"ready")
-        if not is_ready:
-            self.process.wait()
-        return is_ready
-
-    def kill(self) -> None:
-        """Ends it by SIGKILL."""
-        self.process.kill()
-        self.process.wait()
-        assert self.process.stdout
-        self.process.stdout.close()
-
-    def restart(self) -> None:
-        """Kills it, and starts it again."""
-        self.kill()
-        while not self.start():
-            time.sleep(0.05)
-
-
 class Run:
     """A run of one recipe."""
 
@@ -128,7 +90,8 @@ class Run:
         """`lacks`: what is too little in what was told. `spoil`: what makes the recipe wrong, in each process."""
         self.folder, self.size, self.work, self.lacks, self.spoil = folder, size, work, lacks, spoil
         (folder / "logs").mkdir(parents=True)
-        self.server = Server(folder, 2 * size.processes + 40)
+        make_tenants(BUILT["mwinit"], folder, {TENANT: WORDS}, QUOTA)
+        self.server = Served(BUILT["mwserve"], folder, ("--workers", "16", "--clients", str(2 * size.processes + 40)))
         self.network = FORK.Process(target=run_network, args=(self.server.port + 1, self.server.port))
         self.stop = FORK.Event()
         self.lives = [0] * size.processes
