@@ -12,7 +12,7 @@ from typing import Callable, List, NamedTuple, Sequence
 
 from package_parts import clients as packed
 
-from .secure import try_example
+from .examples import try_locks, try_secure
 
 TOP = Path(__file__).resolve().parent.parent.parent
 PLAY = Path(__file__).resolve().parent / "play.py"
@@ -119,14 +119,16 @@ def check_page(page: Path) -> None:
             raise NotBuilt(told)
 
 
-def try_secure(compiler: str, folder: Path) -> None:
-    """Builds the example over OpenSSL, where that is installed, and tries it."""
-    if not shutil.which("openssl") or not Path("/usr/include/openssl/ssl.h").is_file():
-        return
-    ran("make", f"CC={compiler}", f"OUT={folder}/out", f"{folder}/out/over_openssl", at=C)
-    found = try_example(folder / "out/over_openssl")
-    if found:
-        raise NotBuilt(f"over_openssl: {found}")
+def try_examples(compiler: str, folder: Path) -> None:
+    """Builds the examples and tries them: a lock, and, where OpenSSL is installed, TLS."""
+    examples = {"lock_table": try_locks}
+    if shutil.which("openssl") and Path("/usr/include/openssl/ssl.h").is_file():
+        examples["over_openssl"] = try_secure
+    for name, tries in examples.items():
+        ran("make", f"CC={compiler}", f"OUT={folder}/out", f"{folder}/out/{name}", at=C)
+        found = tries(folder / "out" / name)
+        if found:
+            raise NotBuilt(f"{name}: {found}")
 
 
 def of_c(folder: Path) -> List[Program]:
@@ -135,7 +137,7 @@ def of_c(folder: Path) -> List[Program]:
     for compiler in compilers():
         ran("make", f"CC={compiler}", f"OUT={folder}/{compiler}/out", "all", f"{folder}/{compiler}/out/play", at=C)
         install_c(compiler, folder / compiler)
-        try_secure(compiler, folder / compiler)
+        try_examples(compiler, folder / compiler)
         programs.append(Program(f"c by {compiler}", [f"{folder}/{compiler}/out/play"]))
     check_page(C / "mondlexi.3")
     try_package(folder / "package")

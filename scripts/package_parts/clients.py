@@ -16,7 +16,7 @@ TOP = Path(__file__).resolve().parent.parent.parent
 SOURCES = ("c", "rust", "go", "node", "java", "cases")
 LEFT_OUT = {"out", "target", "Cargo.lock", "node_modules"}
 """What builds leave."""
-DOCUMENTS = ("README.md", "over_openssl.c")
+DOCUMENTS = ("README.md", "lock_table.c", "over_openssl.c")
 """Of the client in C, in libmondlexi-dev."""
 LIBRARIES = "/usr/lib/x86_64-linux-gnu"
 CONTROL = """Package: libmondlexi-dev

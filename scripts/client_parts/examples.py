@@ -1,4 +1,5 @@
-"""The example of libmondlexi over OpenSSL, at a front that speaks TLS. `openssl` makes the certificates.
+"""The examples of libmondlexi: a lock, at a server that loses replies; and a client over OpenSSL, at a front that speaks TLS, for which
+`openssl` makes the certificates.
 
 Used by: builds.py.
 """
@@ -20,12 +21,27 @@ DONE = (0, "6\n", "")
 REFUSED = "there is no connection"
 FULL = "the server closed the connection before any reply"
 LONGEST = 30
+LOOK = ("sent GET 6", "sent GET 7", "sent GET 6", "sent GET 7")
+OWN = 3 << 32 | 1000
+"""The holder's word of owner 3, with the example's lease."""
+FREE = (*LOOK, r"says VAL 4\nVAL 0\nVAL 4\nVAL 0\n", f"sent CAS 6:4:5 7:0:{OWN}")
+RELEASED = (f"sent CAS 6:5:5 7:{OWN}:0", r"says YES\n", "sent QUIT", r"says BYE\n", "ends")
+LOST = (*FREE, "shuts", "again", f"sent CAS 6:4:5 7:0:{OWN}", r"says NO 6 5\n", "sent GET 6", r"says VAL 5\n", "sent GET 7")
+LOCKS = {
+    "a free lock": ("again", *FREE, r"says YES\n", *RELEASED),
+    "a lock whose reply was lost": ("again", *LOST, rf"says VAL {OWN}\n", *RELEASED),
+    "a lock that another has taken": ("again", *LOST, r"says VAL 9\n", *LOOK, r"says VAL 4\nVAL 0\nVAL 4\nVAL 0\n",
+                                      f"sent CAS 6:4:5 7:0:{OWN}", r"says YES\n", *RELEASED),
+    "a lock whose lease is over": ("again", *LOOK, r"says VAL 4\nVAL 65536\nVAL 4\nVAL 65536\n", *LOOK, r"says VAL 4\nVAL 65536\nVAL 4\nVAL 65536\n",
+                                   f"sent CAS 6:4:5 7:65536:{OWN}", r"says YES\n", *RELEASED),
+}
+"""What the server of a lock hears and says."""
 
 
 def server_of(lines: Sequence[str], folder: Path) -> Peer:
     """A server that plays these steps."""
     steps: List[Step] = [step for line in lines for step in steps_of(line, line)]
-    return Peer(Case("over TLS", [], steps), folder)
+    return Peer(Case("of an example", [], steps), folder)
 
 
 def told_by(program: Path, folder: Path, at: str, name: str = HOST, authority: str = "authority.pem") -> Tuple[int, str, str]:
@@ -48,13 +64,34 @@ def try_server(program: Path, folder: Path, kind: str, lines: Sequence[str], wan
     return None if told == wanted else f"{' '.join(lines)}: {told}"
 
 
+def try_lock(program: Path, folder: Path, what: str) -> Optional[str]:
+    """What is the matter with the example that takes a lock; None if nothing is."""
+    peer = server_of(LOCKS[what], folder)
+    words = [str(program), peer.at, "3", "3"]
+    ended = subprocess.run(words, stdin=subprocess.DEVNULL, capture_output=True, text=True, timeout=LONGEST)
+    try:
+        peer.wait()
+    except Different as found:
+        return f"{what}: {found}"
+    finally:
+        peer.close()
+    return None if (ended.returncode, ended.stdout) == (0, "5\n") else f"{what}: {ended}"
+
+
+def try_locks(program: Path) -> Optional[str]:
+    """What is the matter; None if nothing is."""
+    with tempfile.TemporaryDirectory(prefix="locks-") as room:
+        found = [try_lock(program, Path(room), what) for what in LOCKS]
+        return next((it for it in found if it), None)
+
+
 def try_refused(program: Path, folder: Path, at: str, *words: str) -> Optional[str]:
     """What is the matter where it may not connect; None if nothing is."""
     told = told_by(program, folder, at, *words)
     return None if told == (1, "", REFUSED) else f"{' '.join([at, *words])}: {told}"
 
 
-def try_example(program: Path) -> Optional[str]:
+def try_secure(program: Path) -> Optional[str]:
     """What is the matter; None if nothing is."""
     with tempfile.TemporaryDirectory(prefix="secure-") as room:
         folder = Path(room)

@@ -1,0 +1,135 @@
+/* A table of locks with leases, in the words that docs/RECIPES.md gives them: lock k has the words 2k, its token, and 2k + 1, its
+   holder. Takes a lock of the tenant t, holds it, and releases it.
+
+       lock_table SERVER OWNER LOCK
+
+   OWNER: 1 to 65535; no two processes that run have the same. It waits for the lock for a minute, takes it for ten seconds, prints its
+   token, and releases it once its input has ended. Used by: whoever wants to copy it; scripts/check-clients. Status 0 if it had the
+   lock. */
+#define _POSIX_C_SOURCE 200809L
+#include <inttypes.h>
+#include <mondlexi.h>
+#include <stdio.h>
+#include <stdlib.h>
+#include <string.h>
+#include <time.h>
+
+enum { LEASE = 10000, WAIT = 60000, WITHIN = 30000, UNIT = 10 }; /* milliseconds */
+
+/* Its owner has it as long as the clock is below `until`. What the lock guards gets the token, and refuses one that is lower than the
+   greatest it has seen. */
+typedef struct {
+    unsigned lock;
+    uint64_t token, word;
+    int64_t until;
+} grant;
+
+static int64_t now(void) {
+    struct timespec time;
+    clock_gettime(CLOCK_MONOTONIC, &time);
+    return (int64_t)time.tv_sec * 1000 + time.tv_nsec / 1000000;
+}
+
+/* Whether the words have the new values: OK, or NO; UNKNOWN if they can't be read. */
+static mondlexi_status has_new_values(mondlexi_client *client, const mondlexi_entry *entries, size_t count) {
+    for (size_t k = 0; k < count; k++) {
+        uint64_t value;
+        if (mondlexi_get(client, entries[k].address, &value)) {
+            return MONDLEXI_UNKNOWN;
+        }
+        if (value != entries[k].value) {
+            return MONDLEXI_NO;
+        }
+    }
+    return MONDLEXI_OK;
+}
+
+/* Sends a change until it is answered, and tells whether it was made: OK or NO; UNKNOWN if it may have been made or will still be. It is
+   made once at most, because its words never have their old values again. Nobody else can have written all its new values. */
+static mondlexi_status resent(mondlexi_client *client, const mondlexi_entry *entries, size_t count) {
+    int may_be_made = 0;
+    for (;;) {
+        mondlexi_status status = mondlexi_cas(client, entries, count, NULL);
+        if (status == MONDLEXI_NO && may_be_made) {
+            return has_new_values(client, entries, count);
+        }
+        if (status != MONDLEXI_UNKNOWN && status != MONDLEXI_LOST) {
+            return status && may_be_made ? MONDLEXI_UNKNOWN : status;
+        }
+        may_be_made |= status == MONDLEXI_UNKNOWN;
+        if (mondlexi_reconnect(client, WITHIN)) {
+            return may_be_made ? MONDLEXI_UNKNOWN : status;
+        }
+    }
+}
+
+/* Takes a lock that had these words since `since` at least. OK; NO if another was quicker. */
+static mondlexi_status take(mondlexi_client *client, unsigned owner, const uint64_t state[2], int64_t since, grant *made) {
+    made->token = state[0] + 1;
+    made->word = (uint64_t)owner << 32 | LEASE / UNIT;
+    made->until = since + LEASE;
+    mondlexi_entry entries[] = {{2 * made->lock, state[0], made->token}, {2 * made->lock + 1, state[1], made->word}};
+    return resent(client, entries, 2);
+}
+
+/* Takes a lock once its holder is 0, or once this process has itself seen the same two words for 1.01 times the lease. OK; NO if it was
+   held all the time. */
+static mondlexi_status acquire(mondlexi_client *client, unsigned owner, unsigned lock, grant *made) {
+    const unsigned addresses[] = {2 * lock, 2 * lock + 1};
+    uint64_t seen[2] = {UINT64_MAX, UINT64_MAX}, state[2];
+    int64_t end = now() + WAIT, since = 0;
+    mondlexi_status status = MONDLEXI_NO;
+    made->lock = lock;
+    while (status == MONDLEXI_NO && now() < end) {
+        int64_t asked = now(), lease;
+        status = mondlexi_stable(client, addresses, 2, state);
+        if (status) {
+            return status;
+        }
+        if (memcmp(seen, state, sizeof seen)) {
+            memcpy(seen, state, sizeof seen);
+            since = now();
+        }
+        lease = (int64_t)(state[1] & 0xffff) * UNIT;
+        status = state[1] && asked - since < lease + lease / 100 + 1 ? MONDLEXI_NO : take(client, owner, state, asked, made);
+        if (status == MONDLEXI_NO) {
+            nanosleep(&(struct timespec){0, (8 + rand() % 56) * 1000000L}, NULL);
+        }
+    }
+    return status;
+}
+
+/* Gives a lock back. OK; NO if its lease was over and another has it. */
+static mondlexi_status release(mondlexi_client *client, const grant *held) {
+    mondlexi_entry entries[] = {{2 * held->lock, held->token, held->token}, {2 * held->lock + 1, held->word, 0}};
+    return resent(client, entries, 2);
+}
+
+int main(int count, char **words) {
+    if (count != 4) {
+        fprintf(stderr, "usage: lock_table SERVER OWNER LOCK\n");
+        return 2;
+    }
+    mondlexi_options options = MONDLEXI_DEFAULTS;
+    options.within = WITHIN;
+    mondlexi_client *client;
+    grant held;
+    unsigned owner = (unsigned)atoi(words[2]);
+    mondlexi_status status = mondlexi_connect(&client, words[1], "t", &options);
+    srand(owner);
+    if (!status) {
+        status = acquire(client, owner, (unsigned)atoi(words[3]), &held);
+    }
+    if (!status) {
+        printf("%" PRIu64 "\n", held.token);
+        fflush(stdout);
+        while (getchar() != EOF) {
+        }
+        status = release(client, &held);
+    }
+    if (status) {
+        fprintf(stderr, "lock_table: %s: %s\n", mondlexi_meaning(status), client ? mondlexi_text(client) : "");
+    }
+    mondlexi_free(client);
+    return status ? 1 : 0;
+}
