@@ -18,7 +18,8 @@ TOP = Path(__file__).resolve().parent.parent.parent
 PLAY = Path(__file__).resolve().parent / "play.py"
 VERSION = TOP / "crates/mw_main/src/lib.rt"
 C, RUST, GO, NODE, JAVA = (TOP / "clients" / name for name in ("c", "rust", "go", "node", "java"))
-VALGRIND = ("valgrind", "-q", "--leak-check=full", "--show-leak-kinds=all", "--errors-for-leak-kinds=all", "--error-exitcode=99")
+VALGRIND = ("valgrind", "-q", "--leak-check=full", "--show-leak-kinds=all", "--errors-for-leak-kinds=all", "--error-exitcode=99",
+            f"--suppressions={Path(__file__).resolve().parent}/loader.supp")
 
 
 class NotBuilt(Exception):

@@ -14,7 +14,8 @@ class Player:
     """A client's program that runs."""
 
     def __init__(self, words: Sequence[str]) -> None:
-        self._process = subprocess.Popen(words, stdin=subprocess.PIPE, stdout=subprocess.PIPE, text=True, bufsize=1)
+        self._process = subprocess.Popen(words, stdin=subprocess.PIPE, stdout=subprocess.PIPE, text=True, bufsize=1,
+                                         errors="replace")
 
     def ask(self, line: str) -> str:
         """What it tells of a call; nothing if it has ended, or was ended because it told nothing for too long."""
