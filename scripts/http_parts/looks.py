@@ -1,8 +1,12 @@
-"""How the status page looks: in headless Chromium, and in a terminal."""
+"""How the status page looks: in headless Chromium, wide and narrow, with its script, and in a terminal."""
+import contextlib
 import shutil
 import struct
 import subprocess
+import threading
+import time
 import zlib
+from http.server import BaseHTTPRequestHandler, ThreadingHTTPServer
 from pathlib import Path
 from typing import Iterator, List, Tuple
 
@@ -10,37 +14,106 @@ from .server import PATIENCE, Server, Wrong, get
 
 Colour = Tuple[int, int, int]
 BROWSER = "chromium"
-SIZE = (1000, 520)
+WIDE, NARROW = (1000, 1000), (500, 1600)
+EDGE = 8
+"""So many columns of pixels at the right are free, if the page is not too wide."""
+LOOKS = 12
+"""For how many seconds a browser looks: the script asks every five."""
+HOLD = b'<img src="wait" alt="">'
+"""What lets a browser wait with its picture until this has come."""
+MANY = 1_000_000
 
 
 def looked_at(server: Server, picture: Path) -> str:
-    """Looks at the status page, kept as a file, by the browsers that are there; keeps a picture. What was tried."""
-    page = picture.with_suffix(".html")
-    page.write_bytes(get(server.pages, "/").body)
+    """Looks at the status page by the browsers that are there; keeps a picture. What was tried."""
     tried = []
     if shutil.which("w3m"):
+        page = picture.with_suffix(".html")
+        page.write_bytes(get(server.pages, "/").body)
         text = subprocess.run(["w3m", "-dump", "-T", "text/html", page], stdout=subprocess.PIPE, text=True, check=True, timeout=PATIENCE).stdout
         for part in ("All tenants are up.", "The last quarter of an hour", "Changes a second", "(most "):
             if part not in text:
                 raise Wrong(f"the status page in a terminal has no {part!r}: {text}")
+        page.unlink()
         tried.append("a terminal")
     if shutil.which(BROWSER):
-        take(page, picture)
-        if sum(blue - red > 40 for red, _, blue in colours(picture)) < 20:
-            raise Wrong("the status page in a browser shows no curve, which is blue")
+        in_browser(server, picture)
         tried.append("a browser")
-    page.unlink()
     return f"the status page looked at in {' and '.join(tried) or 'nothing: neither w3m nor chromium is there'}"
 
 
-def take(page: Path, picture: Path) -> None:
-    """A picture of a page that is a file."""
-    words = [BROWSER, "--headless", "--no-sandbox", "--disable-gpu", "--hide-scrollbars", f"--user-data-dir={picture.parent / 'browser'}",
-             f"--window-size={SIZE[0]},{SIZE[1]}", f"--screenshot={picture}", f"file://{page}"]
-    ran = subprocess.run(words, stdout=subprocess.PIPE, stderr=subprocess.STDOUT, text=True, timeout=4 * PATIENCE)
-    shutil.rmtree(picture.parent / "browser", ignore_errors=True)
-    if ran.returncode or not picture.exists():
-        raise Wrong(f"{BROWSER}: {ran.stdout[-500:]}")
+def in_browser(server: Server, picture: Path) -> None:
+    """What the browser shows, wide, narrow, and of a server that answers no more."""
+    narrow = picture.with_name("narrow.png")
+    with at_port(server, MANY) as place:
+        take(place, picture, WIDE)
+        take(place, narrow, NARROW)
+        page = browsed(place, picture.parent, "--dump-dom")
+    for part in ("<h2>Who is slow</h2>", "No tenant is slow.", "<td>a</td>", "All tenants are up.", "<meter "):
+        if part not in page:
+            raise Wrong(f"the status page in a browser has no {part!r}: {page}")
+    if sum(blue - red > 40 for red, _, blue in colours(picture)) < 20:
+        raise Wrong("the status page in a browser shows no curve, which is blue")
+    edge = [colour for number, colour in enumerate(colours(narrow)) if number % NARROW[0] >= NARROW[0] - EDGE]
+    if set(edge) != {(255, 255, 255)}:
+        raise Wrong(f"the status page is wider than {NARROW[0]} pixels")
+    narrow.unlink()
+    with at_port(server, 5) as place:
+        page = browsed(place, picture.parent, "--dump-dom")
+    if "No answer from the server since" not in page:
+        raise Wrong(f"the status page of a server that answers no more: {page}")
+
+
+@contextlib.contextmanager
+def at_port(server: Server, answers: int) -> Iterator[str]:
+    """The pages of a server, which are at a local socket, at a port: so many answers, and then none. A browser takes its picture late."""
+    left = [answers]
+
+    class Handler(BaseHTTPRequestHandler):
+        """Asks the server."""
+
+        def do_GET(self) -> None:
+            """One request."""
+            if self.path == "/wait":
+                time.sleep(LOOKS)
+                return
+            left[0] -= 1
+            if left[0] < 0:
+                return
+            answer = get(server.pages, self.path)
+            self.send_response(answer.status)
+            self.send_header("Content-Type", answer.fields.get("Content-Type", "text/plain"))
+            self.end_headers()
+            self.wfile.write(answer.body.replace(b"</body>", HOLD + b"</body>"))
+
+        def log_message(self, *_: object) -> None:
+            """Says nothing."""
+
+    listener = ThreadingHTTPServer(("127.0.0.1", 0), Handler)
+    threading.Thread(target=listener.serve_forever, daemon=True).start()
+    try:
+        yield f"http://127.0.0.1:{listener.server_port}/"
+    finally:
+        listener.shutdown()
+        listener.server_close()
+
+
+def take(place: str, picture: Path, size: Tuple[int, int]) -> None:
+    """A picture of a page."""
+    browsed(place, picture.parent, f"--window-size={size[0]},{size[1]}", f"--screenshot={picture}")
+    if not picture.exists():
+        raise Wrong(f"{BROWSER} took no picture of {place}")
+
+
+def browsed(place: str, folder: Path, *options: str) -> str:
+    """What the browser writes of a page, after its script has looked more than once."""
+    words = [BROWSER, "--headless", "--no-sandbox", "--disable-gpu", "--hide-scrollbars", f"--user-data-dir={folder / 'browser'}",
+             *options, place]
+    ran = subprocess.run(words, stdout=subprocess.PIPE, stderr=subprocess.PIPE, text=True, timeout=4 * PATIENCE)
+    shutil.rmtree(folder / "browser", ignore_errors=True)
+    if ran.returncode:
+        raise Wrong(f"{BROWSER}: {ran.stderr[-500:]}")
+    return ran.stdout
 
 
 def colours(picture: Path) -> Iterator[Colour]:

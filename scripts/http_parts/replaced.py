@@ -65,7 +65,8 @@ def try_harm(program: Path, folder: Path, harm: Harm, is_strict: bool, copies: i
         same(client.ask("CAS 0:1:2"), "FAULT" if is_strict else "YES", f"the next change, {what}")
         same_pages(server, is_strict, f"{what}, after a change")
         same(other.ask("CAS 0:0:1"), "YES", f"a change of another tenant, {what}")
-        same([get(server.pages, f"/tenants/{name}/file").status for name in "ab"], [503 if is_strict else 500, 200], f"copies, {what}")
+        for kind in ("file", "words"):
+            same([get(server.pages, f"/tenants/{name}/{kind}").status for name in "ab"], [503 if is_strict else 500, 200], f"{kind}, {what}")
         client.close()
         other.close()
         same(server.end(), "tenant a: failed\na.mw: Stale file handle (os error 116)\n" if is_strict else "", f"further notes, {what}")
@@ -79,5 +80,5 @@ def same_pages(server: Server, is_strict: bool, what: str) -> None:
     same([told.of("mondlexi_file_replaced", tenant=name) for name in "ab"], [1, 0], f"mondlexi_file_replaced, {what}")
     same([told.of("mondlexi_up", tenant=name) for name in "ab"], [0 if is_strict else 1, 1], f"mondlexi_up, {what}")
     page = get(server.pages, "/").body.decode()
-    for part in (f"{word.title()}: a.", f"<td>a</td><td>{word}</td>", "<td>b</td><td>up</td>"):
+    for part in (f"Not well: a ({word}).", f"<td>a</td><td>{word}</td>", "<td>b</td><td>up</td>"):
         same(part in page, True, f"the status page has {part!r}, {what}")

@@ -13,13 +13,13 @@ from .server import PATIENCE, TYPES, Server, Wrong, answer_of, connected, figure
 END = b" HTTP/1.1\r\nHost: localhost\r\n\r\n"
 LONGEST = 8192
 """The most bytes of a head."""
-FILE = "/tenants/a/file"
+FILE, WORDS = "/tenants/a/file", "/tenants/a/words"
 REQUEST_SECONDS, WHOLE_SECONDS = 2, 10
 """How long a client may take for its request, and for all."""
 WRONG = [
     (b"POST /" + END, 405), (b"DELETE /metrics" + END, 405), (b"POST /nothing" + END, 404), (b"BREW /" + END, 501),
     (b"get /" + END, 501), (b"GET /nothing" + END, 404), (b"GET /healthz/" + END, 404), (b"GET //" + END, 404),
-    (b"GET /tenants/c/file" + END, 404), (b"POST /tenants/a/file" + END, 405), (b"GET /tenants/../file" + END, 404), (b"GET nothing" + END, 400),
+    (b"GET /tenants/c/file" + END, 404), (b"GET /tenants/c/words" + END, 404), (b"GET /tenants/a/words/" + END, 404), (b"POST /tenants/a/file" + END, 405), (b"GET /tenants/../file" + END, 404), (b"GET nothing" + END, 400),
     (b"GET / HTTP/1.1\r\n\r\n", 400), (b"GET / HTTP/1.1\r\nHost: a\r\nHost: b\r\n\r\n", 400), (b"GET / HTTP/2.0\r\nHost: a\r\n\r\n", 400),
     (b"GET / HTTP/1.1\r\nHost : a\r\n\r\n", 400), (b"GET / HTTP/1.1\r\nHost: a\r\n b\r\n\r\n", 400), (b"\0\1\2\r\n\r\n", 400),
     (b"GET / HTTP/1.1\r\nHost: a\r\nContent-Length: 1\r\nContent-Length: 2\r\n\r\n", 400),
@@ -45,8 +45,11 @@ def right(server: Server) -> None:
     for part in ("<td>a</td><td>up</td>", "All tenants are up", "Free slots of the pool"):
         if part not in page:
             raise Wrong(f"the status page has no {part!r}")
-    for part in ("<script", "src=", "http://", "https://", "@import"):
-        if part in page:
+    for part in ("<script", "src=", "<link", "href=\"status.css\""):
+        same(page.count(part), 1, f"how often the status page has {part!r}")
+    whole = "".join(get(server.pages, path).body.decode() for path in ("/", "/status.css", "/status.js"))
+    for part in ("<style", "style=", " on", "http://", "https://", "@import"):
+        if part in (page if part == " on" else whole):
             raise Wrong(f"the status page has {part!r}")
 
 
@@ -134,7 +137,7 @@ def mutated(text: bytes, others: List[bytes], rng: random.Random) -> bytes:
 def fuzz(server: Server, count: int, seed: int) -> Dict[int, int]:
     """Many mutated requests: each has an answer or none, and nothing else is touched. Gives how many had which status, 0 for none."""
     rng, found = random.Random(seed), {}
-    bases = [text for text, _ in WRONG if len(text) < 1000] + [f"{method} {path}".encode() + END for method in ("GET", "HEAD") for path in (*TYPES, FILE)]
+    bases = [text for text, _ in WRONG if len(text) < 1000] + [f"{method} {path}".encode() + END for method in ("GET", "HEAD") for path in (*TYPES, FILE, WORDS)]
     bases += [b"GET /metrics HTTP/1.1\r\nHost: localhost:9\r\nUser-Agent: curl/7.88\r\nAccept: */*\r\nConnection: close\r\n\r\n"]
     before = untouched(server)
     for number in range(count):

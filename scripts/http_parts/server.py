@@ -12,7 +12,8 @@ from typing import Dict, List, NamedTuple, Optional, Sequence, Tuple, Union
 PATIENCE = 60
 """For how many seconds an answer or an end is waited for. What needs longer hangs."""
 STATUSES = {200, 400, 404, 405, 408, 414, 421, 431, 500, 501, 503}
-TYPES = {"/": "text/html; charset=utf-8", "/metrics": "text/plain; version=0.0.4; charset=utf-8", "/healthz": "text/plain; charset=utf-8"}
+TYPES = {"/": "text/html; charset=utf-8", "/metrics": "text/plain; version=0.0.4; charset=utf-8", "/healthz": "text/plain; charset=utf-8",
+         "/status.css": "text/css; charset=utf-8", "/status.js": "text/javascript; charset=utf-8"}
 SAMPLE = re.compile(r'(\w+)(?:\{(.*)\})? (\S+)')
 
 Address = Union[int, Path]

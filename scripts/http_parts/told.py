@@ -13,7 +13,7 @@ CROWD = 1000
 SAMPLE_SECONDS = 15
 """How many seconds lie between two samples of the curves, at least."""
 SOME_CHANGES = 100
-CURVE = re.compile(r'<td>(\d+) \(most (\d+)\) <svg width="180" height="30"><polyline points="([0-9, ]*)"/></svg></td>')
+CURVE = re.compile(r'<td>(\d+) \(most (\d+)\) <svg [^>]*><path [^>]*/><polyline points="([0-9, ]*)"/></svg></td>')
 
 
 class Curve(NamedTuple):
@@ -63,7 +63,7 @@ def of_one_client(server: Server) -> None:
 def curves(server: Server) -> None:
     """The curves of the status page: after changes and a sample, and after another one without changes."""
     page = get(server.pages, "/").body.decode()
-    same(page.count("<svg width=\"180\""), 3 * 2, "the curves of two tenants")
+    same(page.count("<svg "), 3 * 2, "the curves of two tenants")
     client = Client(server.port, "a")
     for turn in range(SOME_CHANGES):
         same(client.ask(f"CAS 5:{turn}:{turn + 1}"), "YES", "a change")
@@ -80,7 +80,7 @@ def curves(server: Server) -> None:
 
 def rows_of(page: str, tenant: str) -> List[Curve]:
     """The curves of a tenant on the status page."""
-    row = page.partition("<h2>")[2].partition(f"<tr><td>{tenant}</td>")[2].partition("</tr>")[0]
+    row = page.partition('class="recent"')[2].partition(f"<tr><td>{tenant}</td>")[2].partition("</tr>")[0]
     found = CURVE.findall(row)
     same(len(found), 3, f"curves of {tenant}")
     return [Curve(int(last), int(most), len(points.split())) for last, most, points in found]
@@ -158,11 +158,12 @@ def failing_disk(server: Server) -> None:
     same([now.of("mondlexi_up", tenant=name) for name in "ab"], [0, 1], "the tenants that are up")
     same(now.of("mondlexi_device_failures_total", tenant="a", call="write"), 1, "failed writes")
     same(now.of("mondlexi_requests_total", tenant="a", kind="CAS", reply="FAULT"), 2, "requests answered FAULT")
-    same([get(server.pages, f"/tenants/{name}/file").status for name in "ab"], [503, 200], "the files")
+    for what in ("file", "words"):
+        same([get(server.pages, f"/tenants/{name}/{what}").status for name in "ab"], [503, 200], what)
     health = get(server.pages, "/healthz")
     same((health.status, health.body), (503, b"down a\n"), "/healthz")
     page = get(server.pages, "/").body.decode()
-    for part in ("Down: a.", "<td>a</td><td>down</td>", "<td>b</td><td>up</td>"):
+    for part in ("Not well: a (down).", "<td>a</td><td>down</td>", "<td>b</td><td>up</td>"):
         if part not in page:
             raise Wrong(f"the status page of a disk that fails has no {part!r}")
 

@@ -3,7 +3,7 @@
 -- Used by: the contracts of heads.rt.
 use Rattle.std.specs.Prelude.{ℕ, ◌==◌, ◌++◌, List, [], length, Option, None, Some, codes, decimal, if◌then◌else◌}
 use Rattle.mw_http.specs.declared.heads.ContentType.{ContentType}
-use Rattle.mw_http.specs.declared.heads.ContentType.TheVariants.{Text, Html, Metrics, Bytes}
+use Rattle.mw_http.specs.declared.heads.ContentType.TheVariants.{Text, Html, Metrics, Bytes, Style, Script}
 use Rattle.mw_http.specs.declared.heads.Content.{Content}
 use Rattle.mw_http.specs.declared.status.Status.{Status}
 use Rattle.mw_http.specs.Statuses.{code, reason}
@@ -14,6 +14,8 @@ type_text Text = codes "text/plain; charset=utf-8"
 type_text Html = codes "text/html; charset=utf-8"
 type_text Metrics = codes "text/plain; version=0.0.4; charset=utf-8"
 type_text Bytes = codes "application/octet-stream"
+type_text Style = codes "text/css; charset=utf-8"
+type_text Script = codes "text/javascript; charset=utf-8"
 
 -- a field line: its name, a colon, a space, its value and a line end
 unfoldable pub field : List ℕ → List ℕ → List ℕ

@@ -26,6 +26,10 @@ pub enum ContentType {
     Metrics,
     /// Bytes, as of a file.
     Bytes,
+    /// How a page looks.
+    Style,
+    /// The script of a page.
+    Script,
 }
 
 /// The content of an answer: what it is, and how many bytes it has.
@@ -46,6 +50,8 @@ impl ContentType {
             ContentType::Html => b"text/html; charset=utf-8",
             ContentType::Metrics => b"text/plain; version=0.0.4; charset=utf-8",
             ContentType::Bytes => b"application/octet-stream",
+            ContentType::Style => b"text/css; charset=utf-8",
+            ContentType::Script => b"text/javascript; charset=utf-8",
         }
     }
 }

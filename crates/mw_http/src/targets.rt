@@ -17,6 +17,12 @@ pub enum Route {
     Health,
     /// A copy of the file of the tenant with this name.
     File(Name),
+    /// The words of the tenant with this name.
+    Words(Name),
+    /// How the status page looks.
+    Style,
+    /// The script of the status page.
+    Script,
 }
 
 /// Gives what is at a target, if anything is.
@@ -49,18 +55,45 @@ fn route_of(path: &[u8]) -> Option<Route>
     if path == b"/healthz".as_slice() {
         return Some(Route::Health);
     }
-    file_of(path)
+    if path == b"/status.css".as_slice() {
+        return Some(Route::Style);
+    }
+    if path == b"/status.js".as_slice() {
+        return Some(Route::Script);
+    }
+    route_of_tenant(path)
 }
 
-fn file_of(path: &[u8]) -> Option<Route>
-    ensures { option_map spec.place_of result ≡ spec.file_at path.now }
+/// Gives what is at the path of a tenant's file or words.
+fn route_of_tenant(path: &[u8]) -> Option<Route>
+    ensures { option_map spec.place_of result ≡ spec.tenant_at path.now }
 {
-    if path.len() < 14 || !path.starts_with(b"/tenants/") || !path.ends_with(b"/file") {
+    if path.ends_with(b"/words") {
+        return match tenant_of(path, 6) {
+            Some(tenant) => Some(Route::Words(tenant)),
+            None => None,
+        };
+    }
+    if path.ends_with(b"/file") {
+        return match tenant_of(path, 5) {
+            Some(tenant) => Some(Route::File(tenant)),
+            None => None,
+        };
+    }
+    None
+}
+
+/// Gives the name between `/tenants/` and the last bytes of a path, so many and at most six, if it is one.
+fn tenant_of(path: &[u8], last: usize) -> Option<Name>
+    requires { last ≤ 6 }
+    ensures { option_map (λ name. name.items) result ≡ spec.name_in path.now last }
+{
+    if path.len() < 9 + last || !path.starts_with(b"/tenants/") {
         return None;
     }
-    let name = &path[9..path.len() - 5];
+    let name = &path[9..path.len() - last];
     match Name::try_from(name) {
-        Ok(tenant) if is_name(name) => Some(Route::File(tenant)),
+        Ok(tenant) if is_name(name) => Some(tenant),
         _ => None,
     }
 }

@@ -4,10 +4,10 @@
 use crate::checks::{MEMORY, holds};
 use crate::http_peers::{HandClock, OneFile};
 use mw_http::{ContentType, Route, Status};
-use mw_metrics::{FilePlace, Meters, TenantCounters, TenantMetrics};
+use mw_metrics::{CloseReason, FilePlace, Meters, ServerCounters, TenantCounters, TenantMetrics};
 use mw_report::TenantFigures;
 use mw_server_pages::{
-    Capacity, Curve, LimitKind, NearLimit, NoCopy, Pages, Point, Recent, ServerPages, Version,
+    Capacity, Curve, Limit, LimitKind, NoCopy, Pages, Point, Recent, ServerPages, Version,
     health_text, status_page,
 };
 use mw_test_peers::Shelf;
@@ -34,6 +34,17 @@ const CAPACITY: Capacity = Capacity {
 
 /// The bytes of a tenant's file, some of which are no text.
 const FILE: &[u8] = b"MWCASF1\n\0\xff\r\n\r\nend";
+
+/// The bytes of a file of two words, 5 and 0, whose open record gives 7 to the second one.
+const SOUND: &[u8] = b"\
+    MWCASF1\n\x02\0\0\0\x01\0\0\0\0\0\0\0\0\0\0\0\0\0\0\0\0\0\0\0\x05\0\0\0\0\0\0\0\0\0\0\0\0\
+    \0\0\0\xa5\x01\0\0\0\0\0\0\x01\0\0\0\0\0\0\0\x07\0\0\0\0\0\0\0\0\0\0\0\0\0\0\0\0\0\0\0\0\0\
+    \0\0\0\0\0\0\0\0\0\0\0\0\0\0\0\0\0\0\0\0\0\0\0\0\0\0\0\0\0\0\0\0\0\0\0\0\0\0\0\0\0\0\0\0\0\
+    \0\0\0\0\0\0\0\0\0\0\0\0\0\0\0\0\0\0\0\0\0\0\0\0\0\0\0\0\0\0\0\0\0\0\0\0\0\0\0\0\0\0\0\0\0\
+    \0\0\0\0\0\0\0\0";
+
+/// The words of that file.
+const WORDS: &[u8] = b"words 2\nplaces 1\nopen 0 1 7\nword 0 5\nword 1 7\n";
 
 /// The server's version.
 const VERSION: &[u8] = b"1.2";
@@ -62,8 +73,12 @@ enum Asked {
     Health,
     Page,
     Metrics,
+    Style,
+    Script,
     /// The file of the tenant with this name.
     File(&'static [u8]),
+    /// The words of the tenant with this name.
+    Words(&'static [u8]),
 }
 
 impl Asked {
@@ -72,7 +87,10 @@ impl Asked {
             Asked::Health => Route::Health,
             Asked::Page => Route::Page,
             Asked::Metrics => Route::Metrics,
+            Asked::Style => Route::Style,
+            Asked::Script => Route::Script,
             Asked::File(name) => Route::File(Name::try_from(name).unwrap_or_default()),
+            Asked::Words(name) => Route::Words(Name::try_from(name).unwrap_or_default()),
         }
     }
 }
@@ -104,7 +122,7 @@ struct Row {
     body: Body,
 }
 
-static ROWS: [Row; 11] = [
+static ROWS: [Row; 17] = [
     Row {
         asked: Asked::Health,
         file: Ok(FILE),
@@ -148,7 +166,51 @@ static ROWS: [Row; 11] = [
         kind: ContentType::Bytes,
         body: Body::Is(b""),
     },
+    // Words are told as mwshow tells them. A damaged file has none.
+    Row {
+        asked: Asked::Words(b"t"),
+        file: Ok(SOUND),
+        status: Status::Ok,
+        kind: ContentType::Text,
+        body: Body::Is(WORDS),
+    },
+    Row {
+        asked: Asked::Words(b"t"),
+        file: Ok(FILE),
+        status: Status::InternalError,
+        kind: ContentType::Text,
+        body: Body::Is(b""),
+    },
+    // Constants.
+    Row {
+        asked: Asked::Style,
+        file: Ok(FILE),
+        status: Status::Ok,
+        kind: ContentType::Style,
+        body: Body::Has(b"polyline {"),
+    },
+    Row {
+        asked: Asked::Script,
+        file: Ok(FILE),
+        status: Status::Ok,
+        kind: ContentType::Script,
+        body: Body::Has(b"function showMinute() {\n"),
+    },
     // A status says why there is no copy.
+    Row {
+        asked: Asked::Words(b"u"),
+        file: Ok(SOUND),
+        status: Status::NotFound,
+        kind: ContentType::Text,
+        body: Body::Is(b""),
+    },
+    Row {
+        asked: Asked::Words(b"t"),
+        file: Err(NoCopy::Failed),
+        status: Status::Unavailable,
+        kind: ContentType::Text,
+        body: Body::Is(b""),
+    },
     Row {
         asked: Asked::File(b"u"),
         file: Ok(FILE),
@@ -245,14 +307,16 @@ fn health_names_those_that_are_not_well(rt: HostRuntime) {
 
 /// Parts of the page of these tenants, and of one whose file was replaced.
 static UNWELL: [&str; 5] = [
-    "<p><strong>Down: a c e f.</strong></p>\n<p><strong>Replaced: d.</strong></p>\n<p>No limit",
+    "s.</p>\n<p class=\"down\">Not well: a (down) c (down) d (replaced) e (down) f (down).</p>\n<p>No limit is near.</p>\n</div>",
     "<tr class=\"up\"><td>b</td><td>up</td>",
     "<tr class=\"down\"><td>c</td><td>down</td>",
-    "<tr class=\"down\"><td>d</td><td>replaced</td>",
+    "<tr class=\"replaced\"><td>d</td><td>replaced</td>",
     "<tr class=\"down\"><td>f</td><td>down</td>",
 ];
 
-static REPLACED: [&str; 1] = ["s.</p>\n<p><strong>Replaced: d.</strong></p>\n<p>No limit"];
+static REPLACED: [&str; 1] = [
+    "s.</p>\n<p class=\"down\">Not well: d (replaced).</p>\n<p>No limit is near.</p>\n</div>",
+];
 
 #[test]
 fn the_page_names_those_that_are_not_well(rt: HostRuntime) {
@@ -271,8 +335,8 @@ fn is_text(bytes: &[u8], text: &str) -> bool {
 /// Parts of the page of a tenant whose name has characters that are escaped.
 static ESCAPED: [&str; 4] = [
     "<p>Version &lt;, up for 1 d 1 h 1 min 1 s.</p>\n",
-    "<p><strong>Down: &lt;a&amp;&quot;&gt;.</strong></p>\n",
-    "<tr class=\"down\"><td>&lt;a&amp;&quot;&gt;</td><td>down</td><td>0</td><td>0 of 0</td><td>",
+    "<p class=\"down\">Not well: &lt;a&amp;&quot;&gt; (down).</p>\n",
+    "<tr class=\"down\"><td>&lt;a&amp;&quot;&gt;</td><td>down</td><td>0</td><td>0 of 0</td><td>0</td></tr>",
     "<p>Free slots of the pool: 7.</p>\n",
 ];
 
@@ -319,47 +383,51 @@ fn recent() -> Recent {
     }
 }
 
-/// A tenant near its quota, and a server without room for another session.
-fn near_limits() -> [NearLimit; 2] {
+/// A tenant near its quota, and a server far from the most sessions.
+fn limits() -> [Limit; 2] {
     [
-        NearLimit {
+        Limit {
             kind: LimitKind::Quota,
             tenant: Name::try_from(b"a".as_slice()).unwrap_or_default(),
             used: 3,
             most: 4,
+            near: true,
         },
-        NearLimit {
+        Limit {
             kind: LimitKind::Sessions,
-            used: 5,
+            used: 1,
             most: 5,
-            ..NearLimit::default()
+            ..Limit::default()
         },
     ]
 }
 
 /// Parts of the page that shows these.
-static DRAWN: [&str; 3] = [
-    "<p>Near a limit:</p>\n<ul>\n<li>quota of a: 3 of 4</li>\n<li>sessions: 5 of 5</li>\n</ul>\n",
+static DRAWN: [&str; 5] = [
+    "<p class=\"near\">A limit is near.</p>\n</div>\n<div id=\"minute\"></div>\n",
+    "<tr class=\"near\"><td>quota of a</td><td>3 of 4</td><td><meter max=\"4\" value=\"3\"></meter></td><td>its number in the tenants file</td></tr>\n",
+    "<tr class=\"far\"><td>sessions</td><td>1 of 5</td><td><meter max=\"5\" value=\"1\"></meter></td><td>--clients, or end some by --idle</td></tr>\n</table>\n",
     "<tr><td>a</td><td>down for 0 d 0 h 1 min 1 s</td><td>0 (most 0) <svg",
-    "<td>3 (most 12) <svg width=\"180\" height=\"30\"><polyline points=\"0,30 180,0 \"/></svg></td><td>",
+    "<td>3 (most 12) <svg viewBox=\"0 0 180 30\" aria-hidden=\"true\"><path d=\"M0 0V30H180\"/><polyline points=\"0,30 180,0 \"/></svg></td><td>",
 ];
 
 #[test]
 fn limits_and_curves_are_drawn(rt: HostRuntime) {
-    let (near, recents) = (near_limits(), [recent()]);
-    let page = status_page(rt.alloc(), b"1", 0, &[], &near, &recents, 0).expect(&rt, MEMORY);
+    let (limits, recents) = (limits(), [recent()]);
+    let page = status_page(rt.alloc(), b"1", 0, &[], &limits, &recents, 0).expect(&rt, MEMORY);
     are_in(&rt, &DRAWN, &page);
 }
 
-/// What the status page says of a limit that is far and of one that is near.
+/// What the status page says of limits that are all far.
 const FAR: &str = "<p>No limit is near.</p>\n";
 
-const NEAR: &str = "<p>Near a limit:</p>\n<ul>\n<li>sessions: 3 of 4</li>\n</ul>\n";
+/// What it says of sessions that are near the most.
+const NEAR: &str = "<tr class=\"near\"><td>sessions</td><td>3 of 4</td>";
 
 /// Thirty changes of two milliseconds each, what the curves show of them after 15 and after 30 seconds.
 static CURVES: [&[u8]; 2] = [
-    b"<td>2 (most 2) <svg width=\"180\" height=\"30\"><polyline points=\"180,0 \"/></svg></td>",
-    b"<td>0 (most 2) <svg width=\"180\" height=\"30\"><polyline points=\"177,0 180,30 \"/></svg></td><td>0 (most 2000) <svg",
+    b"<td>2 (most 2) <svg viewBox=\"0 0 180 30\" aria-hidden=\"true\"><path d=\"M0 0V30H180\"/><polyline points=\"180,0 \"/></svg></td>",
+    b"<td>0 (most 2) <svg viewBox=\"0 0 180 30\" aria-hidden=\"true\"><path d=\"M0 0V30H180\"/><polyline points=\"177,0 180,30 \"/></svg></td><td>0 (most 2000) <svg",
 ];
 
 /// Thirty changes in 15 seconds, and then none.
@@ -379,15 +447,35 @@ fn curves_show_what_was_counted(rt: HostRuntime) {
     }
 }
 
-/// Two of four sessions serve, and then three.
+/// What happens to sessions: how many begin, how many end, how many seconds go by, and what the page says then.
+static TURNS: [(u64, u64, u64, &str); 6] = [
+    (2, 0, 0, FAR),
+    (1, 0, 0, NEAR),
+    (0, 3, 0, NEAR),
+    (0, 0, 15, NEAR),
+    (0, 0, 900, NEAR),
+    (0, 0, 1, FAR),
+];
+
+/// Lets so many sessions begin, and so many end.
+fn turn(server: &ServerCounters, begin: u64, end: u64) {
+    for _ in 0..begin {
+        server.record_served();
+    }
+    for _ in 0..end {
+        server.record_closed(CloseReason::Quit);
+    }
+}
+
+/// Two of four sessions serve, and then three. They end, which the page shows once they are longer ago than it tells.
 #[test]
 fn a_limit_is_near_from_three_quarters_on(rt: HostRuntime) {
     let clock = HandClock::new(rt.alloc());
     let meters = Meters::new(&clock);
     let mut pages = pages_of(&clock, &meters, Ok(FILE)).expect(&rt, MEMORY);
-    meters.server().record_served();
-    for part in [FAR, NEAR] {
-        meters.server().record_served();
+    for (begin, end, seconds, part) in &TURNS {
+        turn(meters.server(), *begin, *end);
+        thread::sleep(&clock, Duration::from_secs(*seconds));
         let page = pages.page(&Route::Page);
         holds(&rt, part, 0, is_in(part.as_bytes(), &page.body));
     }

@@ -6,7 +6,7 @@ use mw_http::{Content, ContentType, Heard, Request, Route, Status, answer_head, 
 use std::process::Abort;
 
 /// What a client sends, and what is heard.
-static CASES: [(&str, &str); 38] = [
+static CASES: [(&str, &str); 43] = [
     ("", "more"),
     ("GET / HTTP/1.1\r\nHost: a\r\n", "more"),
     ("GET / HTTP/1.1\r\nHost: a\r\n\r\n", "page"),
@@ -24,7 +24,21 @@ static CASES: [(&str, &str); 38] = [
     ("HEAD /healthz HTTP/1.1\r\nHost:\r\n\r\n", "head of health"),
     ("GET /tenants/t-1/file HTTP/1.1\r\nHost: a\r\n\r\n", "file"),
     (
+        "GET /tenants/t-1/words HTTP/1.1\r\nHost: a\r\n\r\n",
+        "words",
+    ),
+    ("GET /status.css HTTP/1.1\r\nHost: a\r\n\r\n", "style"),
+    ("GET /status.js?1 HTTP/1.1\r\nHost: a\r\n\r\n", "script"),
+    (
         "GET /tenants/T/file HTTP/1.1\r\nHost: a\r\n\r\n",
+        "Not Found",
+    ),
+    (
+        "GET /tenants//words HTTP/1.1\r\nHost: a\r\n\r\n",
+        "Not Found",
+    ),
+    (
+        "GET /tenants/t/words/file HTTP/1.1\r\nHost: a\r\n\r\n",
         "Not Found",
     ),
     (
@@ -106,6 +120,9 @@ fn asked(request: &Request) -> &'static str {
         (Route::Metrics, true) => "metrics",
         (Route::Health, false) => "head of health",
         (Route::File(_), true) => "file",
+        (Route::Words(_), true) => "words",
+        (Route::Style, true) => "style",
+        (Route::Script, true) => "script",
         _ => "another request",
     }
 }

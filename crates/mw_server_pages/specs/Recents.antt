@@ -11,15 +11,11 @@ use Rattle.mw_server_pages.specs.Spans.{span}
 unfoldable pub point : Point → List ℕ
 point p = decimal p.right ++ codes "," ++ decimal p.down ++ codes " "
 
--- a figure, the highest that it was, and its curve
-unfoldable pub curve : Curve → List ℕ
-curve c =
-    decimal c.last ++ codes " (most " ++ decimal c.most ++ codes ") <svg width=\"180\" height=\"30\"><polyline points=\"" ++ flat_map point c.points.items
-    ++ codes "\"/></svg>"
-
--- a cell with a curve
+-- A cell: a figure, the highest that it was, and its curve: from a quarter of an hour ago to now, and from 0 to the highest figure.
 unfoldable pub cell : Curve → List ℕ
-cell c = codes "<td>" ++ curve c ++ codes "</td>"
+cell c =
+    codes "<td>" ++ decimal c.last ++ codes " (most " ++ decimal c.most ++ codes ") <svg viewBox=\"0 0 180 30\" aria-hidden=\"true\"><path d=\"M0 0V30H180\"/><polyline points=\"" ++ flat_map point c.points.items
+    ++ codes "\"/></svg></td>"
 
 -- down for so many seconds
 unfoldable pub down_for : ℕ → List ℕ
@@ -41,5 +37,5 @@ recent r = named r ++ cell r.changes ++ cell r.change ++ cell r.sync ++ codes "<
 -- the table of the time before
 unfoldable pub recents : List Recent → List ℕ
 recents all =
-    codes "<h2>The last quarter of an hour</h2>\n<table>\n<tr><th>Tenant</th><th>State</th><th>Changes a second</th><th>A change, in &micro;s</th><th>A sync, in &micro;s</th></tr>\n"
+    codes "<h2>The last quarter of an hour</h2>\n<p>Each curve goes from 15 minutes ago to now, and from 0 to its most.</p>\n<table class=\"recent\">\n<tr><th>Tenant</th><th>State</th><th>Changes a second</th><th>A change, in &micro;s</th><th>A sync, in &micro;s</th></tr>\n"
     ++ flat_map recent all ++ codes "</table>\n"

@@ -1,6 +1,6 @@
--- Defines what a server shows at each place, by the figures that its service gives then, or by the copy of a tenant's file.
+-- Defines what a server shows at each place, by the figures that its service gives then, or by a copy of a tenant's file.
 -- Used by: the contracts of server_pages.rt. A change here changes what operators see: docs/HTTP changes with it.
-use Rattle.std.specs.Prelude.{◌≡◌, ℕ, ◌⊎◌, List, [], map, Vec, Result, Ok, Err, if◌then◌else◌}
+use Rattle.std.specs.Prelude.{◌≡◌, ℕ, ◌⊎◌, true, List, [], map, Vec, None, Result, Ok, Err, if◌then◌else◌}
 use Rattle.std.specs.declared.alloc.Global.{Global}
 use Rattle.std.specs.declared.alloc.AllocError.{AllocError}
 use Rattle.std.specs.List.{list_all}
@@ -14,9 +14,13 @@ use Rattle.mw_server_pages.specs.Calls.{Call, Dates, Shows}
 use Rattle.mw_metrics.specs.Counted.{IsTextOf, figures_of}
 use Rattle.mw_metrics.specs.declared.figures.TenantMetrics.{TenantMetrics}
 use Rattle.mw_server_pages.specs.Health.{health, is_well}
-use Rattle.mw_server_pages.specs.declared.limits.NearLimit.{NearLimit}
+use Rattle.mw_record.specs.Damages.{damage_of}
+use Rattle.mw_file_text.specs.Text.{file_text}
+use Rattle.mw_server_pages.specs.declared.look.TheConstants.{SCRIPT, STYLE}
+use Rattle.mw_server_pages.specs.declared.limits.Limit.{Limit}
 use Rattle.mw_server_pages.specs.declared.recents.Recent.{Recent}
 use Rattle.mw_server_pages.specs.StatusPage as status_page
+use Rattle.mw_server_pages.specs.declared.file_copies.NoCopy.{NoCopy}
 use Rattle.mw_server_pages.specs.declared.file_copies.NoCopy.TheVariants as no_copy
 use Rattle.mw_server_pages.specs.Copies.{Copy}
 use Rattle.mw_report.specs.declared.figures.Figures.{Figures}
@@ -70,7 +74,7 @@ pub record IsStatusText (version : List ℕ) (figures : Figures) (body : List �
   pub seconds : ℕ
   pub tenants : List TenantMetrics
   pub same : map figures_of tenants ≡ figures.tenants.items
-  pub limits : List NearLimit
+  pub limits : List Limit
   pub recents : List Recent
   pub is : body ≡ status_page.page version seconds tenants limits recents figures.pool_free
 
@@ -78,21 +82,46 @@ pub record IsStatusText (version : List ℕ) (figures : Figures) (body : List �
 abbrev pub IsStatus : List ℕ → Figures → Page → Type 0
 IsStatus version figures page = IsPageOrError status.Ok kind.Html (λ body. IsStatusText version figures body) page
 
--- The file of a tenant, byte for byte. If there is no copy: the tenant is not known (404), its file has failed or didn't open
--- (503), the device failed or memory was out (500), each without a body.
+-- Why there is no copy of a tenant's file: the tenant is not known (404), its file has failed or didn't open (503), the device failed
+-- or memory was out (500), each without a body.
+abbrev pub IsNoCopy : NoCopy → Page → Type 0
+IsNoCopy no_copy.NoTenant page = IsBare status.NotFound page
+IsNoCopy no_copy.Failed page = IsBare status.Unavailable page
+IsNoCopy no_copy.Disk page = IsBare status.InternalError page
+IsNoCopy no_copy.Memory page = IsBare status.InternalError page
+
+-- the file of a tenant, byte for byte, or why there is no copy of it
 abbrev pub IsFile : Copy → Page → Type 0
 IsFile (Ok copy) page = IsPage status.Ok kind.Bytes (λ body. body ≡ copy.items) page
-IsFile (Err no_copy.NoTenant) page = IsBare status.NotFound page
-IsFile (Err no_copy.Failed) page = IsBare status.Unavailable page
-IsFile (Err no_copy.Disk) page = IsBare status.InternalError page
-IsFile (Err no_copy.Memory) page = IsBare status.InternalError page
+IsFile (Err fault) page = IsNoCopy fault page
 
--- what is shown at a place by these figures; a file is shown by none
+-- This text tells all words of a file without damage, and what else `mwshow --words` prints of it.
+pub record TellsWords (file body : List ℕ) : Type 0 where
+  pub sound : damage_of file ≡ None
+  pub text : body ≡ file_text true file
+
+-- all words that these bytes of a file say; they are damaged, or there was no memory for it: an error
+abbrev pub IsWordsOf : List ℕ → Page → Type 0
+IsWordsOf file page = IsPageOrError status.Ok kind.Text (λ body. TellsWords file body) page
+
+-- all words of a tenant, as a copy of its file says them, or why there is no copy
+abbrev pub IsWords : Copy → Page → Type 0
+IsWords (Ok copy) page = IsWordsOf copy.items page
+IsWords (Err fault) page = IsNoCopy fault page
+
+-- a text that is always the same, or an error if there was no memory for it
+abbrev pub IsConstant : ContentType → List ℕ → Page → Type 0
+IsConstant content text page = IsPageOrError status.Ok content (λ body. body ≡ text) page
+
+-- what is shown at a place by these figures; the other places are shown by none
 abbrev pub IsShown : target.Place → List ℕ → Figures → Page → Type 0
 IsShown target.page version figures page = IsStatus version figures page
 IsShown target.metrics version figures page = IsMetrics version figures page
 IsShown target.health version figures page = IsHealth figures page
+IsShown target.style version figures page = ⊥
+IsShown target.script version figures page = ⊥
 IsShown (target.file tenant) version figures page = ⊥
+IsShown (target.words tenant) version figures page = ⊥
 
 -- The service was asked for its figures once, and these are shown.
 pub record Counts {S : Type 0} (answered : S → talk.Call → S → Type 0) (version : List ℕ) (old new : S) (place : target.Place) (page : Page) : Type 0 where
@@ -100,16 +129,19 @@ pub record Counts {S : Type 0} (answered : S → talk.Call → S → Type 0) (ve
   pub asked : answered old (talk.Counts figures) new
   pub shown : IsShown place version figures page
 
--- The file of this tenant was copied once, and the copy is shown, or why there is none.
-pub record Copies {F : Type 0} (copied : F → List ℕ → Copy → F → Type 0) (old new : F) (tenant : List ℕ) (page : Page) : Type 0 where
+-- The file of this tenant was copied once, and this is shown of the copy, or why there is none.
+pub record Copies {F : Type 0} (copied : F → List ℕ → Copy → F → Type 0) (old new : F) (tenant : List ℕ) (Shows : Copy → Type 0) : Type 0 where
   pub copy : Copy
   pub asked : copied old tenant copy new
-  pub shown : IsFile copy page
+  pub shown : Shows copy
 
--- What the pages answer, of a service and of files. For a file the service is asked for nothing. For all else no file is copied, and
--- for the date the service is asked for nothing either.
+-- What the pages answer, of a service and of files. For a file or words one file is copied once, and the service is asked for nothing.
+-- For all else no file is copied; for the date, the style and the script the service is asked for nothing either.
 abbrev pub Gives : {S F : Type 0} → (S → talk.Call → S → Type 0) → (F → List ℕ → Copy → F → Type 0) → List ℕ → S → F → Call → S → F → Type 0
-Gives answered copied version old files (Shows (target.file tenant) page) new new_files = (new ≡ old) × Copies copied files new_files tenant page
+Gives answered copied version old files (Shows (target.file tenant) page) new new_files = (new ≡ old) × Copies copied files new_files tenant (λ copy. IsFile copy page)
+Gives answered copied version old files (Shows (target.words tenant) page) new new_files = (new ≡ old) × Copies copied files new_files tenant (λ copy. IsWords copy page)
+Gives answered copied version old files (Shows target.style page) new new_files = (new_files ≡ files) × (new ≡ old) × IsConstant kind.Style STYLE.now page
+Gives answered copied version old files (Shows target.script page) new new_files = (new_files ≡ files) × (new ≡ old) × IsConstant kind.Script SCRIPT.now page
 Gives answered copied version old files (Shows target.page page) new new_files = (new_files ≡ files) × Counts answered version old new target.page page
 Gives answered copied version old files (Shows target.metrics page) new new_files = (new_files ≡ files) × Counts answered version old new target.metrics page
 Gives answered copied version old files (Shows target.health page) new new_files = (new_files ≡ files) × Counts answered version old new target.health page

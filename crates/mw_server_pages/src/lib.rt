@@ -16,11 +16,14 @@
 //! Used by: mw_programs, and tests.
 #![tactic(auto)]
 
+mod bodies;
 mod date;
 mod exchanges;
 mod file_copies;
+mod file_pages;
 mod health;
 mod limits;
+mod look;
 mod near;
 mod pages;
 mod receiving;
@@ -37,7 +40,8 @@ mod writing;
 pub use exchanges::{Exchanged, exchange};
 pub use file_copies::{FileCopies, NoCopy};
 pub use health::{MAX_HEALTH, are_well, health_text};
-pub use limits::{LimitKind, MAX_LIMITS, NearLimit};
+pub use limits::{Limit, LimitKind, MAX_LIMITS};
+pub use look::{SCRIPT, STYLE};
 pub use near::Capacity;
 pub use pages::{Date, Page, Pages};
 pub use recents::{CURVE_HEIGHT, CURVE_WIDTH, Curve, MAX_POINTS, Point, Recent};

@@ -1,18 +1,18 @@
-//! Tells which limits of a server are near.
+//! Tells how much of each limit of a server was used, and which limits are near.
 //!
-//! `server_pages` asks for them. No contract says which are near: it is tested.
+//! `samples` keeps it, and `server_pages` asks for it. No contract says how much is used or which are near: it is tested.
 
-use crate::limits::{LimitKind, MAX_LIMITS, NearLimit};
+use crate::limits::{Limit, LimitKind, MAX_LIMITS};
 use arrayvec::ArrayVec;
 use mw_metrics::Meters;
-use mw_report::{Figures, TenantFigures};
-use mw_words::Name;
+use mw_report::Figures;
+use mw_words::{MAX_TENANTS, Name};
 
-/// Limits that are near.
-pub(crate) type NearLimits = ArrayVec<NearLimit, MAX_LIMITS>;
+/// The limits of a server.
+pub(crate) type Limits = ArrayVec<Limit, MAX_LIMITS>;
 
 /// How much a server can do at once.
-#[derive(Clone, Copy, Default)]
+#[derive(Clone, Copy)]
 pub struct Capacity {
     /// How many workers there are for changes; 0 if it isn't counted how many have a request.
     pub workers: u64,
@@ -26,49 +26,82 @@ const QUARTERS: u64 = 3;
 /// How many quarters are all.
 const ALL: u64 = 4;
 
-/// Gives the limits that are near, by these figures and by what is counted now.
-pub(crate) fn near_limits(figures: &Figures, meters: &Meters, capacity: Capacity) -> NearLimits {
-    let mut limits = ArrayVec::new();
-    let counted = meters.server().figures(0, 0);
-    let (workers, sessions) = (capacity.workers, capacity.sessions);
-    add(
-        &mut limits,
-        LimitKind::Workers,
-        b"",
-        counted.passes_in_use,
-        workers,
-    );
-    add(
-        &mut limits,
-        LimitKind::Sessions,
-        b"",
-        counted.served,
-        sessions,
-    );
-    for tenant in &figures.tenants {
-        add_of(&mut limits, tenant);
+/// How much of each limit is used, or was at most.
+#[derive(Clone, Copy)]
+pub(crate) struct Uses {
+    /// The workers for changes.
+    workers: u64,
+    sessions: u64,
+    /// The changes of each tenant that are under way.
+    changes: [u8; MAX_TENANTS],
+}
+
+impl Uses {
+    /// Nothing is used.
+    pub(crate) fn none() -> Self {
+        Uses {
+            workers: 0,
+            sessions: 0,
+            changes: [0; MAX_TENANTS],
+        }
     }
-    limits
+
+    /// Gives how much is used by these figures, and by what is counted now.
+    pub(crate) fn now(figures: &Figures, meters: &Meters) -> Self {
+        let counted = meters.server().figures(0, 0);
+        let mut changes = [0; MAX_TENANTS];
+        for (used, tenant) in changes.iter_mut().zip(&figures.tenants) {
+            *used = tenant.used;
+        }
+        Uses {
+            workers: counted.passes_in_use,
+            sessions: counted.served,
+            changes,
+        }
+    }
+
+    /// Keeps the higher of both for each limit.
+    pub(crate) fn raise(&mut self, other: &Uses) {
+        self.workers = self.workers.max(other.workers);
+        self.sessions = self.sessions.max(other.sessions);
+        for (most, used) in self.changes.iter_mut().zip(&other.changes) {
+            *most = (*most).max(*used);
+        }
+    }
+
+    /// Gives the limits of a server with these tenants and so much that it can do, and that so much of each was used.
+    pub(crate) fn limits(&self, figures: &Figures, capacity: Capacity) -> Limits {
+        let mut limits = ArrayVec::new();
+        let (workers, sessions) = (capacity.workers, capacity.sessions);
+        add(&mut limits, LimitKind::Workers, b"", self.workers, workers);
+        add(
+            &mut limits,
+            LimitKind::Sessions,
+            b"",
+            self.sessions,
+            sessions,
+        );
+        for (used, tenant) in self.changes.iter().zip(&figures.tenants) {
+            let (name, used) = (&tenant.name, u64::from(*used));
+            let (quota, places) = (u64::from(tenant.quota), u64::from(tenant.places));
+            add(&mut limits, LimitKind::Quota, name, used, quota);
+            add(&mut limits, LimitKind::Places, name, used, places);
+        }
+        limits
+    }
 }
 
-/// Adds the limits of a tenant that are near.
-fn add_of(limits: &mut NearLimits, tenant: &TenantFigures) {
-    let used = u64::from(tenant.used);
-    let (quota, places) = (u64::from(tenant.quota), u64::from(tenant.places));
-    add(limits, LimitKind::Quota, &tenant.name, used, quota);
-    add(limits, LimitKind::Places, &tenant.name, used, places);
-}
-
-/// Adds a limit if it is near. One of which there is nothing is none.
-fn add(limits: &mut NearLimits, kind: LimitKind, tenant: &[u8], used: u64, most: u64) {
-    if most == 0 || used.saturating_mul(ALL) < most.saturating_mul(QUARTERS) {
+/// Adds a limit. One of which there is nothing is none.
+fn add(limits: &mut Limits, kind: LimitKind, tenant: &[u8], used: u64, most: u64) {
+    if most == 0 {
         return;
     }
     // There is room for all.
-    let _ = limits.try_push(NearLimit {
+    let _ = limits.try_push(Limit {
         kind,
         tenant: Name::try_from(tenant).unwrap_or_default(),
         used,
         most,
+        near: used.saturating_mul(ALL) >= most.saturating_mul(QUARTERS),
     });
 }

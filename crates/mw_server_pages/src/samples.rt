@@ -2,6 +2,7 @@
 //!
 //! `server_pages` takes a sample when it is asked for figures. No contract says what the curves show: it is tested.
 
+use crate::near::Uses;
 use crate::recents::{CURVE_HEIGHT, CURVE_WIDTH, Curve, MAX_POINTS, Point, Recent};
 use arrayvec::ArrayVec;
 use mw_metrics::Meters;
@@ -33,11 +34,13 @@ struct Counted {
     sync_nanos: u64,
 }
 
-/// What was counted for each tenant so many seconds after the start.
+/// What was counted for each tenant so many seconds after the start, and the most that was used of each limit since the sample
+/// before.
 #[derive(Clone, Copy)]
 struct Sample {
     at: u64,
     counted: [Counted; MAX_TENANTS],
+    uses: Uses,
 }
 
 /// What a curve is of.
@@ -58,10 +61,12 @@ struct Value {
     figure: u64,
 }
 
-/// The samples of the last quarter of an hour, the oldest first, and since when each tenant is known to be down.
+/// The samples of the last quarter of an hour, the oldest first, the most that was used of each limit since the last one, and since
+/// when each tenant is known to be down.
 #[derive(Drop)]
 pub(crate) struct Samples {
     samples: Vec<Sample>,
+    uses: Uses,
     down: [Option<u64>; MAX_TENANTS],
 }
 
@@ -76,14 +81,17 @@ impl Samples {
         samples.push(Sample {
             at: 0,
             counted: [Counted::default(); MAX_TENANTS],
+            uses: Uses::none(),
         })?;
         Ok(Samples {
             samples,
+            uses: Uses::none(),
             down: [None; MAX_TENANTS],
         })
     }
 
-    /// Looks so many seconds after the start which tenants are down, and takes a sample if the last one is old enough.
+    /// Looks so many seconds after the start which tenants are down and how much of each limit is used, and takes a sample if the
+    /// last one is old enough.
     pub(crate) fn look(&mut self, now: u64, figures: &Figures, meters: &Meters) {
         for (number, (down, tenant)) in self.down.iter_mut().zip(&figures.tenants).enumerate() {
             *down = if tenant.up && meters.place_of(number).takes_changes() {
@@ -92,6 +100,8 @@ impl Samples {
                 Some(down.unwrap_or(now))
             };
         }
+        let uses = Uses::now(figures, meters);
+        self.uses.raise(&uses);
         let last = match self.samples.last() {
             Some(sample) => sample.at,
             None => 0,
@@ -100,7 +110,9 @@ impl Samples {
             self.keep(Sample {
                 at: now,
                 counted: all_counted(meters),
+                uses: self.uses,
             });
+            self.uses = uses;
         }
     }
 
@@ -111,6 +123,17 @@ impl Samples {
         }
         // There is room for all of them.
         let _ = self.samples.push(sample);
+    }
+
+    /// Gives the most that was used of each limit of late, so many seconds after the start.
+    pub(crate) fn most_uses(&self, now: u64) -> Uses {
+        let mut most = self.uses;
+        for sample in &self.samples {
+            if now.saturating_sub(sample.at) <= SHOWN {
+                most.raise(&sample.uses);
+            }
+        }
+        most
     }
 
     /// Gives how each of these tenants did of late, so many seconds after the start.
@@ -145,7 +168,10 @@ impl Samples {
             Some(value) => value.figure,
             None => 0,
         };
-        let most = most_of(&values);
+        let mut most = 0;
+        for value in &values {
+            most = value.figure.max(most);
+        }
         Curve {
             last,
             most,
@@ -172,24 +198,19 @@ impl Samples {
 fn all_counted(meters: &Meters) -> [Counted; MAX_TENANTS] {
     let mut all = [Counted::default(); MAX_TENANTS];
     for (number, one) in all.iter_mut().enumerate() {
-        *one = counted_for(meters, number);
+        // There is room for all tenants.
+        if number < MAX_TENANTS {
+            let counts = meters.tenant(number).counts();
+            *one = Counted {
+                made: counts.cas.replies.yes,
+                changes: total(&counts.cas.time.counts),
+                change_nanos: counts.cas.time.sum_nanos,
+                syncs: total(&counts.sync.time.counts),
+                sync_nanos: counts.sync.time.sum_nanos,
+            };
+        }
     }
     all
-}
-
-/// Gives what is counted for the tenant of this number.
-fn counted_for(meters: &Meters, tenant: usize) -> Counted {
-    if tenant >= MAX_TENANTS {
-        return Counted::default();
-    }
-    let counts = meters.tenant(tenant).counts();
-    Counted {
-        made: counts.cas.replies.yes,
-        changes: total(&counts.cas.time.counts),
-        change_nanos: counts.cas.time.sum_nanos,
-        syncs: total(&counts.sync.time.counts),
-        sync_nanos: counts.sync.time.sum_nanos,
-    }
 }
 
 /// Adds counts.
@@ -226,15 +247,6 @@ fn value_between(before: &Sample, after: &Sample, tenant: usize, figure: Figure)
 /// Gives how much of the sum comes on each, or 0 if there is none.
 fn share(sum: u64, count: u64) -> u64 {
     sum.checked_div(count).unwrap_or(0)
-}
-
-/// Gives the highest of these figures, or 0 if there is none.
-fn most_of(values: &[Value]) -> u64 {
-    let mut most = 0;
-    for value in values {
-        most = value.figure.max(most);
-    }
-    most
 }
 
 /// Gives the points of these figures, of which `most` is the highest.

@@ -1,19 +1,22 @@
 //! Implements the pages of a server.
 //!
 //! mw_programs makes them. `specs/Shown` says what is shown: change both together, and docs/HTTP.
-ghost use Rattle.std.specs.Prelude.{◌≡◌, ◌≤◌, [], length, IfOk};
+ghost use Rattle.std.specs.Prelude.{◌≡◌, ◌≤◌, length, IfOk};
 ghost use Rattle.mw_server_pages.specs.declared.limits.TheConstants.{MAX_LIMITS};
 ghost use Rattle.mw_words.specs.declared.limits.TheConstants.{MAX_TENANTS};
 ghost use Rattle.mw_http.specs.Targets.{place_of};
 ghost use Rattle.mw_server_pages.specs.Calls.{Call};
 ghost use Rattle.mw_report.specs.Table.{AreWithinLimits};
-ghost use Rattle.mw_server_pages.specs.Shown.{Gives, IsBare, IsFile, IsHealth, IsHealthOf, IsMetrics, IsPageOf, IsStatus};
+ghost use Rattle.mw_server_pages.specs.Shown.{Gives, IsConstant, IsHealth, IsHealthOf, IsMetrics, IsStatus};
 
+use crate::bodies::{bare, page_of};
 use crate::date::date_now;
-use crate::file_copies::{FileCopies, NoCopy};
+use crate::file_copies::FileCopies;
+use crate::file_pages::{file, words};
 use crate::health::{are_well, health_text};
-use crate::limits::{MAX_LIMITS, NearLimit};
-use crate::near::{Capacity, near_limits};
+use crate::limits::{Limit, MAX_LIMITS};
+use crate::look::{SCRIPT, STYLE};
+use crate::near::Capacity;
 use crate::pages::{Date, Page, Pages};
 use crate::recents::Recent;
 use crate::samples::Samples;
@@ -78,20 +81,16 @@ impl<'a, S: Drop, F: Drop, R: AllocGlobal + Clock> ServerPages<'a, S, F, R> {
     }
 }
 
-impl<S, F, R: Clock> ServerPages<'_, S, F, R> {
-    /// Gives how many seconds ago it started.
-    fn seconds(&self) -> u64 {
-        self.started.nanos(self.rt) / SECOND
-    }
-}
-
 impl<S: Service, F: FileCopies, R: AllocGlobal + Clock> Pages for ServerPages<'_, S, F, R> {
     ghost answered = { λ old call new. Gives S.answered F.copied old.version.items old.service old.files call new.service new.files };
 
     fn page(&mut self, route: &Route) -> Page {
-        let seconds = self.seconds();
+        let seconds = self.started.nanos(self.rt) / SECOND;
         match route {
             Route::File(name) => file(self.rt.alloc(), self.files.copy(name)),
+            Route::Words(name) => words(self.rt.alloc(), self.files.copy(name)),
+            Route::Style => constant(self.rt.alloc(), ContentType::Style, STYLE),
+            Route::Script => constant(self.rt.alloc(), ContentType::Script, SCRIPT),
             Route::Health => {
                 let figures = self.service.figures();
                 self.samples.look(seconds, &figures, self.meters);
@@ -106,7 +105,10 @@ impl<S: Service, F: FileCopies, R: AllocGlobal + Clock> Pages for ServerPages<'_
                 let figures = self.service.figures();
                 self.samples.look(seconds, &figures, self.meters);
                 let recents = self.samples.recents(seconds, &figures);
-                let limits = near_limits(&figures, self.meters, self.capacity);
+                let limits = self
+                    .samples
+                    .most_uses(seconds)
+                    .limits(&figures, self.capacity);
                 let (alloc, version) = (self.rt.alloc(), &self.version);
                 status(
                     alloc,
@@ -126,46 +128,11 @@ impl<S: Service, F: FileCopies, R: AllocGlobal + Clock> Pages for ServerPages<'_
     }
 }
 
-/// Gives the copy of a tenant's file, or tells by a status why there is none.
-fn file(alloc: Global, copy: Result<Vec<u8>, NoCopy>) -> Page
-    ensures { IsFile copy result }
+/// Gives a text that is always the same, or an error without a body if there was no memory for it.
+fn constant(alloc: Global, kind: ContentType, text: &str) -> Page
+    ensures { IsConstant kind text.now result }
 {
-    match copy {
-        Ok(bytes) => Page {
-            status: Status::Ok,
-            kind: ContentType::Bytes,
-            body: bytes,
-        },
-        Err(NoCopy::NoTenant) => bare(alloc, Status::NotFound),
-        Err(NoCopy::Failed) => bare(alloc, Status::Unavailable),
-        Err(NoCopy::Disk | NoCopy::Memory) => bare(alloc, Status::InternalError),
-    }
-}
-
-/// Gives an answer of this status, without a body.
-fn bare(alloc: Global, status: Status) -> Page
-    ensures { IsBare status result }
-{
-    Page {
-        status,
-        kind: ContentType::Text,
-        body: Vec::new(alloc),
-    }
-}
-
-/// Gives a page of this body, or an error without a body if there was no memory for it.
-fn page_of(
-    alloc: Global,
-    status: Status,
-    kind: ContentType,
-    body: Result<Vec<u8>, AllocError>,
-) -> Page
-    ensures { IsPageOf status kind body result }
-{
-    match body {
-        Ok(body) => Page { status, kind, body },
-        Err(_) => bare(alloc, Status::InternalError),
-    }
+    page_of(alloc, Status::Ok, kind, copied(alloc, text.as_bytes()))
 }
 
 /// Tells whether all tenants are up and their files in their places, and which are not.
@@ -226,7 +193,7 @@ fn status(
     version: &Version,
     seconds: u64,
     figures: Figures,
-    limits: &[NearLimit],
+    limits: &[Limit],
     recents: &[Recent],
 ) -> Page
     requires limits { AreWithinLimits figures.tenants.items figures.pool_free }

@@ -4,18 +4,15 @@
 ghost use Rattle.std.specs.Prelude.{◌≡◌, ◌+◌, ◌*◌, ◌≤◌, ◌++◌, length, IfOk};
 ghost use Rattle.mw_words.specs.declared.limits.TheConstants.{MAX_TENANTS};
 ghost use Rattle.mw_server_pages.specs.declared.text.TheConstants.{MAX_PAGE, MAX_VERSION};
-ghost use Rattle.mw_server_pages.specs.declared.limits.TheConstants.{MAX_LIMIT, MAX_LIMITS};
-ghost use Rattle.mw_server_pages.specs.declared.recents.TheConstants.{MAX_RECENT};
-ghost use Rattle.mw_server_pages.specs.declared.tenant_rows.TheConstants.{MAX_ROW, MAX_DOWN_NAME};
+ghost use Rattle.mw_server_pages.specs.declared.limits.TheConstants.{MAX_LIMITS};
+ghost use Rattle.mw_server_pages.specs.declared.tenant_rows.TheConstants.{MAX_ROW, MAX_UNWELL_NAME};
 ghost use Rattle.mw_server_pages.specs.StatusPage as spec;
 
 use crate::health::are_well;
-use crate::limits::{MAX_LIMITS, NearLimit, put_limits};
-use crate::recents::{MAX_RECENT, Recent, put_recents};
+use crate::limits::{Limit, MAX_LIMITS, put_limits};
+use crate::recents::{Recent, put_recents};
 use crate::spans::put_span;
-use crate::tenant_rows::{
-    MAX_DOWN_NAME, MAX_ROW, are_kept, are_up, put_down_names, put_replaced_names, put_rows,
-};
+use crate::tenant_rows::{MAX_ROW, MAX_UNWELL_NAME, put_rows, put_unwell_names};
 use crate::text::{MAX_PAGE, MAX_VERSION, Text};
 use mw_metrics::TenantMetrics;
 use mw_words::MAX_TENANTS;
@@ -23,7 +20,7 @@ use std::alloc::{AllocError, Global};
 
 /// Gives the status page of a server of this version that is up for so many seconds.
 ///
-/// It has a row for each of these tenants, the free slots of the pool, these limits that are near, and a row for each of these
+/// It has a row for each of these tenants, the free slots of the pool, a row for each of these limits, and one for each of these
 /// curves. There are at most [`MAX_TENANTS`] tenants, and as many curves. The version has at most [`MAX_VERSION`] bytes. Memory
 /// is asked for once, [`MAX_PAGE`] bytes.
 ///
@@ -36,7 +33,7 @@ pub fn status_page(
     version: &[u8],
     seconds: u64,
     tenants: &[TenantMetrics],
-    limits: &[NearLimit],
+    limits: &[Limit],
     recents: &[Recent],
     pool_free: u16,
 ) -> Result<Vec<u8>, AllocError>
@@ -51,35 +48,21 @@ pub fn status_page(
     put_about(&mut text, version, seconds);
     put_summary(&mut text, tenants);
     put_limits(&mut text, limits);
-    put_table(&mut text, tenants);
     put_recents(&mut text, recents);
+    put_table(&mut text, tenants);
     put_end(&mut text, pool_free);
     Ok(text.bytes)
 }
 
 #[tactic(auto, unfolding(crate::specs::StatusPage::front))]
 fn put_front(text: &mut Text)
-    requires { length text.old.bytes.items + 400 ≤ MAX_PAGE }
+    requires { length text.old.bytes.items + 600 ≤ MAX_PAGE }
     ensures front { text.new.bytes.items ≡ text.old.bytes.items ++ spec.front }
-    ensures room { length text.new.bytes.items ≤ length text.old.bytes.items + 400 }
+    ensures room { length text.new.bytes.items ≤ length text.old.bytes.items + 600 }
 {
     text.put(
-        b"<!DOCTYPE html>\n<html lang=\"en\">\n<head>\n<meta charset=\"utf-8\">\n<meta http-equiv=\"refresh\" content=\"10\">\n<title>Mondlexi</title>\n",
+        b"<!DOCTYPE html>\n<html lang=\"en\">\n<head>\n<meta charset=\"utf-8\">\n<meta name=\"viewport\" content=\"width=device-width\">\n<meta http-equiv=\"Content-Security-Policy\" content=\"default-src 'self'\">\n<noscript><meta http-equiv=\"refresh\" content=\"10\"></noscript>\n<title>Mondlexi</title>\n<link rel=\"stylesheet\" href=\"status.css\">\n<script src=\"status.js\" defer></script>\n</head>\n<body>\n<h1>Mondlexi</h1>\n<div id=\"state\">\n",
     );
-    put_style(text);
-    text.put(b"</head>\n<body>\n<h1>Mondlexi</h1>\n");
-}
-
-#[tactic(auto, unfolding(crate::specs::StatusPage::style))]
-fn put_style(text: &mut Text)
-    requires { length text.old.bytes.items + 200 ≤ MAX_PAGE }
-    ensures style { text.new.bytes.items ≡ text.old.bytes.items ++ spec.style }
-    ensures room { length text.new.bytes.items ≤ length text.old.bytes.items + 200 }
-{
-    text.put(
-        b"<style>\nbody{font-family:sans-serif;margin:2em}\ntd,th{padding:.2em .8em;text-align:left}\n.down{background:#fcc}\n",
-    );
-    text.put(b"rect{fill:#ccc}\nrect+rect{fill:#396}\npolyline{fill:none;stroke:#369}\n</style>\n");
 }
 
 #[tactic(auto, unfolding(crate::specs::StatusPage::about))]
@@ -96,58 +79,31 @@ fn put_about(text: &mut Text, version: &[u8], seconds: u64)
     text.put(b".</p>\n");
 }
 
-#[tactic(auto, unfolding(crate::specs::StatusPage::summary))]
+#[tactic(auto, unfolding(crate::specs::StatusPage::summary, crate::specs::StatusPage::unwell))]
 fn put_summary(text: &mut Text, tenants: &[TenantMetrics])
     requires few { length tenants.now ≤ MAX_TENANTS }
-    requires room { length text.old.bytes.items + 2 * (40 + MAX_TENANTS * MAX_DOWN_NAME) ≤ MAX_PAGE }
+    requires room { length text.old.bytes.items + (50 + MAX_TENANTS * MAX_UNWELL_NAME) ≤ MAX_PAGE }
     ensures summary { text.new.bytes.items ≡ text.old.bytes.items ++ spec.summary tenants.now }
-    ensures room { length text.new.bytes.items ≤ length text.old.bytes.items + 2 * (40 + MAX_TENANTS * MAX_DOWN_NAME) }
+    ensures room { length text.new.bytes.items ≤ length text.old.bytes.items + (50 + MAX_TENANTS * MAX_UNWELL_NAME) }
 {
     if are_well(tenants) {
-        text.put(b"<p>All tenants are up.</p>\n");
+        text.put(b"<p class=\"up\">All tenants are up.</p>\n");
     } else {
-        put_down(text, tenants);
-        put_replaced(text, tenants);
-    }
-}
-
-#[tactic(auto, unfolding(crate::specs::StatusPage::down))]
-fn put_down(text: &mut Text, tenants: &[TenantMetrics])
-    requires few { length tenants.now ≤ MAX_TENANTS }
-    requires room { length text.old.bytes.items + (40 + MAX_TENANTS * MAX_DOWN_NAME) ≤ MAX_PAGE }
-    ensures down { text.new.bytes.items ≡ text.old.bytes.items ++ spec.down tenants.now }
-    ensures room { length text.new.bytes.items ≤ length text.old.bytes.items + (40 + MAX_TENANTS * MAX_DOWN_NAME) }
-{
-    if !are_up(tenants) {
-        text.put(b"<p><strong>Down:");
-        put_down_names(text, tenants);
-        text.put(b".</strong></p>\n");
-    }
-}
-
-#[tactic(auto, unfolding(crate::specs::StatusPage::replaced))]
-fn put_replaced(text: &mut Text, tenants: &[TenantMetrics])
-    requires few { length tenants.now ≤ MAX_TENANTS }
-    requires room { length text.old.bytes.items + (40 + MAX_TENANTS * MAX_DOWN_NAME) ≤ MAX_PAGE }
-    ensures replaced { text.new.bytes.items ≡ text.old.bytes.items ++ spec.replaced tenants.now }
-    ensures room { length text.new.bytes.items ≤ length text.old.bytes.items + (40 + MAX_TENANTS * MAX_DOWN_NAME) }
-{
-    if !are_kept(tenants) {
-        text.put(b"<p><strong>Replaced:");
-        put_replaced_names(text, tenants);
-        text.put(b".</strong></p>\n");
+        text.put(b"<p class=\"down\">Not well:");
+        put_unwell_names(text, tenants);
+        text.put(b".</p>\n");
     }
 }
 
 #[tactic(auto, unfolding(crate::specs::StatusPage::table))]
 fn put_table(text: &mut Text, tenants: &[TenantMetrics])
     requires few { length tenants.now ≤ MAX_TENANTS }
-    requires room { length text.old.bytes.items + (150 + MAX_TENANTS * MAX_ROW) ≤ MAX_PAGE }
+    requires room { length text.old.bytes.items + (200 + MAX_TENANTS * MAX_ROW) ≤ MAX_PAGE }
     ensures table { text.new.bytes.items ≡ text.old.bytes.items ++ spec.table tenants.now }
-    ensures room { length text.new.bytes.items ≤ length text.old.bytes.items + (150 + MAX_TENANTS * MAX_ROW) }
+    ensures room { length text.new.bytes.items ≤ length text.old.bytes.items + (200 + MAX_TENANTS * MAX_ROW) }
 {
     text.put(
-        b"<table>\n<tr><th>Tenant</th><th>State</th><th>Words</th><th>Changes under way</th><th></th><th>Record places</th></tr>\n",
+        b"<h2>Tenants</h2>\n<table class=\"tenants\">\n<tr><th>Tenant</th><th>State</th><th>Words</th><th>Changes under way</th><th>Record places</th></tr>\n",
     );
     put_rows(text, tenants);
     text.put(b"</table>\n");
@@ -155,12 +111,12 @@ fn put_table(text: &mut Text, tenants: &[TenantMetrics])
 
 #[tactic(auto, unfolding(crate::specs::StatusPage::end))]
 fn put_end(text: &mut Text, pool_free: u16)
-    requires { length text.old.bytes.items + 200 ≤ MAX_PAGE }
+    requires { length text.old.bytes.items + 250 ≤ MAX_PAGE }
     ensures end { text.new.bytes.items ≡ text.old.bytes.items ++ spec.end pool_free }
 {
     text.put(b"<p>Free slots of the pool: ");
     text.put_number(u64::from(pool_free));
     text.put(
-        b".</p>\n<p><a href=\"metrics\">Figures for Prometheus</a>, <a href=\"healthz\">health</a></p>\n</body>\n</html>\n",
+        b".</p>\n</div>\n<p><a href=\"metrics\">Figures for Prometheus</a>, <a href=\"healthz\">health</a></p>\n</body>\n</html>\n",
     );
 }

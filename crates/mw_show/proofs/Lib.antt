@@ -1,3 +1,2 @@
 pub mod Lowest
 pub mod Parts
-pub mod Written

@@ -8,5 +8,5 @@ use Rattle.mw_server_pages.proofs.recents.put_rows.Given as goal
 abbrev pub invariant-loop-recent : goal.invariant-loop-recent
 invariant-loop-recent l = record {
   rows : l.text.bytes.items ++ flat_map recent (drop l.recent-index l.recents) ≡ l.initial.text.bytes.items ++ flat_map recent l.recents;
-  room : length l.text.bytes.items ≤ length l.initial.text.bytes.items + l.recent-index * 2300;
+  room : length l.text.bytes.items ≤ length l.initial.text.bytes.items + l.recent-index * 2450;
 }

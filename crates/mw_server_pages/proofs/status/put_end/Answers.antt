@@ -9,7 +9,7 @@ unfolding end
 returns c =
     let number1 : c.put_number.new.self.bytes.items ≡ c.put.new.self.bytes.items ++ decimal c.args.pool_free = search rules in
     record {
-      end = before c.args.text.now.bytes.items (codes "<p>Free slots of the pool: " ++ decimal c.args.pool_free) (codes ".</p>\n<p><a href=\"metrics\">Figures for Prometheus</a>, <a href=\"healthz\">health</a></p>\n</body>\n</html>\n")
+      end = before c.args.text.now.bytes.items (codes "<p>Free slots of the pool: " ++ decimal c.args.pool_free) (codes ".</p>\n</div>\n<p><a href=\"metrics\">Figures for Prometheus</a>, <a href=\"healthz\">health</a></p>\n</body>\n</html>\n")
           (before c.args.text.now.bytes.items (codes "<p>Free slots of the pool: ") (decimal c.args.pool_free)
           c.put.ensures.bytes number1) c.put-2.ensures.bytes;
     }

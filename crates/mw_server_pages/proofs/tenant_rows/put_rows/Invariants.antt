@@ -8,5 +8,5 @@ use Rattle.mw_server_pages.proofs.tenant_rows.put_rows.Given as goal
 abbrev pub invariant-loop-tenant : goal.invariant-loop-tenant
 invariant-loop-tenant l = record {
   rows : l.text.bytes.items ++ flat_map row (drop l.tenant-index l.tenants) ≡ l.initial.text.bytes.items ++ flat_map row l.tenants;
-  room : length l.text.bytes.items ≤ length l.initial.text.bytes.items + l.tenant-index * 472;
+  room : length l.text.bytes.items ≤ length l.initial.text.bytes.items + l.tenant-index * 268;
 }

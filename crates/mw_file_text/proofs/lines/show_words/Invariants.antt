@@ -1,0 +1,12 @@
+-- States what stays true from turn to turn in the loops of `show_words` (src/lines.rt). Used by: the proof of that function
+-- alone. It may change freely as long as this crate checks.
+use Rattle.std.specs.List.{flat_map, range_with_len}
+use Rattle.std.specs.Io.KnownBytes.{Appends}
+use Rattle.mw_file_text.specs.Text.{word_at, word_text}
+use Rattle.mw_file_text.proofs.lines.show_words.Given as goal
+
+-- the words so far were written
+abbrev pub invariant-loop-addr : goal.invariant-loop-addr
+invariant-loop-addr g l =
+    Appends (g.O.Write.contents l.initial.out) (g.O.Write.contents l.out)
+    (flat_map (λ addr. word_text l.all_words addr (word_at l.image addr)) (range_with_len 0 l.addr))

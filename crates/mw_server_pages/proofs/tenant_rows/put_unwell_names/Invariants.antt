@@ -1,0 +1,12 @@
+-- States what stays true from turn to turn in the loop of `put_unwell_names` (src/tenant_rows.rt). Used by: the proof of that
+-- function alone. It may change freely as long as this crate checks.
+use Rattle.std.proofs.Common.{◌≡◌, ◌+◌, ◌*◌, ◌≤◌, ◌++◌, length, drop, flat_map}
+use Rattle.mw_server_pages.specs.StatusPage.{unwell_name}
+use Rattle.mw_server_pages.proofs.tenant_rows.put_unwell_names.Given as goal
+
+-- what is put so far and what is left is all
+abbrev pub invariant-loop-tenant : goal.invariant-loop-tenant
+invariant-loop-tenant l = record {
+  names : l.text.bytes.items ++ flat_map unwell_name (drop l.tenant-index l.tenants) ≡ l.initial.text.bytes.items ++ flat_map unwell_name l.tenants;
+  room : length l.text.bytes.items ≤ length l.initial.text.bytes.items + l.tenant-index * 108;
+}
