@@ -64,6 +64,10 @@ class Counted:
         return await_it(self.awaited.settle())
 
 
+def snapshot(*arguments, **named):
+    return await_it(mondlexi.aio.snapshot(*arguments, **named))
+
+
 class Recipe:
     """A recipe of `mondlexi.recipes.aio`, whose calls block."""
 

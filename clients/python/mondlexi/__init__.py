@@ -15,7 +15,8 @@ equal, writes a new value to each: durably, and wholly or not at all.
 `Client` speaks for one tenant, `Administrator` asks how all tenants are. Both are told where the server listens: at a host
 and a port, as "127.0.0.1:7000", "localhost:7000" or "[::1]:7000"; or, on this machine, at a local socket, as
 "unix:/run/mondlexi/socket", which is a file that this process has to be allowed to write. Whoever runs the server knows.
-`Counted` makes changes over a client, of which it finds out whether they were made if a reply is lost. `mondlexi.recipes` has
+`Counted` makes changes over a client, of which it finds out whether they were made if a reply is lost. `snapshot` gives all words
+of a tenant at one moment, if the server shows its pages (`--http`). `mondlexi.recipes` has
 locks, an allocator, indexes, a queue and more. `mondlexi.aio` has the same for asyncio, and `mondlexi.recipes.aio`.
 `python3 -m mondlexi 127.0.0.1:7000 t` is a shell.
 
@@ -45,6 +46,8 @@ of a `Client` do so for some seconds, also after a late reply. `cas` never does:
 *Undecided*: it was made, or it wasn't, wholly or not at all; or it is still to be made, as long as the server works on the line
 that it got. Words with their old values don't show that it won't come, and one that is sent again may be made twice.
 
+`snapshot` raises Lost, Fault and Refused, and no others of these.
+
 `Counted` finds out, by a *count*: a word that one thread of one process alone writes, and that each of its changes moves:
 
     own = mondlexi.Counted(client, 7)                         # word 7 is the count
@@ -73,7 +76,7 @@ own, until one is told as made.
 After `close` each call raises Lost and sends nothing, until `reconnect`. An exception from outside that interrupts a call, such as
 KeyboardInterrupt, ends the connection, and a change under way is undecided. The next call of its `Counted` settles it first.
 """
-from ._client import Administrator, Client, Counted
+from ._client import Administrator, Client, Counted, snapshot
 from ._protocol import MAX_ENTRIES, MAX_VALUE, MAX_WORDS, Entry, Outcome, Report, TenantReport
 from .errors import Busy, Error, Fault, Full, Lost, Refused, Unknown, Worn
 
@@ -82,5 +85,5 @@ __version__ = "0.2.0"
 
 __all__ = [
     "Administrator", "Busy", "Client", "Counted", "Entry", "Error", "Fault", "Full", "Lost", "MAX_ENTRIES", "MAX_VALUE",
-    "MAX_WORDS", "Outcome", "Refused", "Report", "TenantReport", "Unknown", "Worn",
+    "MAX_WORDS", "Outcome", "Refused", "Report", "TenantReport", "Unknown", "Worn", "snapshot",
 ]

@@ -1,12 +1,13 @@
 """The client whose calls block: `Client`, `Administrator` and `Counted`, over sessions of sockets.
 
-Used by: `mondlexi`, which gives them to users; `_shell`. `aio` has the same names for asyncio: a call that is added here is added
+It also has `snapshot`, which needs no session. Used by: `mondlexi`, which gives them to users; `_shell`. `aio` has the same names for asyncio: a call that is added here is added
 there.
 """
 import time
 from types import TracebackType
 from typing import TYPE_CHECKING, Iterable, List, Optional, Type, TypeVar
 
+from ._pages import words_at
 from ._protocol import Entry, Outcome, Report, place_of
 from ._session import AdministratorSession, Count, Session, TenantSession, options_of, run
 from ._sockets import SocketLink, checked_tls
@@ -222,3 +223,18 @@ class Counted:
         Raises Unknown, from its cause, as long as it can't tell: after `wait` seconds, or at once from Fault or Worn, until the
         server was started again, and from Refused. RuntimeError if something else has moved the count."""
         return run(self._count.settle())
+
+
+def snapshot(pages: str, tenant: str, *, timeout: float = 10.0) -> List[int]:
+    """The values of all words of a tenant at one moment, in the order of their addresses, from the server's pages.
+
+    `pages`: where they are, the server's `--http`: HOST:PORT or unix:PATH, as of a `Client`. `tenant`: as of a `Client`.
+    `timeout`: for how many seconds to wait for the whole answer; above 0, up to 1,000,000.
+
+    The moment is one between the call and its end. Each change that was told as made before the call is in it, and any other one
+    wholly or not at all. It needs no session, makes no change, and doesn't starve: the server reads the tenant's file once.
+
+    Raises ValueError or TypeError, with nothing sent; Lost, if nobody answers or the answer is not whole; Fault, if the tenant is
+    down; Refused, with a status of HTTP as its number. No exception changes anything."""
+    place = place_of(pages)
+    return run(words_at(SocketLink(place, None), place, tenant, timeout))

@@ -114,6 +114,15 @@ def seconds_of(name: str, seconds: float, zero_allowed: bool) -> float:
     return float(seconds)
 
 
+def checked_name(name: str) -> str:
+    """This name, if a tenant can have it."""
+    if not isinstance(name, str):
+        raise TypeError(f"a tenant's name is a text, not {name!r}")
+    if not re.fullmatch("[a-z][a-z0-9-]{0,15}", name):
+        raise ValueError('a tenant has a name of a to z, then up to 15 of a to z, 0 to 9 and "-"')
+    return name
+
+
 def checked_address(address: int, words: int) -> int:
     """This address, if a tenant of so many words has it."""
     address = operator.index(address)
@@ -187,11 +196,7 @@ class Question(Generic[Answer]):
 
 def tenant_greeting(name: str) -> Question[int]:
     """To speak for this tenant. The answer is the number of its words."""
-    if not isinstance(name, str):
-        raise TypeError(f"a tenant's name is a text, not {name!r}")
-    if not re.fullmatch("[a-z][a-z0-9-]{0,15}", name):
-        raise ValueError('a tenant has a name of a to z, then up to 15 of a to z, 0 to 9 and "-"')
-    return Question([f"TENANT {name}"], lambda replies: _words_of(replies[0][0]))
+    return Question([f"TENANT {checked_name(name)}"], lambda replies: _words_of(replies[0][0]))
 
 
 def administrator_greeting() -> Question[int]:

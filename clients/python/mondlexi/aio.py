@@ -22,6 +22,7 @@ import time
 from types import TracebackType
 from typing import TYPE_CHECKING, Any, Awaitable, ContextManager, Coroutine, Iterable, List, Optional, Tuple, Type, TypeVar
 
+from ._pages import words_at
 from ._protocol import Answer, Entry, LocalSocket, Outcome, Place, Port, Report, place_of
 from ._session import FIRST_PAUSE, AdministratorSession, Count, Link, Session, TenantSession, options_of, paused
 from ._sockets import PIECE, Tls, checked_tls, stop_unless_other_end
@@ -29,7 +30,7 @@ from ._sockets import PIECE, Tls, checked_tls, stop_unless_other_end
 if TYPE_CHECKING:
     import ssl
 
-__all__ = ["Administrator", "Client", "Counted"]
+__all__ = ["Administrator", "Client", "Counted", "snapshot"]
 
 _Streams = Tuple[asyncio.StreamReader, asyncio.StreamWriter]
 _Own = TypeVar("_Own", bound="_Awaited")
@@ -298,3 +299,9 @@ class Counted:
     async def settle(self) -> bool:
         """Whether the last change was made, as `mondlexi.Counted.settle`."""
         return await self._count.settle()
+
+
+async def snapshot(pages: str, tenant: str, *, timeout: float = 10.0) -> List[int]:
+    """The values of all words of a tenant at one moment, as `mondlexi.snapshot`."""
+    place = place_of(pages)
+    return await words_at(_StreamLink(place, None), place, tenant, timeout)

@@ -14,6 +14,9 @@ _MEANINGS = {
     8: "the change has too many entries",
     9: "a value is too great",
     10: "the command isn't for this kind of session",
+    404: "no tenant has this name, or the server is too old for it",
+    421: "the pages are not called by this name",
+    500: "no copy of the file could be made",
 }
 
 
@@ -68,7 +71,8 @@ class Refused(Error):
     """The server refuses a line and has done nothing.
 
     `line`: what was sent; `number`: that of its `ERR`; `meaning`: what this stands for, a text. This client checks all else
-    before it sends, so the usual number is 5: no tenant has the name, or, at a proxy, not for this client."""
+    before it sends, so the usual number is 5: no tenant has the name, or, at a proxy, not for this client. From `snapshot` the
+    number is a status of HTTP: 404 if no tenant has the name."""
 
     def __init__(self, line: str, number: int) -> None:
         super().__init__(line, number)
