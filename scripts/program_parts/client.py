@@ -133,12 +133,31 @@ def try_a_connection_to_itself(clients):
         port = listener.getsockname()[1]
     connect, stream = socket.create_connection, asyncio.open_connection
     socket.create_connection = lambda at, timeout: connect(at, timeout, at)
-    asyncio.open_connection = lambda host, port: stream(host, port, local_addr=(host, port))
+    asyncio.open_connection = lambda host, port, **more: stream(host, port, local_addr=(host, port), **more)
     try:
         error = raises(mondlexi.Lost, "a connection to itself", clients.Client, at(port), "t")
     finally:
         socket.create_connection, asyncio.open_connection = connect, stream
     same("nobody listens" in str(error), True, f"what is said of a connection to itself: {error}")
+
+
+def try_a_host_of_several_addresses(clients):
+    """A host's name may have several addresses: of a machine that says nothing, of one that refuses, and of one that serves."""
+    with socket.create_server((HOST, 0)) as unused:
+        port = unused.getsockname()[1]
+    peer = Peer("OK 9\n", "VAL 7\n", "B", host="127.0.0.3", port=port)
+    with socket.socket() as silent, socket.socket() as first:
+        silent.bind(("127.0.0.2", port))
+        silent.listen(0)
+        first.connect(("127.0.0.2", port))
+        found = [(socket.AF_INET, socket.SOCK_STREAM, 6, "", (f"127.0.0.{number}", port)) for number in (1, 2, 3)]
+        look = socket.getaddrinfo
+        socket.getaddrinfo = lambda host, *rest, **more: found if host == "several" else look(host, *rest, **more)
+        try:
+            with clients.Client(f"several:{port}", "t", timeout=2.0) as client:
+                same(client.get(0), 7, "get at the third address of a host")
+        finally:
+            socket.getaddrinfo = look
 
 
 def try_a_late_change(clients, server):
@@ -197,6 +216,7 @@ def told(clients, kind, *texts, call="cas", lines=None, holds=False, waits=PATIE
 def try_peers(clients, folder):
     """What no server says today, or not at will, is said by a peer; and where there is none."""
     try_a_connection_to_itself(clients)
+    try_a_host_of_several_addresses(clients)
     try_a_full_local_socket(clients, folder)
     peer = Peer("OK 9\n", "BUSY\n", "BUSY\n", "YES\n", "B")
     with clients.Client(peer.at, "t") as client:

@@ -89,9 +89,9 @@ class Peer:
     """A server of one connection, which says the texts given, one for each line that it is sent; then it closes, or, where
     it is to hold, is silent until the client closes."""
 
-    def __init__(self, *texts, holds=False):
-        self.listener = socket.create_server((HOST, 0))
-        self.at = at(self.listener.getsockname()[1])
+    def __init__(self, *texts, holds=False, host=HOST, port=0):
+        self.listener = socket.create_server((host, port))
+        self.at = f"{host}:{self.listener.getsockname()[1]}"
         self.lines = []
         self.thread = threading.Thread(target=self.serve, args=(texts, holds), daemon=True)
         self.thread.start()

@@ -135,10 +135,25 @@ def _other_end(connection: socket.socket) -> object:
         raise ConnectionResetError("the server closed the connection") from error
 
 
+def _to_one_of(place: Port, timeout: float) -> socket.socket:
+    """A connection to the first of the host's addresses that takes one; OSError if none does. Each has an equal share of the time that is
+    left, so that a machine which says nothing leaves some to the others."""
+    end = time.monotonic() + timeout
+    addresses = socket.getaddrinfo(place.host, place.port, type=socket.SOCK_STREAM)
+    places = [place] if len(addresses) == 1 else [Port(str(address[0]), place.port) for *_, address in addresses]
+    for number, one in enumerate(places):
+        try:
+            return socket.create_connection(one, max(0.001, (end - time.monotonic()) / (len(places) - number)))
+        except OSError:
+            if number + 1 == len(places):
+                raise
+    raise OSError("the host has no address")
+
+
 def _over_tcp(place: Port, tls: Optional[Tls], timeout: float) -> socket.socket:
     """A connection; OSError if there is none within so many seconds, with nothing left open."""
     end = time.monotonic() + timeout
-    connection = socket.create_connection(place, timeout)
+    connection = _to_one_of(place, timeout)
     try:
         stop_unless_other_end(connection.getsockname(), _other_end(connection))
         connection.setsockopt(socket.IPPROTO_TCP, socket.TCP_NODELAY, 1)

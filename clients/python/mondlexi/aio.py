@@ -32,6 +32,8 @@ if TYPE_CHECKING:
 
 __all__ = ["Administrator", "Client", "Counted", "snapshot"]
 
+NEXT_ADDRESS = 0.25
+"""After so many seconds without an answer the host's next address is tried too."""
 _Streams = Tuple[asyncio.StreamReader, asyncio.StreamWriter]
 _Own = TypeVar("_Own", bound="_Awaited")
 
@@ -162,9 +164,10 @@ class _StreamLink(Link):
 async def _over_tcp(place: Port, tls: Optional[Tls]) -> _Streams:
     """A connection; OSError if there is none, with nothing left open."""
     if tls:
-        reader, writer = await asyncio.open_connection(place.host, place.port, ssl=tls.context, server_hostname=tls.name)
+        reader, writer = await asyncio.open_connection(place.host, place.port, ssl=tls.context, server_hostname=tls.name,
+                                                       happy_eyeballs_delay=NEXT_ADDRESS)
     else:
-        reader, writer = await asyncio.open_connection(place.host, place.port)
+        reader, writer = await asyncio.open_connection(place.host, place.port, happy_eyeballs_delay=NEXT_ADDRESS)
     try:
         stop_unless_other_end(writer.get_extra_info("sockname"), writer.get_extra_info("peername"))
     except BaseException:
