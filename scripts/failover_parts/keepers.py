@@ -1,0 +1,124 @@
+"""The server on each host, started again whenever it ends, as a service manager does: by contrib/ha/mondlexi-ha, or mwserve alone.
+
+Used by: scripts/check-failover.
+"""
+import re
+import signal
+import subprocess
+import threading
+import time
+from pathlib import Path
+from typing import Dict, List, NamedTuple, Optional
+
+from program_parts.common import MWINIT, MWSERVE
+
+from . import gluster
+from .hosts import Host, Network, Wrong
+from .load import QUOTA, TENANT, WORDS, Place
+
+PORT = 7000
+SERVER = "a"
+KEEPER = gluster.TOP / "contrib/ha/mondlexi-ha"
+TIMES = "/run/times"
+FILE = f"{TENANT}.mw"
+MANAGED = f"""
+while :; do
+  {{ [ -e {TIMES}.fixed ] && cp {TIMES}.fixed {TIMES}; }} || {gluster.SCRIPT} times {gluster.VOLUME} --write {TIMES}
+  [ -e {TIMES} ] && {KEEPER} {gluster.MOUNTED}/{SERVER} --times {TIMES} -- {MWSERVE} --strict --verbose --workers 32 --open --listen "$1"
+  sleep 1
+done
+"""
+BARE = f"""
+cd {gluster.MOUNTED}/{SERVER}/first
+while :; do
+  {MWSERVE} --tenants tenants --strict --workers 32 --open --listen "$1"
+  sleep 0.3
+done
+"""
+SERVES = re.compile(r"^(mondlexi-ha: serves .*|ready \d+)$")
+
+
+class Note(NamedTuple):
+    """A line of a host's server, or of what keeps it, and when it was read."""
+    at: int
+    host: int
+    line: str
+
+
+class Keeper:
+    """What keeps a server on one host, while the host is on."""
+
+    def __init__(self, host: Host, notes: List[Note], script: str):
+        self.host, self.notes = host, notes
+        # (In a file: its processes are found by their command lines.)
+        host.path("/run/keeper").write_text(script)
+        words = host.words("bash", "/run/keeper", f"{host.address}:{PORT}")
+        self.process = subprocess.Popen(words, stdin=subprocess.DEVNULL, stdout=subprocess.PIPE, stderr=subprocess.STDOUT)
+        threading.Thread(target=self.hear, daemon=True).start()
+
+    def hear(self) -> None:
+        assert self.process.stdout
+        for line in self.process.stdout:
+            self.notes.append(Note(time.monotonic_ns(), self.host.number, line.decode(errors="replace").rstrip("\n")))
+
+    def end(self) -> None:
+        """Ends it, and its server."""
+        if self.host.begun:
+            for part in ("/run/keeper", "mondlexi-ha", "mwserve"):
+                self.host.signal(signal.SIGKILL, part)
+        # (nsenter stops itself with the process that it began.)
+        self.process.send_signal(signal.SIGCONT)
+        self.process.wait()
+
+
+class Keepers:
+    """One on each host."""
+
+    def __init__(self, network: Network, script: str = MANAGED, times: Optional[str] = None):
+        self.network, self.script, self.times = network, script, times
+        self.notes: List[Note] = []
+        self.kept: Dict[int, Keeper] = {}
+        for host in network.hosts:
+            self.begin(host)
+
+    def begin(self, host: Host) -> None:
+        fixed = host.path(f"{TIMES}.fixed")
+        if self.times is None:
+            fixed.unlink(missing_ok=True)
+        else:
+            fixed.write_text(self.times)
+        self.kept[host.number] = Keeper(host, self.notes, self.script)
+
+    def places(self) -> List[Place]:
+        return [(host.address, PORT) for host in self.network.hosts]
+
+    def starts(self) -> List[Note]:
+        """Each start of a server."""
+        return [it for it in list(self.notes) if SERVES.match(it.line)]
+
+    def serving(self, but: int = 0, seconds: float = 60.0) -> Host:
+        """The host that was the last to start a server, once it is ready; another one than this."""
+        end = time.monotonic() + seconds
+        while time.monotonic() < end:
+            ready = [it for it in list(self.notes) if it.line.startswith("ready ") or it.line.startswith("mondlexi-ha: ended by")]
+            if ready and ready[-1].line.startswith("ready ") and ready[-1].host != but:
+                return self.network.hosts[ready[-1].host - 1]
+            time.sleep(0.05)
+        raise Wrong(f"no server in {seconds:.0f} seconds: {[f'{it.host} {it.line}' for it in self.notes[-12:]]}")
+
+    def end(self) -> None:
+        for keeper in self.kept.values():
+            keeper.end()
+
+
+def new_tenant(host: Host) -> None:
+    """The folder of a server with one tenant, whose words are 0."""
+    folder = f"{gluster.MOUNTED}/{SERVER}"
+    host.run("sh", "-c", f"rm -rf {folder}; mkdir -p {folder}/first")
+    host.run("sh", "-c", f"cd {folder}/first && {MWINIT} {FILE} {WORDS} {QUOTA} && echo '{TENANT} {WORDS} {QUOTA} {FILE}' > tenants && sync tenants . .. ../..")
+
+
+def counted(host: Host) -> Path:
+    """The folder that counts, below the volume."""
+    return Path(host.run(KEEPER, "--show", f"{gluster.MOUNTED}/{SERVER}").strip()).relative_to(gluster.MOUNTED)
+

@@ -1,0 +1,69 @@
+"""Changes a second of one server, on the volume and on the same host's own disk.
+
+Used by: scripts/check-failover.
+"""
+import contextlib
+import signal
+import subprocess
+import threading
+import time
+from typing import Iterator, List
+
+from program_parts.common import MWSERVE
+
+from . import gluster
+from .hosts import Host, Wrong
+from .keepers import PORT, SERVER, new_tenant
+from .load import WORDS, Place, Session
+
+SECONDS = 3.0
+LOCAL = "/brick/local"
+
+
+@contextlib.contextmanager
+def server_in(host: Host, folder: str) -> Iterator[Place]:
+    """mwserve over the tenants of a folder, while it is needed."""
+    words = host.words("sh", "-c", f"cd {folder} && exec {MWSERVE} --tenants tenants --strict --workers 32 --open --listen {host.address}:{PORT}")
+    process = subprocess.Popen(words, stdin=subprocess.DEVNULL, stdout=subprocess.PIPE)
+    assert process.stdout
+    try:
+        if process.stdout.readline() != f"ready {PORT}\n".encode():
+            raise Wrong(f"no server in {folder}")
+        yield host.address, PORT
+    finally:
+        host.signal(signal.SIGKILL, str(MWSERVE))
+        process.wait()
+        process.stdout.close()
+
+
+def changes(place: Place, clients: int) -> float:
+    """How many changes a second so many clients make, each of a word of its own."""
+    counts = clients * [0]
+    end = time.monotonic() + SECONDS
+
+    def change(number: int) -> None:
+        with contextlib.closing(Session(0, place)) as session:
+            value = int(session.say(f"GET {number}").split(" ")[1])
+            while time.monotonic() < end:
+                if session.say(f"CAS {number}:{value}:{value + 1}") != "YES":
+                    raise Wrong("a change that nobody hinders was not made")
+                value, counts[number] = value + 1, counts[number] + 1
+
+    threads = [threading.Thread(target=change, args=(number,)) for number in range(clients)]
+    for thread in threads:
+        thread.start()
+    for thread in threads:
+        thread.join()
+    return sum(counts) / SECONDS
+
+
+def lines(host: Host) -> List[str]:
+    """What was timed. The volume has a new tenant after it, with words."""
+    new_tenant(host)
+    volume = f"{gluster.MOUNTED}/{SERVER}/first"
+    host.run("sh", "-c", f"rm -rf {LOCAL} && cp -r {volume} {LOCAL}")
+    found = []
+    for what, folder in (("its own disk", LOCAL), ("the volume", volume)):
+        with server_in(host, folder) as place:
+            found.append(f"on {what} {changes(place, 1):.0f} with one client, {changes(place, WORDS):.0f} with {WORDS}")
+    return [f"changes a second: {'; '.join(found)}"]
