@@ -7,12 +7,13 @@ Used by: scripts/check-failover.
 import random
 import signal
 import time
-from typing import Callable, Iterator, List, NamedTuple, Optional, Sequence
+from typing import Callable, Dict, Iterator, List, NamedTuple, Optional, Sequence
 
 from . import gluster
 from .hosts import Host, Network, Wrong
 from .keepers import BARE, FILE, PORT, Keepers, counted, new_tenant
 from .load import Load, words_at
+from .power import Device
 from .proxy import Proxy
 
 WRITERS = 4
@@ -46,8 +47,8 @@ class Seen(NamedTuple):
 class Trials:
     """Hosts with a volume and servers' keepers, on which trials are made."""
 
-    def __init__(self, network: Network, keepers: Keepers, dice: random.Random, proxy: Optional[Proxy]):
-        self.network, self.keepers, self.dice, self.proxy = network, keepers, dice, proxy
+    def __init__(self, network: Network, keepers: Keepers, dice: random.Random, proxy: Optional[Proxy], devices: Optional[Dict[int, Device]] = None):
+        self.network, self.keepers, self.dice, self.proxy, self.devices = network, keepers, dice, proxy, devices or {}
 
     def others(self, host: Host) -> List[Host]:
         return [it for it in self.network.hosts if it is not host]
@@ -185,6 +186,21 @@ class Trials:
         host.signal(signal.SIGCONT)
         time.sleep(AWAY / 4)
 
+    def power(self, load: Load, host: Host, older: bool = False) -> None:
+        """The serving host and another lose their power at once, and come back."""
+        off = [host, self.dice.choice(self.others(host))]
+        for it in off:
+            it.unplug()
+            it.off()
+        for it in off:
+            self.devices[it.number].lose(older)
+        for it in off:
+            self.back(it)
+
+    def older_power(self, load: Load, host: Host) -> None:
+        """The same, by devices that lack what was written last."""
+        self.power(load, host, True)
+
     def killed(self, load: Load, host: Host) -> None:
         """What keeps the server is killed, as by a mistake."""
         host.signal(signal.SIGKILL, "mondlexi-ha")
@@ -215,6 +231,23 @@ def main_trials(trials: Trials, deaths: int, is_short: bool) -> Iterator[Seen]:
     trials.equal()
     yield trials.run(STOPPED, trials.stopped)
     trials.equal()
+
+
+def power_trials(trials: Trials, number: int) -> Iterator[Seen]:
+    """Two of three hosts lose their power at once, so often."""
+    for turn in range(number):
+        yield trials.run(f"the serving host and another lose their power ({turn + 1} of {number})", trials.power)
+        trials.equal()
+
+
+def lying(trials: Trials) -> List[str]:
+    """What is found where two devices lack what was written last."""
+    for device in trials.devices.values():
+        device.keep()
+    try:
+        return trials.run("two devices lack what was written last", trials.older_power).of_changes
+    except Wrong as error:
+        return [str(error)]
 
 
 def planted(network: Network, dice: random.Random, options: Sequence[str]) -> Seen:

@@ -70,7 +70,7 @@ impl Bench {
     }
 
     /// Makes a call by a layer.
-    fn make<R: Clock>(&self, rt: &R, layer: Layer, call: Call) -> Ended {
+    fn make<'x, R: Clock>(&'x self, rt: &'x R, layer: Layer, call: Call) -> Ended {
         let file = &self.file;
         let made = match layer {
             Layer::Others => make(&file, call),
