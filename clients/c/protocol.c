@@ -1,15 +1,13 @@
 /* The protocol without a connection: which arguments are allowed, the line of each question, and what its reply means. docs/PROTOCOL.md
    has the grammar. */
-#include "parts.h"
-#include <inttypes.h>
+#include "codec.h"
 #include <stdio.h>
 #include <stdlib.h>
 #include <string.h>
 
-enum { MAX_DIGITS = 15, MAX_NUMBER = 99, MAX_PORT = 65535 };
+enum { MAX_DIGITS = 15, MAX_PORT = 65535 };
 
 /* What a caller may ask for. */
-
 
 /* A port from 1 to 65535, of one to five digits, is copied. */
 static int port_of(mondlexi_client *client, const char *text) {
@@ -81,7 +79,7 @@ int mdx_are_entries(const mondlexi_client *client, mondlexi_entry *sorted, const
 /* Parts of replies. */
 
 /* Goes past a text. */
-static int skip(const char **at, const char *text) {
+int mdx_skip(const char **at, const char *text) {
     size_t size = strlen(text);
     if (strncmp(*at, text, size)) {
         return 0;
@@ -91,7 +89,7 @@ static int skip(const char **at, const char *text) {
 }
 
 /* Goes past a number of up to 15 digits, without a zero before others, up to `most`. */
-static int number(const char **at, uint64_t most, uint64_t *value) {
+int mdx_number(const char **at, uint64_t most, uint64_t *value) {
     size_t size = strspn(*at, "0123456789");
     if (size < 1 || size > MAX_DIGITS || (size > 1 && **at == '0')) {
         return 0;
@@ -103,44 +101,37 @@ static int number(const char **at, uint64_t most, uint64_t *value) {
 
 /* What any line may be answered: BUSY, FAULT, WORN, or ERR and a number. OK if it is none of these. */
 mondlexi_status mdx_failure(mondlexi_client *client, const char *line) {
-    uint64_t found;
-    if (!strcmp(line, "BUSY")) {
+    mdx_said said = mdx_read(line);
+    switch (said.kind) {
+    case SAYS_BUSY:
         return MONDLEXI_BUSY;
-    }
-    if (!strcmp(line, "FAULT")) {
+    case SAYS_FAULT:
         return MONDLEXI_FAULT;
-    }
-    if (!strcmp(line, "WORN")) {
+    case SAYS_WORN:
         return MONDLEXI_WORN;
-    }
-    if (skip(&line, "ERR ") && number(&line, MAX_NUMBER, &found) && !*line && found) {
-        client->refusal = (int)found;
+    case SAYS_ERR:
+        client->refusal = (int)said.number;
         return MONDLEXI_REFUSED;
+    default:
+        return MONDLEXI_OK;
     }
-    return MONDLEXI_OK;
 }
 
 /* The greeting: TENANT, answered by the number of its words, or ADMIN. */
 
 static size_t write_greeting(const mdx_question *question, size_t at, char *line) {
     (void)at;
-    if (!question->tenant[0]) {
-        return (size_t)sprintf(line, "ADMIN\n");
-    }
-    return (size_t)sprintf(line, "TENANT %s\n", question->tenant);
+    return question->tenant[0] ? mdx_put_tenant(question->tenant, line) : (size_t)sprintf(line, "ADMIN\n");
 }
 
 static mdx_meaning read_greeting(mdx_question *question, size_t at, size_t part, const char *line) {
-    uint64_t words = 0;
+    mdx_said said = mdx_read(line);
     (void)at;
     (void)part;
-    if (!question->tenant[0]) {
-        return strcmp(line, "OK ADMIN") ? MEANS_NOTHING : MEANS_DONE;
-    }
-    if (!skip(&line, "OK ") || !number(&line, MONDLEXI_MAX_WORDS, &words) || *line || !words) {
+    if (said.kind != (question->tenant[0] ? SAYS_WORDS : SAYS_ADMIN)) {
         return MEANS_NOTHING;
     }
-    question->words = (unsigned)words;
+    question->words = (unsigned)said.number;
     return MEANS_DONE;
 }
 
@@ -151,13 +142,14 @@ mdx_question mdx_greeting(const mondlexi_client *client) {
 /* GET of many words. With more lines than words they are read again, and compared. */
 
 static size_t write_get(const mdx_question *question, size_t at, char *line) {
-    return (size_t)sprintf(line, "GET %u\n", question->addresses[at % question->count]);
+    return mdx_put_get(question->addresses[at % question->count], line);
 }
 
 static mdx_meaning read_get(mdx_question *question, size_t at, size_t part, const char *line) {
-    uint64_t value;
+    mdx_said said = mdx_read(line);
+    uint64_t value = said.number;
     (void)part;
-    if (!skip(&line, "VAL ") || !number(&line, MONDLEXI_MAX_VALUE, &value) || *line) {
+    if (said.kind != SAYS_VALUE) {
         return MEANS_NOTHING;
     }
     if (at == 0) {
@@ -179,13 +171,8 @@ mdx_question mdx_gets(const unsigned *addresses, size_t count, uint64_t *values)
 /* CAS: made, or not because of a word of its own with another value than the one expected. */
 
 static size_t write_change(const mdx_question *question, size_t at, char *line) {
-    size_t size = (size_t)sprintf(line, "CAS");
     (void)at;
-    for (size_t k = 0; k < question->count; k++) {
-        const mondlexi_entry *entry = &question->entries[k];
-        size += (size_t)sprintf(line + size, " %u:%" PRIu64 ":%" PRIu64, entry->address, entry->expected, entry->value);
-    }
-    return size + (size_t)sprintf(line + size, "\n");
+    return mdx_put_cas(question->entries, question->count, line);
 }
 
 /* Whether this word was asked for, and another value expected of it. */
@@ -199,17 +186,16 @@ static int can_miss(const mdx_question *question, uint64_t address, uint64_t val
 }
 
 static mdx_meaning read_change(mdx_question *question, size_t at, size_t part, const char *line) {
-    uint64_t address, value;
+    mdx_said said = mdx_read(line);
     (void)at;
     (void)part;
-    if (!strcmp(line, "YES")) {
+    if (said.kind == SAYS_YES) {
         return MEANS_DONE;
     }
-    if (!skip(&line, "NO ") || !number(&line, MONDLEXI_MAX_WORDS, &address) || !skip(&line, " ") ||
-        !number(&line, MONDLEXI_MAX_VALUE, &value) || *line || !can_miss(question, address, value)) {
+    if (said.kind != SAYS_NO || !can_miss(question, said.address, said.number)) {
         return MEANS_NOTHING;
     }
-    question->miss = (mondlexi_miss){1, (unsigned)address, value};
+    question->miss = (mondlexi_miss){1, said.address, said.number};
     return MEANS_NO;
 }
 
@@ -265,7 +251,7 @@ static mdx_meaning read_report(mdx_question *question, size_t at, size_t part, c
         report->count = part + 1;
         return MEANS_MORE;
     }
-    if (!part || !skip(&line, "free ") || !number(&line, UINT32_MAX, &slots) || *line) {
+    if (!part || !mdx_skip(&line, "free ") || !mdx_number(&line, UINT32_MAX, &slots) || *line) {
         return MEANS_NOTHING;
     }
     report->free = (unsigned)slots;

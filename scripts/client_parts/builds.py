@@ -132,14 +132,23 @@ def try_examples(compiler: str, folder: Path) -> None:
             raise NotBuilt(f"{name}: {found}")
 
 
+def over_proved(folder: Path) -> List[Program]:
+    """Over the proved lines and readings, where they are built."""
+    if not packed.PROVED.is_file():
+        return []
+    ran("make", f"OUT={folder}/out", f"PROVED={packed.PROVED}", "all", f"{folder}/out/play", at=C)
+    return [Program("c over mw_client_c", [f"{folder}/out/play"])]
+
+
 def of_c(folder: Path) -> List[Program]:
-    """By each C compiler; the program of the first one also under valgrind, where it is here."""
+    """By each C compiler, and over what is proved; the program of the first one also under valgrind, where it is here."""
     programs = []
     for compiler in compilers():
         ran("make", f"CC={compiler}", f"OUT={folder}/{compiler}/out", "all", f"{folder}/{compiler}/out/play", at=C)
         install_c(compiler, folder / compiler)
         try_examples(compiler, folder / compiler)
         programs.append(Program(f"c by {compiler}", [f"{folder}/{compiler}/out/play"]))
+    programs += over_proved(folder / "proved")
     check_page(C / "mondlexi.3")
     try_package(folder / "package")
     if shutil.which("valgrind"):

@@ -69,14 +69,16 @@ PROTOCOL = (
      "changes that are refused before they are sent"),
     ("it takes a number with a zero before it", "|| (size > 1 && **at == '0')", "", "answers that are none"),
     ("it takes a value that is too great", "return *value <= most;", "return 1;", "answers that are none"),
-    ("it takes ERR 0", "&& !*line && found) {", "&& !*line) {", "replies that are none"),
-    ("it takes a tenant of no words", "|| *line || !words)", "|| *line)", "a greeting of no words"),
     ("it believes that the value expected is another one", "return question->entries[k].expected != value;", "return 1;",
      "the value that was expected isn't another one"),
     ("it believes a word that it didn't ask for", "    return 0;\n}\n\nstatic mdx_meaning read_change", "    return 1;\n}\n\nstatic mdx_meaning read_change",
      "a word that wasn't asked for"),
     ("it takes a report in any columns", "return !strcmp(line, again);", "return 1;", "a report whose columns are moved"),
-    ("it takes a report of no tenant", "if (!part || !skip", "if (!skip", "a report of no tenant"),
+    ("it takes a report of no tenant", "if (!part || !mdx_skip", "if (!mdx_skip", "a report of no tenant"),
+)
+CODEC = (
+    ("it takes ERR 0", "SAYS_ERR, 1, MAX_REFUSAL", "SAYS_ERR, 0, MAX_REFUSAL", "replies that are none"),
+    ("it takes a tenant of no words", "SAYS_WORDS, 1, MONDLEXI_MAX_WORDS", "SAYS_WORDS, 0, MONDLEXI_MAX_WORDS", "a greeting of no words"),
 )
 CLIENT = (
     ("stable believes one reading", "!gets.differs", "1", "stable of words that change"),
@@ -114,7 +116,7 @@ COUNTED = (
      "a lost reply of a change that was made"),
 )
 ALL = [Wrong(what, f"{file}.c", old, new, case)
-       for file, rows in (("link", LINK), ("session", SESSION), ("protocol", PROTOCOL), ("client", CLIENT), ("counted", COUNTED))
+       for file, rows in (("link", LINK), ("session", SESSION), ("protocol", PROTOCOL), ("codec", CODEC), ("client", CLIENT), ("counted", COUNTED))
        for what, old, new, case in rows]
 
 
