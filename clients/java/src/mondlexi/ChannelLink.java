@@ -1,6 +1,8 @@
 package mondlexi;
 
 import java.io.IOException;
+import java.net.ConnectException;
+import java.net.SocketException;
 import java.net.SocketTimeoutException;
 import java.net.StandardProtocolFamily;
 import java.net.UnixDomainSocketAddress;
@@ -8,6 +10,8 @@ import java.nio.ByteBuffer;
 import java.nio.channels.SelectionKey;
 import java.nio.channels.Selector;
 import java.nio.channels.SocketChannel;
+import java.nio.file.Files;
+import java.nio.file.Path;
 
 /** A connection to a local socket. */
 final class ChannelLink extends Link {
@@ -35,13 +39,20 @@ final class ChannelLink extends Link {
         }
     }
 
-    /** A connection, or null if the socket is full: only then is one neither made nor refused at once. */
+    /** A connection, or null if the socket is full: one is neither made nor refused then. */
     private static SocketChannel connected(String path) throws IOException {
         SocketChannel channel = SocketChannel.open(StandardProtocolFamily.UNIX);
         boolean isMade = false;
         try {
             channel.configureBlocking(false);
             isMade = channel.connect(UnixDomainSocketAddress.of(path));
+        } catch (ConnectException refused) {
+            throw refused;
+        } catch (SocketException failed) {
+            // It tells so that the socket is full, and also that there is none, or that it may not be written.
+            if (!Files.isWritable(Path.of(path))) {
+                throw failed;
+            }
         } finally {
             if (!isMade) {
                 channel.close();
