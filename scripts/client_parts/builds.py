@@ -17,6 +17,8 @@ from .examples import try_locks, try_secure
 TOP = Path(__file__).resolve().parent.parent.parent
 PLAY = Path(__file__).resolve().parent / "play.py"
 VERSION = TOP / "crates/mw_main/src/lib.rt"
+PROVED = TOP / "crates/mw_client_c/out/libmw_client_c.a"
+"""The proved lines and readings for C, as `rt lib` builds them."""
 C, RUST, GO, NODE, JAVA = (TOP / "clients" / name for name in ("c", "rust", "go", "node", "java"))
 VALGRIND = ("valgrind", "-q", "--leak-check=full", "--show-leak-kinds=all", "--errors-for-leak-kinds=all", "--error-exitcode=99",
             f"--suppressions={Path(__file__).resolve().parent}/loader.supp")
@@ -134,9 +136,9 @@ def try_examples(compiler: str, folder: Path) -> None:
 
 def over_proved(folder: Path) -> List[Program]:
     """Over the proved lines and readings, where they are built."""
-    if not packed.PROVED.is_file():
+    if not PROVED.is_file():
         return []
-    ran("make", f"OUT={folder}/out", f"PROVED={packed.PROVED}", "all", f"{folder}/out/play", at=C)
+    ran("make", f"OUT={folder}/out", f"PROVED={PROVED}", "all", f"{folder}/out/play", at=C)
     return [Program("c over mw_client_c", [f"{folder}/out/play"])]
 
 

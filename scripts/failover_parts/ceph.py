@@ -2,12 +2,11 @@
 
 All is as small as a trial needs, without keys: nobody else is on the hosts' network. Used by: scripts/check-volume.
 """
-import time
 import uuid
 from pathlib import Path
 
 from .gluster import until
-from .hosts import PATIENCE, Host, Network, Wrong
+from .hosts import PATIENCE, Host, Network
 
 MOUNTED = "/srv/mw"
 FOLDERS = ("/etc/ceph", "/var/lib/ceph", "/var/log/ceph", "/srv")
@@ -104,14 +103,10 @@ def make(network: Network) -> None:
 
 def mount(host: Host, seconds: float = PATIENCE) -> None:
     """Mounts the file system, without caches of what was read or written."""
-    end = time.monotonic() + seconds
-    while True:
+    def is_mounted() -> bool:
         host.run("sh", "-c", f"mountpoint -q {MOUNTED} || timeout 20 ceph-fuse --client_oc=false {MOUNTED}", may_fail=True)
-        if "fuse" in host.run("sh", "-c", f"findmnt -n -o FSTYPE {MOUNTED}", may_fail=True):
-            return
-        if time.monotonic() > end:
-            raise Wrong(f"{host.name} does not mount the file system")
-        time.sleep(0.5)
+        return "fuse" in host.run("sh", "-c", f"findmnt -n -o FSTYPE {MOUNTED}", may_fail=True)
+    until(is_mounted, f"{host.name} mounts the file system", seconds)
 
 
 def disk_of(host: Host) -> Path:

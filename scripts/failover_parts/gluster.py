@@ -30,14 +30,10 @@ def begin(host: Host) -> None:
 
 def mount(host: Host, seconds: float = PATIENCE) -> None:
     """Mounts the volume, and waits until it can be read."""
-    end = time.monotonic() + seconds
-    while True:
+    def is_mounted() -> bool:
         host.run("sh", "-c", f"mountpoint -q {MOUNTED} || mount -t glusterfs -o {OPTIONS} localhost:/{VOLUME} {MOUNTED}", may_fail=True)
-        if "fuse.glusterfs" in host.run("sh", "-c", f"findmnt -n -o FSTYPE {MOUNTED}; stat {MOUNTED} > /dev/null", may_fail=True):
-            return
-        if time.monotonic() > end:
-            raise Wrong(f"{host.name} does not mount the volume")
-        time.sleep(0.5)
+        return "fuse.glusterfs" in host.run("sh", "-c", f"findmnt -n -o FSTYPE {MOUNTED}; stat {MOUNTED} > /dev/null", may_fail=True)
+    until(is_mounted, f"{host.name} mounts the volume", seconds)
 
 
 def gluster(host: Host, *words: object, may_fail: bool = False) -> str:

@@ -154,18 +154,9 @@ class Load:
         elif request.reply.answer is Answer.NO:
             request.reply = request.reply._replace(address=numbers[0], value=numbers[1])
         request.told = request.until = now
-        self.learn(request)
+        request.teach(self.words)
         if request.reply.answer is Answer.FAULT:
             raise OSError("the tenant is down")
-
-    def learn(self, request: Request) -> None:
-        """Remembers what a reply tells of the words."""
-        answer, address, value = request.reply
-        if answer is Answer.YES:
-            for entry in request.entries:
-                self.words[entry.address] = entry.new
-        elif value is not None:
-            self.words[request.address if address is None else address] = value
 
     def end(self) -> None:
         """Lets nobody ask any more, and waits for what was asked."""

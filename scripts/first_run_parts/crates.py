@@ -9,7 +9,7 @@ PARTS = ("src", "specs", "proofs")
 FIXED_WORK = 250
 """What every crate costs, however short it is: the libraries are loaded. In lines of source."""
 PROOF_LINES_A_SOURCE_LINE = 20
-"""So many lines of `specs/` and `proofs/` cost as much time as one line of source. docs/TIMINGS.md has the times of crates."""
+"""So many lines of `specs/` and `proofs/` cost as much time as one line of source. `scripts/gate-cost` tells the times of crates."""
 
 
 class UnknownCrate(Exception):

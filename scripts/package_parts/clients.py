@@ -18,8 +18,6 @@ LEFT_OUT = {"out", "target", "Cargo.lock", "node_modules"}
 """What builds leave."""
 DOCUMENTS = ("README.md", "lock_table.c", "over_openssl.c")
 """Of the client in C, in libmondlexi-dev."""
-PROVED = TOP / "crates/mw_client_c/out/libmw_client_c.a"
-"""What the library stands on where it is built."""
 LIBRARIES = "/usr/lib/x86_64-linux-gnu"
 CONTROL = """Package: libmondlexi-dev
 Version: {version}
@@ -65,8 +63,7 @@ def pack_page(page: Path, moment: int) -> None:
 
 def lay_out(root: Path, room: Path, moment: int) -> None:
     """The files of the package, below a folder."""
-    words = [f"OUT={room}/out", f"DESTDIR={root}", "PREFIX=/usr", f"LIBDIR={LIBRARIES}", "CFLAGS=-O2",
-             f"PROVED={PROVED if PROVED.is_file() else ''}"]
+    words = [f"OUT={room}/out", f"DESTDIR={root}", "PREFIX=/usr", f"LIBDIR={LIBRARIES}", "CFLAGS=-O2"]
     subprocess.run(["make", "-s", "-C", TOP / "clients/c", *words, "install"], check=True)
     pack_page(root / "usr/share/man/man3/mondlexi.3", moment)
     documents = root / "usr/share/doc/libmondlexi-dev"

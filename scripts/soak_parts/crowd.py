@@ -45,15 +45,6 @@ class View:
         expected = next(self.values) if dice.random() < SHARE_OF_STALE else self.words[address]
         return Entry(address, expected, next(self.values) if dice.random() < SHARE_OF_WRITES else expected)
 
-    def note(self, request: Request) -> None:
-        """Remembers the values that a reply tells of."""
-        answer, address, value = request.reply
-        if answer is Answer.YES:
-            for entry in request.entries:
-                self.words[entry.address] = entry.new
-        elif value is not None:
-            self.words[request.address if address is None else address] = value
-
 
 class Session:
     """One connection: the requests that were sent and not answered, in order, and the part of a line that has come."""
@@ -114,7 +105,7 @@ class Session:
         request = self.waiting.popleft()
         request.reply = read_reply(line, request)
         request.told = request.until = now
-        self.view.note(request)
+        request.teach(self.view.words)
 
 
 def read_reply(line: str, request: Request) -> Reply:

@@ -73,6 +73,15 @@ class Request:
         """Whether it would change a word."""
         return any(entry.writes for entry in self.entries)
 
+    def teach(self, words: List[int]) -> None:
+        """Puts what its reply tells of words into those that a client knows."""
+        answer, address, value = self.reply
+        if answer is Answer.YES:
+            for entry in self.entries:
+                words[entry.address] = entry.new
+        elif value is not None:
+            words[self.address if address is None else address] = value
+
     def line(self) -> str:
         """The line that the client sent."""
         if not self.is_change:
