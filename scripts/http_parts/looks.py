@@ -17,8 +17,10 @@ BROWSER = "chromium"
 WIDE, NARROW = (1000, 1000), (500, 1600)
 EDGE = 8
 """So many columns of pixels at the right are free, if the page is not too wide."""
-LOOKS = 12
-"""For how many seconds a browser looks: the script asks every five."""
+LOOKS = 3
+"""How often the page's script asks, every five seconds, before a browser takes its picture: so it has shown what two looks told."""
+REST = 2
+"""For how many seconds the browser goes on then."""
 HOLD = b'<img src="wait" alt="">'
 """What lets a browser wait with its picture until this has come."""
 MANY = 1_000_000
@@ -67,7 +69,7 @@ def in_browser(server: Server, picture: Path) -> None:
 @contextlib.contextmanager
 def at_port(server: Server, answers: int) -> Iterator[str]:
     """The pages of a server, which are at a local socket, at a port: so many answers, and then none. A browser takes its picture late."""
-    left = [answers]
+    left, pages = [answers], [0]
 
     class Handler(BaseHTTPRequestHandler):
         """Asks the server."""
@@ -75,8 +77,12 @@ def at_port(server: Server, answers: int) -> Iterator[str]:
         def do_GET(self) -> None:
             """One request."""
             if self.path == "/wait":
-                time.sleep(LOOKS)
+                wanted, end = pages[0] + LOOKS, time.monotonic() + PATIENCE
+                while pages[0] < wanted and time.monotonic() < end:
+                    time.sleep(0.1)
+                time.sleep(REST)
                 return
+            pages[0] += self.path == "/"
             left[0] -= 1
             if left[0] < 0:
                 return

@@ -10,7 +10,7 @@ OPAQUE = re.compile(
     r"|b?'(?:\\(?:u\{[^}]*\}|x..|.)|[^'\\\n])'",
     re.S,
 )
-FUNCTION = re.compile(r"^[ \t]*(pub(?:\([a-z]+\))? )?(?:const )?(?:unsafe )?fn (\w+)", re.M)
+FUNCTION = re.compile(r"^[ \t]*(pub(?:\([a-z]+\))? )?(?:const )?(?:unsafe )?(?:extern +)?fn (\w+)", re.M)
 OWNER = re.compile(r"^[ \t]*(pub(?:\([a-z]+\))? )?(?:unsafe )?(impl|trait)\b([^{;]*)\{", re.M)
 CLAUSE = re.compile(r"(requires|ensures)\b\s*(\w+)?\s*\{")
 GHOST_USE = re.compile(r"^([ \t]*)ghost use Rattle\.([\w.]+?)(?:\.\{([^}]*)\}| as (\w+));", re.M)
@@ -31,7 +31,8 @@ def read(path):
 def crates():
     """The crates in the order of crates.txt, each with the crates and libraries that it uses."""
     lines = [line for line in read("crates.txt").split("\n") if ":" in line and not line.startswith("#")]
-    return {line.split(":")[0].strip(): line.split(":")[1].split() for line in lines}
+    # (a name may have more words behind it, as `staticlib`)
+    return {line.split()[0].rstrip(":"): line.split(":")[1].split() for line in lines}
 
 
 def files_below(folder, ending):
