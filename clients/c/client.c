@@ -23,7 +23,7 @@ PUBLIC unsigned mondlexi_words(const mondlexi_client *client) {
 }
 
 PUBLIC const char *mondlexi_text(const mondlexi_client *client) {
-    return client->text;
+    return client ? client->text : mdx_no_client();
 }
 
 PUBLIC int mondlexi_refusal(const mondlexi_client *client) {
@@ -33,7 +33,7 @@ PUBLIC int mondlexi_refusal(const mondlexi_client *client) {
 PUBLIC const char *mondlexi_meaning(mondlexi_status status) {
     static const char *const meanings[] = {
         [MONDLEXI_OK] = "done",
-        [MONDLEXI_NO] = "not made: a word had another value",
+        [MONDLEXI_NO] = "not made: a word had another value, or, of a counted change, a reply was lost",
         [MONDLEXI_LOST] = "there is no connection",
         [MONDLEXI_FULL] = "the server closed the connection before any reply",
         [MONDLEXI_UNKNOWN] = "undecided: the reply was lost",

@@ -14,7 +14,8 @@
 #include <string.h>
 #include <time.h>
 
-enum { LEASE = 10000, WAIT = 60000, WITHIN = 30000, UNIT = 10 }; /* milliseconds */
+/* In milliseconds. A reply is waited for much shorter than the lease is. The lease is longer than a restart of the server takes. */
+enum { LEASE = 10000, TIMEOUT = 2000, WAIT = 60000, WITHIN = 30000, UNIT = 10 };
 
 /* Its owner has it as long as the clock is below `until`. What the lock guards gets the token, and refuses one that is lower than the
    greatest it has seen. */
@@ -45,7 +46,8 @@ static mondlexi_status has_new_values(mondlexi_client *client, const mondlexi_en
 }
 
 /* Sends a change until it is answered, and tells whether it was made: OK or NO; UNKNOWN if it may have been made or will still be. It is
-   made once at most, because its words never have their old values again. Nobody else can have written all its new values. */
+   made once at most, because its words never have their old values again. Nobody else can have written all its new values. NO after a
+   lost reply: it was not made, or another has changed its words since. */
 static mondlexi_status resent(mondlexi_client *client, const mondlexi_entry *entries, size_t count) {
     int may_be_made = 0;
     for (;;) {
@@ -72,8 +74,24 @@ static mondlexi_status take(mondlexi_client *client, unsigned owner, const uint6
     return resent(client, entries, 2);
 }
 
-/* Takes a lock once its holder is 0, or once this process has itself seen the same two words for 1.01 times the lease. OK; NO if it was
-   held all the time. */
+/* Gives a lock back. OK; NO: it is not held any more; perhaps this call released it, and another has taken it since. */
+static mondlexi_status release(mondlexi_client *client, const grant *held) {
+    mondlexi_entry entries[] = {{2 * held->lock, held->token, held->token}, {2 * held->lock + 1, held->word, 0}};
+    return resent(client, entries, 2);
+}
+
+/* As `take`; but NO also if the lease was over before the reply came. Then the lock is given back. */
+static mondlexi_status take_in_time(mondlexi_client *client, unsigned owner, const uint64_t state[2], int64_t since, grant *made) {
+    mondlexi_status status = take(client, owner, state, since, made);
+    if (status || now() < made->until) {
+        return status;
+    }
+    status = release(client, made);
+    return status ? status : MONDLEXI_NO;
+}
+
+/* Takes a lock once its holder is 0, or once this process has itself seen the same two words for 1.01 times the lease. OK: its lease
+   isn't over yet; NO if it was held all the time. */
 static mondlexi_status acquire(mondlexi_client *client, unsigned owner, unsigned lock, grant *made) {
     const unsigned addresses[] = {2 * lock, 2 * lock + 1};
     uint64_t seen[2] = {UINT64_MAX, UINT64_MAX}, state[2];
@@ -91,18 +109,12 @@ static mondlexi_status acquire(mondlexi_client *client, unsigned owner, unsigned
             since = now();
         }
         lease = (int64_t)(state[1] & 0xffff) * UNIT;
-        status = state[1] && asked - since < lease + lease / 100 + 1 ? MONDLEXI_NO : take(client, owner, state, asked, made);
+        status = state[1] && asked - since < lease + lease / 100 + 1 ? MONDLEXI_NO : take_in_time(client, owner, state, asked, made);
         if (status == MONDLEXI_NO) {
             nanosleep(&(struct timespec){0, (8 + rand() % 56) * 1000000L}, NULL);
         }
     }
     return status;
-}
-
-/* Gives a lock back. OK; NO if its lease was over and another has it. */
-static mondlexi_status release(mondlexi_client *client, const grant *held) {
-    mondlexi_entry entries[] = {{2 * held->lock, held->token, held->token}, {2 * held->lock + 1, held->word, 0}};
-    return resent(client, entries, 2);
 }
 
 int main(int count, char **words) {
@@ -111,6 +123,7 @@ int main(int count, char **words) {
         return 2;
     }
     mondlexi_options options = MONDLEXI_DEFAULTS;
+    options.timeout = TIMEOUT;
     options.within = WITHIN;
     mondlexi_client *client;
     grant held;
@@ -128,7 +141,7 @@ int main(int count, char **words) {
         status = release(client, &held);
     }
     if (status) {
-        fprintf(stderr, "lock_table: %s: %s\n", mondlexi_meaning(status), client ? mondlexi_text(client) : "");
+        fprintf(stderr, "lock_table: %s: %s\n", mondlexi_meaning(status), mondlexi_text(client));
     }
     mondlexi_free(client);
     return status ? 1 : 0;

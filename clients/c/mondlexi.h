@@ -42,7 +42,7 @@ extern "C" {
 
 typedef enum {
     MONDLEXI_OK,
-    MONDLEXI_NO, /* nothing was changed, because a word had another value than the one expected */
+    MONDLEXI_NO, /* not made: a word had another value than the one expected. After a lost reply mondlexi_counted_cas says more */
     MONDLEXI_LOST,
     MONDLEXI_FULL,
     MONDLEXI_UNKNOWN,
@@ -58,7 +58,8 @@ typedef enum {
 /* What a client speaks over in place of its bare connection: streams of TLS, for example, as over_openssl.c makes them. The caller
    makes these functions. The library connects a socket, calls `begin` and then `greet` for each connection, and calls `end` before it
    closes the socket. None of them may wait for the other side: they answer what the library is to wait for, within its own limits
-   of time, and are then called again with the same arguments. They run in the thread that calls the library. */
+   of time, and are then called again with the same arguments. They run in the thread that calls the library. `send` must not raise
+   SIGPIPE: have it ignored, or send with MSG_NOSIGNAL. */
 enum { MONDLEXI_ENDED = -1, MONDLEXI_WAIT_TO_READ = -2, MONDLEXI_WAIT_TO_WRITE = -3 };
 typedef struct {
     void *(*begin)(void *context, int socket); /* a new stream over a socket that doesn't block; NULL if there is none */
@@ -73,7 +74,7 @@ typedef struct {
 typedef struct {
     int timeout;    /* how long to wait for a connection, and then for each reply; 1 or more */
     int patience;   /* for how long cas and read ask again, with growing pauses, while the server is busy; 0 for not at all */
-    int within;     /* for how long to try again if connecting fails; 0 for one try */
+    int within;     /* for how long to try again if connecting fails, also when a call connects anew; 0 for one try */
     int reconnects; /* how often one call connects anew and asks again if the connection has broken, 0 to MONDLEXI_MAX_RECONNECTS */
     const mondlexi_streams *streams; /* NULL for the bare connection; else it must live as long as the client */
 } mondlexi_options;
@@ -88,7 +89,7 @@ typedef struct {
 } mondlexi_entry;
 
 /* Why a change wasn't made: the word at `address` had `value`, not the one expected. If several differ it is any. `is_known` is 0,
-   and the others too, if a count tells only that the change wasn't made. */
+   and the others too, if a count tells only that the change wasn't made: perhaps no word differs. */
 typedef struct {
     int is_known;
     unsigned address;
@@ -120,8 +121,9 @@ typedef struct mondlexi_client mondlexi_client;
    path of a local socket, 1 to 107 bytes. `tenant`: a letter a to z, then up to 15 of a to z, 0 to 9 and "-". Both are copied.
    `options`: NULL for MONDLEXI_DEFAULTS. A name is looked up by getaddrinfo, which has its own limit of time.
 
-   Returns MONDLEXI_OK; INVALID or MEMORY, and *client is NULL; or LOST, FULL, REFUSED (number 5: no tenant has the name), BUSY, FAULT
-   or WORN: then *client has no connection, mondlexi_text says why, and mondlexi_reconnect tries again. Free it in any case. */
+   Returns MONDLEXI_OK; INVALID or MEMORY: then *client is NULL, and mondlexi_text(NULL) says which argument it is; or LOST, FULL,
+   REFUSED (number 5: no tenant has the name), BUSY, FAULT or WORN: then *client has no connection, mondlexi_text says why, and
+   mondlexi_reconnect tries again. Free it in any case. */
 mondlexi_status mondlexi_connect(mondlexi_client **client, const char *server, const char *tenant, const mondlexi_options *options);
 
 /* The same for the administrator, whose one call is mondlexi_report. */
@@ -132,7 +134,7 @@ mondlexi_status mondlexi_connect_administrator(mondlexi_client **client, const c
 mondlexi_status mondlexi_reconnect(mondlexi_client *client, int within);
 
 /* Ends the session, and waits for the server's goodbye, a second at most. Each further call returns LOST, until mondlexi_reconnect.
-   NULL is left alone, here and below. */
+   This and mondlexi_free leave NULL alone, and mondlexi_text takes it. No other call does. */
 void mondlexi_close(mondlexi_client *client);
 
 /* Closes it, and gives its memory back. */
@@ -142,7 +144,7 @@ void mondlexi_free(mondlexi_client *client);
 unsigned mondlexi_words(const mondlexi_client *client);
 
 /* What a status means, and, of the last call of a client that failed, what happened: texts of one line, without a line feed. The
-   second is the client's own, until its next call. */
+   second is the client's own, until its next call. Of NULL it tells why the last connecting of this thread made no client. */
 const char *mondlexi_meaning(mondlexi_status status);
 const char *mondlexi_text(const mondlexi_client *client);
 
@@ -195,8 +197,12 @@ typedef struct {
    MONDLEXI_OK or what mondlexi_cas does; after a failure but INVALID the next call begins. The client must live as long as this. */
 mondlexi_status mondlexi_counted_begin(mondlexi_counted *counted, mondlexi_client *client, unsigned address, int wait);
 
-/* As mondlexi_cas, of up to fifteen entries; but after LOST or UNKNOWN it connects anew and finds out. If a reply was lost, a
-   miss isn't known. Returns MONDLEXI_OK: made; NO: not made, and it never will be; UNKNOWN: undecided, for the reason in `cause`, and
+/* As mondlexi_cas, of up to fifteen entries; but after LOST or UNKNOWN it connects anew and finds out. After a lost reply NO says
+   only that the change was not made: perhaps no word differs. If `!miss.is_known`, read again, or send it again.
+
+   If the change before is undecided, this settles it first, and forgets its outcome. Call mondlexi_counted_settle to be told it.
+
+   Returns MONDLEXI_OK: made; NO: not made, and it never will be; UNKNOWN: undecided, for the reason in `cause`, and
    mondlexi_counted_settle tells; MOVED: something else writes the count; any other failure: not made, and it never will be. */
 mondlexi_status mondlexi_counted_cas(mondlexi_counted *counted, const mondlexi_entry *entries, size_t count, mondlexi_miss *miss);
 

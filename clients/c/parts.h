@@ -81,5 +81,6 @@ HIDDEN mondlexi_status mdx_ask(mondlexi_client *, mdx_question *);
 HIDDEN mondlexi_status mdx_begin(mondlexi_client *, int64_t end, int is_repair);
 HIDDEN int64_t mdx_after(int milliseconds);
 HIDDEN mondlexi_status mdx_ask_patiently(mondlexi_client *, mdx_question *, int64_t end);
+HIDDEN const char *mdx_no_client(void);
 
 #endif

@@ -113,6 +113,10 @@ static mondlexi_status answered(mondlexi_client *client, mdx_question *question)
         return status;
     }
     int is_full = client->is_silent && !client->is_late, is_late = client->is_late;
+    if (is_late) {
+        const char *why = client->is_silent ? "; perhaps all sessions are taken (mwserve --clients)" : "";
+        mdx_say(client, "connected, but no reply in %d ms%s", client->options.timeout, why);
+    }
     drop(client, status);
     client->is_late = is_late;
     return is_full ? MONDLEXI_FULL : status;
@@ -193,19 +197,32 @@ static int are_options(const mondlexi_options *options) {
            options->reconnects <= MONDLEXI_MAX_RECONNECTS;
 }
 
+/* Why the last connecting of this thread made no client. */
+static __thread const char *no_client = "";
+
+const char *mdx_no_client(void) {
+    return no_client;
+}
+
+static mondlexi_status made_none(mondlexi_status status, const char *why) {
+    no_client = why;
+    return status;
+}
+
 /* Connects for a tenant, or, without a name, for the administrator. */
 static mondlexi_status connect_for(mondlexi_client **made, const char *server, const char *tenant, const mondlexi_options *options) {
     static const mondlexi_options defaults = MONDLEXI_DEFAULTS;
     *made = NULL;
     mondlexi_client *client = calloc(1, sizeof *client);
     if (!client) {
-        return MONDLEXI_MEMORY;
+        return made_none(MONDLEXI_MEMORY, "no memory for a client");
     }
     client->fd = -1;
     client->options = options ? *options : defaults;
-    if (!mdx_place(client, server) || !are_options(&client->options)) {
+    int is_place = mdx_place(client, server);
+    if (!is_place || !are_options(&client->options)) {
         free(client);
-        return MONDLEXI_INVALID;
+        return made_none(MONDLEXI_INVALID, is_place ? "a number of the options is out of its range" : "a server is HOST:PORT or unix:PATH");
     }
     memcpy(client->tenant, tenant, strlen(tenant) + 1);
     client->dice = ((uint64_t)mdx_now() << 16 ^ (uint64_t)(uintptr_t)client) | 1;
@@ -215,7 +232,10 @@ static mondlexi_status connect_for(mondlexi_client **made, const char *server, c
 
 PUBLIC mondlexi_status mondlexi_connect(mondlexi_client **client, const char *server, const char *tenant, const mondlexi_options *options) {
     *client = NULL;
-    return mdx_is_tenant(tenant) ? connect_for(client, server, tenant, options) : MONDLEXI_INVALID;
+    if (!mdx_is_tenant(tenant)) {
+        return made_none(MONDLEXI_INVALID, "a tenant's name is a letter a to z, then up to 15 of a to z, 0 to 9 and \"-\"");
+    }
+    return connect_for(client, server, tenant, options);
 }
 
 PUBLIC mondlexi_status mondlexi_connect_administrator(mondlexi_client **client, const char *server, const mondlexi_options *options) {

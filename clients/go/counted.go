@@ -44,8 +44,8 @@ func NewCounted(ctx context.Context, client *Client, address int, wait time.Dura
 }
 
 // CAS is as Client.CAS, of up to fifteen entries; but after ErrLost or ErrUnknown it connects the client anew and finds out. It first
-// does so for the change before, if that is undecided. What it tells as not made never will be; if a reply was lost it tells no
-// word then.
+// does so for the change before, if that is undecided, and forgets its outcome: call Settle first. What it tells as not made never
+// will be. If a reply was lost it tells no word then, and perhaps none differs: read again, or send it again.
 //
 // Its failures: ErrUnknown, with its Cause, if its change stays undecided: then Settle tells. ErrMoved if something else writes the
 // count. After any other its change was not made, and never will be.

@@ -16,7 +16,7 @@ import (
 	"time"
 )
 
-// What clients/cases doesn't have, because only this client has it: contexts, goroutines that share a client, and TLS.
+// What clients/cases doesn't have: the texts of late replies; and contexts, goroutines that share a client, and TLS.
 
 // serve answers each line of each connection by the function; no answer if that gives nothing.
 func serve(t *testing.T, listener net.Listener, answer func(line string) string) string {
@@ -86,6 +86,22 @@ func TestAContextThatIsOverEndsAChange(t *testing.T) {
 		t.Fatalf("a get after it: %d, %v", value, err)
 	}
 	client.Close()
+}
+
+func TestAReplyThatIsLate(t *testing.T) {
+	options := DefaultOptions()
+	options.Timeout = 300 * time.Millisecond
+	client := dialed(t, serve(t, listen(t), usual), &options)
+	if _, err := client.Get(context.Background(), 3); err == nil || err.Error() != "mondlexi: no connection: GET 3: connected, but no reply in 300ms" {
+		t.Fatalf("a get: %v", err)
+	}
+	silent := listen(t)
+	defer silent.Close()
+	_, err := Dial(context.Background(), silent.Addr().String(), "t", &options)
+	wanted := "mondlexi: no connection: TENANT t: connected, but no reply in 300ms; perhaps all sessions are taken (mwserve --clients)"
+	if !errors.Is(err, ErrLost) || err.Error() != wanted {
+		t.Fatalf("a client: %v", err)
+	}
 }
 
 func TestAContextThatIsOverBeforeACall(t *testing.T) {

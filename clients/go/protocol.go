@@ -38,7 +38,7 @@ type Outcome struct {
 	// Made: all words had their expected values, and the new ones are written, durably. Otherwise nothing was changed.
 	Made bool
 	// Known: of a change that wasn't made, that the word at Address had Value, not the one expected. If several differ it is any. A
-	// Counted knows no word if a reply was lost.
+	// Counted knows no word if a reply was lost: perhaps none differs.
 	Known   bool
 	Address int
 	Value   uint64

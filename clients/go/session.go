@@ -4,6 +4,7 @@ import (
 	"context"
 	"crypto/tls"
 	"errors"
+	"fmt"
 	"strings"
 	"sync/atomic"
 	"syscall"
@@ -242,12 +243,24 @@ func (s *session) answer(ctx context.Context, asked *question) (canAskAgain bool
 		}
 		err = strange(strings.Join(replies[0], "; "))
 	}
-	kind, late := asked.gone, isLate(ctx, err)
+	kind, late, text := asked.gone, isLate(ctx, err), err.Error()
 	if s.link.isSilent && !late {
 		kind = ErrFull
 	}
+	if late && ctx.Err() == nil {
+		text = noReply(s.link.isSilent, s.options.Timeout)
+	}
 	s.drop()
-	return !late, &Error{Kind: kind, Text: asked.lines[0] + ": " + err.Error(), Cause: err}
+	return !late, &Error{Kind: kind, Text: asked.lines[0] + ": " + text, Cause: err}
+}
+
+// noReply is what is told of a reply that did not come in time.
+func noReply(isSilent bool, timeout time.Duration) string {
+	text := fmt.Sprintf("connected, but no reply in %v", timeout)
+	if isSilent {
+		text += "; perhaps all sessions are taken (mwserve --clients)"
+	}
+	return text
 }
 
 // exchange sends the lines and reads their replies.

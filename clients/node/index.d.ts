@@ -108,7 +108,7 @@ export interface NotMade {
   address: number;
   value: number;
 }
-/** Nothing was changed. A `Counted` knows no word if a reply was lost. */
+/** Nothing was changed. A `Counted` knows no word if a reply was lost: perhaps none differs. */
 export interface NotMadeUnseen {
   made: false;
   address?: undefined;
@@ -249,7 +249,8 @@ export class Counted {
 
   /**
    * As `Client.cas`, of up to fifteen entries; but after `Lost` or `Unknown` it connects the client anew and finds out. It first does
-   * so for the change before, if that is undecided. What it tells as not made never will be.
+   * so for the change before, if that is undecided, and forgets its outcome: call `settle` first. What it tells as not made never will
+   * be. If a reply was lost it tells no word then, and perhaps none differs: read again, or send it again.
    *
    * Its failures: `Unknown`, with its `cause`, if its change stays undecided: then `settle` tells. `Moved` if something else writes
    * the count. After any other its change was not made, and never will be.

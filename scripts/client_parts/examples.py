@@ -26,6 +26,7 @@ OWN = 3 << 32 | 1000
 """The holder's word of owner 3, with the example's lease."""
 FREE = (*LOOK, r"says VAL 4\nVAL 0\nVAL 4\nVAL 0\n", f"sent CAS 6:4:5 7:0:{OWN}")
 RELEASED = (f"sent CAS 6:5:5 7:{OWN}:0", r"says YES\n", "sent QUIT", r"says BYE\n", "ends")
+SILENT = ("opens", "sent TENANT t", "ends")
 LOST = (*FREE, "shuts", "again", f"sent CAS 6:4:5 7:0:{OWN}", r"says NO 6 5\n", "sent GET 6", r"says VAL 5\n", "sent GET 7")
 LOCKS = {
     "a free lock": ("again", *FREE, r"says YES\n", *RELEASED),
@@ -34,8 +35,15 @@ LOCKS = {
                                       f"sent CAS 6:4:5 7:0:{OWN}", r"says YES\n", *RELEASED),
     "a lock whose lease is over": ("again", *LOOK, r"says VAL 4\nVAL 65536\nVAL 4\nVAL 65536\n", *LOOK, r"says VAL 4\nVAL 65536\nVAL 4\nVAL 65536\n",
                                    f"sent CAS 6:4:5 7:65536:{OWN}", r"says YES\n", *RELEASED),
+    "a lock whose lease was over before the reply": (
+        "again", *FREE, "shuts", *SILENT * 5, "again", f"sent CAS 6:4:5 7:0:{OWN}", r"says NO 6 5\n", "sent GET 6", r"says VAL 5\n",
+        "sent GET 7", rf"says VAL {OWN}\n", f"sent CAS 6:5:5 7:{OWN}:0", r"says YES\n", *LOOK, r"says VAL 5\nVAL 0\nVAL 5\nVAL 0\n",
+        f"sent CAS 6:5:6 7:0:{OWN}", r"says YES\n", f"sent CAS 6:6:6 7:{OWN}:0", *RELEASED[1:]),
 }
 """What the server of a lock hears and says."""
+TOKENS = {"a lock whose lease was over before the reply": "6\n"}
+"""What the program prints, if it isn't 5."""
+LATE = ("again", *LOOK, "ends")
 
 
 def server_of(lines: Sequence[str], folder: Path) -> Peer:
@@ -75,13 +83,34 @@ def try_lock(program: Path, folder: Path, what: str) -> Optional[str]:
         return f"{what}: {found}"
     finally:
         peer.close()
-    return None if (ended.returncode, ended.stdout) == (0, "5\n") else f"{what}: {ended}"
+    return None if (ended.returncode, ended.stdout) == (0, TOKENS.get(what, "5\n")) else f"{what}: {ended}"
+
+
+def try_failure(program: Path, at: str, wanted: str) -> Optional[str]:
+    """What is the matter with what is told of a server that isn't there or doesn't answer; None if nothing is."""
+    ended = subprocess.run([str(program), at, "3", "3"], stdin=subprocess.DEVNULL, capture_output=True, text=True, timeout=LONGEST)
+    told = ended.returncode, ended.stdout, ended.stderr
+    return None if told == (1, "", f"lock_table: {wanted}\n") else f"{at}: {told}"
+
+
+def try_failures(program: Path, folder: Path) -> Optional[str]:
+    """What is the matter with the texts of failures; None if nothing is."""
+    peer = server_of(LATE, folder)
+    found = [try_failure(program, peer.at, "there is no connection: connected, but no reply in 2000 ms"),
+             try_failure(program, HOST, "an argument is out of its range: a server is HOST:PORT or unix:PATH")]
+    try:
+        peer.wait()
+    except Different as differs:
+        found.append(str(differs))
+    finally:
+        peer.close()
+    return next((it for it in found if it), None)
 
 
 def try_locks(program: Path) -> Optional[str]:
     """What is the matter; None if nothing is."""
     with tempfile.TemporaryDirectory(prefix="locks-") as room:
-        found = [try_lock(program, Path(room), what) for what in LOCKS]
+        found = [try_lock(program, Path(room), what) for what in LOCKS] + [try_failures(program, Path(room))]
         return next((it for it in found if it), None)
 
 

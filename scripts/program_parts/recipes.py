@@ -7,6 +7,7 @@ machine is.
 import random
 import subprocess
 import sys
+import time
 
 from .common import PATIENCE, TOP, raises, same, wrong
 from .reads import Peers
@@ -130,7 +131,7 @@ def try_the_small_ones(clients, client, own):
 def try_a_registry(clients, client):
     """Three places in the words 400 to 408."""
     registry, other = (clients.recipes.Registry(client, 3, at=400) for _ in range(2))
-    places = [registry.join(LONG), other.join(LONG), registry.join(SHORT)]
+    places = [registry.join(LONG), other.join(LONG), registry.join(SHORT, wait=PATIENCE)]
     same(sorted(place.number for place in places), [0, 1, 2], "places")
     same(other.join(LONG), None, "a place of a registry that is full")
     own = clients.Counted(client, places[2].address)
@@ -141,6 +142,24 @@ def try_a_registry(clients, client):
     same((registry.renew(places[2], LONG), registry.renew(places[0], LONG).number), (None, places[0].number), "renewed places")
     other.leave(places[1])
     same(registry.join(LONG).number, places[1].number, "a place that was left")
+
+
+def try_late_leases(client):
+    """A lock in the words 1100 and 1101 and a place in 1110 to 1112, whose leases are over before a reply: they are given back."""
+    right = client._session.cas
+
+    async def late(entries):
+        told = await right(entries)
+        time.sleep(SHORT)
+        return told
+
+    client._session.cas = late
+    try:
+        same(mondlexi.recipes.Locks(client, 1, 1, at=1100).acquire([0], SHORT), None, "a lock whose reply came after its lease")
+        same(mondlexi.recipes.Registry(client, 1, at=1110).join(SHORT), None, "a place whose reply came after its lease")
+    finally:
+        del client._session.cas
+    same(client.get_many([1100, 1101, 1110, 1111]), [1, 0, 2, 0], "the words of a lock and a place that were given back")
 
 
 def try_damaged(clients, client, own):
@@ -198,4 +217,6 @@ def try_recipes(clients, server):
         try_indexes(clients, client, own)
         try_the_small_ones(clients, client, own)
         try_a_registry(clients, client)
+        if clients is mondlexi:
+            try_late_leases(client)
         try_damaged(clients, client, own)

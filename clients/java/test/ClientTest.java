@@ -28,7 +28,7 @@ import mondlexi.MondlexiException;
 import mondlexi.Options;
 
 /**
- * What clients/cases doesn't have, because only this client has it: threads that share a client, interrupts, and TLS.
+ * What clients/cases doesn't have: the texts of late replies; and threads that share a client, interrupts, and TLS.
  *
  * <p>usage: java -cp OUT ClientTest [KEYS]. KEYS is a file of keytool with a key for 127.0.0.1, by the password "changeit". Used by:
  * scripts/check-clients. Status 0 if all is well.
@@ -151,6 +151,19 @@ final class ClientTest {
         }
     }
 
+    private static void aReplyIsLate() throws Exception {
+        Options options = Options.DEFAULTS.withTimeout(Duration.ofMillis(300));
+        String text = ": connected, but no reply in 300 ms";
+        try (Server server = Server.begin(ClientTest::usual); Client client = Client.connect(server.at(), "t", options)) {
+            String told = thrown(MondlexiException.Lost.class, () -> client.get(3)).getMessage();
+            check(told.equals("GET 3" + text), told);
+        }
+        try (Server silent = Server.begin(line -> "")) {
+            String told = thrown(MondlexiException.Lost.class, () -> Client.connect(silent.at(), "t", options)).getMessage();
+            check(told.equals("TENANT t" + text + "; perhaps all sessions are taken (mwserve --clients)"), told);
+        }
+    }
+
     private static void tls(Path keys) throws Exception {
         KeyStore store = KeyStore.getInstance(keys.toFile(), PASSWORD);
         KeyManagerFactory own = KeyManagerFactory.getInstance(KeyManagerFactory.getDefaultAlgorithm());
@@ -178,6 +191,7 @@ final class ClientTest {
         threadsShareAClient();
         anInterruptEndsAPause();
         aClientIsClosedAtTheEndOfItsBlock();
+        aReplyIsLate();
         if (arguments.length > 0 && Files.exists(Path.of(arguments[0]))) {
             tls(Path.of(arguments[0]));
         }

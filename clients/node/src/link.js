@@ -7,11 +7,14 @@ import { Pause, now } from './time.js';
 // The time of a wait is over, or its signal is aborted.
 export class Late extends Error {}
 
+// The signal of a wait is aborted.
+export class Aborted extends Late {}
+
 // The connection had ended before anything was sent.
 export class Unsent extends Error {}
 
 function aborted(signal) {
-  return new Late('the signal is aborted', { cause: signal.reason });
+  return new Aborted('the signal is aborted', { cause: signal.reason });
 }
 
 export function strange(text) {

@@ -1,6 +1,6 @@
 // A session: it connects, asks, asks again, and tells how a lost connection counts.
 import { Busy, Full, Invalid, Lost, MondlexiError } from './errors.js';
-import { Late, Link, Unsent, strange } from './link.js';
+import { Aborted, Late, Link, Unsent, strange } from './link.js';
 import { failureOf, placeOf } from './protocol.js';
 import { Pause, Turn, now } from './time.js';
 
@@ -177,13 +177,19 @@ export class Session {
     const isLate = error instanceof Late;
     const isFull = this.#link.isSilent && !isLate;
     const Kind = error instanceof Unsent ? Lost : question.gone;
-    const failure = new (isFull ? Full : Kind)(`${question.lines[0]}: ${error.message}`, { cause: error.cause ?? error });
+    const text = isLate && !(error instanceof Aborted) ? noReply(this.#link.isSilent, this.options.timeout) : error.message;
+    const failure = new (isFull ? Full : Kind)(`${question.lines[0]}: ${text}`, { cause: error.cause ?? error });
     if (isLate) {
       final.add(failure);
     }
     this.#drop();
     return failure;
   }
+}
+
+// What is told of a reply that did not come in time.
+function noReply(isSilent, timeout) {
+  return `connected, but no reply in ${timeout} ms${isSilent ? '; perhaps all sessions are taken (mwserve --clients)' : ''}`;
 }
 
 // Throws the first failure that a reply tells, if one does.

@@ -1,4 +1,4 @@
-// What clients/cases doesn't have, because only this client has it: signals, calls that overlap, and TLS.
+// What clients/cases doesn't have: the texts of late replies; and signals, calls that overlap, and TLS.
 import assert from 'node:assert/strict';
 import { execFileSync } from 'node:child_process';
 import { mkdtempSync, readFileSync, rmSync } from 'node:fs';
@@ -43,6 +43,18 @@ test('a signal that is aborted ends a change', async (t) => {
   await assert.rejects(client.cas([{ address: 0, expected: 0, value: 1 }]), Lost);
   assert.equal(await client.get(7), 5);
   await client.close();
+});
+
+test('a reply that is late', async (t) => {
+  const { at } = await serve(t, usual);
+  const client = await Client.connect(at, 't', { timeout: 300 });
+  await assert.rejects(client.get(3), (error) => {
+    return error instanceof Lost && error.message === 'GET 3: connected, but no reply in 300 ms';
+  });
+  await client.close();
+  const silent = await serve(t, () => undefined);
+  const wanted = 'TENANT t: connected, but no reply in 300 ms; perhaps all sessions are taken (mwserve --clients)';
+  await assert.rejects(Client.connect(silent.at, 't', { timeout: 300 }), (error) => error instanceof Lost && error.message === wanted);
 });
 
 test('a signal that is aborted before a call', async (t) => {

@@ -206,8 +206,9 @@ class Counted:
 
     def cas(self, entries: Iterable[Entry]) -> Outcome:
         """As `Client.cas`, of up to fifteen entries; but after Lost or Unknown it connects `client` anew and finds out, for `wait`
-        seconds. Before it sends anything it does so for the change before, if that is undecided. What it tells as not made never
-        will be; if a reply was lost it tells no word then.
+        seconds. Before it sends anything it does so for the change before, if that is undecided, and forgets its outcome: call
+        `settle` first. What it tells as not made never will be. If a reply was lost it tells no word then, and perhaps none differs:
+        read again, or send it again.
 
         Raises Unknown, from its cause, if its change stays undecided: then `settle` tells. After any other `Error`, ValueError or
         TypeError its change was not made, and never will be: it was busy or refused; or not sent, because the one before stays

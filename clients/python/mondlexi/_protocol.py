@@ -41,7 +41,8 @@ class Outcome:
     """How a change ended. An outcome is true if the change was made, and else false.
 
     `made`: all words had their expected values; the new ones are written, durably. Then `address` and `value` are None.
-    Otherwise nothing was changed: the word at `address` had `value`, not the one expected. If several differ it is any."""
+    Otherwise nothing was changed: the word at `address` had `value`, not the one expected. If several differ it is any. Both are
+    None if a `Counted` lost a reply: perhaps no word differs."""
     made: bool
     address: Optional[int] = None
     value: Optional[int] = None

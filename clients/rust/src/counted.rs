@@ -45,8 +45,9 @@ impl Counted {
     }
 
     /// As [`Client::cas`], of up to fifteen entries; but after `Lost` or `Unknown` it connects `client` anew and finds out. It first
-    /// does so for the change before, if that is undecided. What it tells as not made never will be; if a reply was lost it tells
-    /// no word then.
+    /// does so for the change before, if that is undecided, and forgets its outcome: call [`settle`](Counted::settle) first. What it
+    /// tells as not made never will be. If a reply was lost it tells no word then, and perhaps none differs: read again, or send it
+    /// again.
     ///
     /// `Unknown`, with its cause, if its change stays undecided: then [`settle`](Counted::settle) tells. `Moved` if something else
     /// writes the count. After any other error its change was not made, and never will be.

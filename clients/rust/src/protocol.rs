@@ -57,7 +57,7 @@ pub struct Miss {
 pub enum Outcome {
     /// All words had their expected values, and the new ones are written, durably.
     Made,
-    /// Nothing was changed. A `Counted` tells no word if a reply was lost.
+    /// Nothing was changed. A `Counted` tells no word if a reply was lost: perhaps none differs.
     NotMade(Option<Miss>),
 }
 

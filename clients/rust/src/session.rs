@@ -99,6 +99,15 @@ fn strange(reply: &str) -> io::Error {
     )
 }
 
+/// What is told of a reply that did not come in time.
+fn late(is_silent: bool, timeout: Duration) -> String {
+    let why = match is_silent {
+        true => "; perhaps all sessions are taken (mwserve --clients)",
+        false => "",
+    };
+    format!("connected, but no reply in {} ms{why}", timeout.as_millis())
+}
+
 impl Session {
     /// Connects, and tries again for as long as the options say.
     pub(crate) fn begin(
@@ -256,8 +265,11 @@ impl Session {
     fn gone(&mut self, gone: Gone, error: &io::Error) -> Error {
         let is_full = self.is_silent && is_end_of_link(error);
         self.is_late = is_late(error);
+        let text = match self.is_late {
+            true => late(self.is_silent, self.options.timeout),
+            false => error.to_string(),
+        };
         self.drop_link();
-        let text = error.to_string();
         match gone {
             _ if is_full => Error::Full(text),
             Gone::Lost => Error::Lost(text),

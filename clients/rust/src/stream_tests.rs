@@ -1,4 +1,4 @@
-//! What the table of cases doesn't have, because only this client has it: streams over a connection.
+//! What the table of cases doesn't have: streams over a connection, which only this client has, and the texts of late replies.
 
 use std::io::{self, BufRead, BufReader, Read, Write};
 use std::net::{TcpListener, TcpStream};
@@ -88,8 +88,21 @@ fn a_client_speaks_over_a_stream_and_connects_anew() {
 fn a_reply_over_a_stream_is_waited_for_within_its_time() {
     let mut client = Client::connect_over(&serve(), "t", quick(), |it| Ok(Masked(it))).unwrap();
     let began = Instant::now();
-    assert!(matches!(client.get(7), Err(Error::Lost(_))));
+    let text = client.get(7).err().map(|it| it.to_string());
+    let wanted = "no connection: connected, but no reply in 300 ms";
+    assert_eq!(text.as_deref(), Some(wanted));
     assert!(began.elapsed() >= Duration::from_millis(300));
+}
+
+#[test]
+fn a_client_says_what_it_means_if_no_first_reply_comes() {
+    let listener = TcpListener::bind("127.0.0.1:0").unwrap();
+    let at = listener.local_addr().unwrap().to_string();
+    let text = Client::connect(&at, "t", quick())
+        .err()
+        .map(|it| it.to_string());
+    let wanted = "no connection: connected, but no reply in 300 ms; perhaps all sessions are taken (mwserve --clients)";
+    assert_eq!(text.as_deref(), Some(wanted));
 }
 
 #[test]

@@ -56,10 +56,11 @@ public final class Counted {
 
     /**
      * As {@link Client#cas}, of up to fifteen entries; but after Lost or Unknown it connects the client anew and finds out. It first does
-     * so for the change before, if that is undecided. What it tells as not made never will be.
+     * so for the change before, if that is undecided, and forgets its outcome: call settle first. What it tells as not made never will
+     * be.
      *
      * @param entries one to fifteen
-     * @return whether it was made; if a reply was lost, not why not
+     * @return whether it was made; if a reply was lost, not why not: perhaps no word differs, so read again, or send it again
      * @throws MondlexiException Unknown, with its cause, if the change stays undecided: then settle tells. After any other it was not
      *     made, and never will be
      */

@@ -6,7 +6,7 @@ import java.util.Optional;
  * How a change ended.
  *
  * @param made whether all words had their expected values, and the new ones are written, durably; otherwise nothing was changed
- * @param miss of a change that wasn't made, why; a {@link Counted} doesn't know it if a reply was lost
+ * @param miss of a change that wasn't made, why; a {@link Counted} doesn't know it if a reply was lost, and perhaps no word differs
  */
 public record Outcome(boolean made, Optional<Miss> miss) {
     static final Outcome MADE = new Outcome(true, Optional.empty());

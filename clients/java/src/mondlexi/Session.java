@@ -218,10 +218,16 @@ final class Session {
         return Optional.empty();
     }
 
+    /** What is told of a reply that did not come in time. */
+    private String noReply() {
+        String why = link.isSilent() ? "; perhaps all sessions are taken (mwserve --clients)" : "";
+        return "connected, but no reply in " + options.timeout().toMillis() + " ms" + why;
+    }
+
     /** Closes the connection, and tells what that means. */
     private <T> Answer<T> gone(Question<T> question, IOException failure) {
         boolean isLate = failure instanceof SocketTimeoutException;
-        String text = question.lines().get(0) + ": " + failure.getMessage();
+        String text = question.lines().get(0) + ": " + (isLate ? noReply() : failure.getMessage());
         boolean isFull = link.isSilent() && !isLate;
         drop();
         if (isFull) {

@@ -58,6 +58,7 @@ class AwaitedLocks(Recipe):
     async def acquire(self, locks: Iterable[int], lease: float, wait: float = 0.0) -> Optional[Grant]:
         """All of one to eight locks, for so many seconds from before it asked; None if some are held for `wait` seconds.
 
+        The lease of what it gives isn't over yet. If a reply came too late for that, it has given the locks back, and asked again.
         It never holds some and waits for others, so there is no deadlock. `lease`: 0.01 to 655.35 seconds, in steps of 0.01,
         rounded down. Waiters have no order. But who took a lock eight times in a row lets others have a turn, and who has seen
         others take it more than sixteen times asks again more often. So a wait has no limit that is known beforehand.
@@ -79,6 +80,7 @@ class AwaitedLocks(Recipe):
 
     async def renew(self, grant: Grant, lease: float) -> Optional[Grant]:
         """The same locks for so many seconds from before it asked; None if one was released or taken over: then none is renewed.
+        If a reply came too late, the new lease is over too: `left` tells.
 
         The tokens stay, but for each 65,536th renewal, which takes the locks anew. Raises as `acquire`: after Unknown the lease
         that the grant tells still counts."""
@@ -104,13 +106,16 @@ class AwaitedLocks(Recipe):
         return list(zip(words[::2], words[1::2]))
 
     async def _take(self, wanted: List[int], states: List[Tuple[int, int]], units: int, since: float) -> Optional[Grant]:
-        """All of them from this moment on, if all are free in these states."""
+        """All of them from this moment on, if all are free in these states, and the reply comes before the lease is over."""
         if not all([self._watch.is_over(lock, state) for lock, state in zip(wanted, states)]):
             return None
         grant = Grant(tuple(wanted), tuple(token + 1 for token, _ in states), since + units * UNIT, self._word(0, units))
         entries = [entry for lock, token, state in zip(wanted, grant.tokens, states)
                    for entry in ((self._at + 2 * lock, state[0], token), (self._at + 2 * lock + 1, state[1], grant.word))]
         if not await self._resent(entries):
+            return None
+        if grant.left() <= 0:
+            await self.release(grant)
             return None
         self._note(grant)
         return grant

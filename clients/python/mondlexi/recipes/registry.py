@@ -50,6 +50,7 @@ class AwaitedRegistry(Recipe):
     async def join(self, lease: float, wait: float = 0.0) -> Optional[Place]:
         """A place for so many seconds from before it asked; None if none gets free for `wait` seconds.
 
+        The lease of what it gives isn't over yet. If a reply came too late for that, it has left the place, and asked again.
         `lease`: 0.01 to 655.35 seconds. Raises ValueError or TypeError; Unknown if it may have taken one, which is free again once
         the lease is over; any other `Error` if it hasn't."""
         units, end = units_of(lease), time.monotonic() + seconds_of("wait", wait, True)
@@ -61,7 +62,8 @@ class AwaitedRegistry(Recipe):
             await self._session.pause(min(left, _PAUSE * random.uniform(0.5, 1.0)))
 
     async def renew(self, place: Place, lease: float) -> Optional[Place]:
-        """The same place for so many seconds from before it asked; None if it was left or taken over. Raises as `join`."""
+        """The same place for so many seconds from before it asked; None if it was left or taken over. Raises as `join`. If a
+        reply came too late, the new lease is over too: `left` tells."""
         since, units = time.monotonic(), units_of(lease)
         longer = place._replace(until=since + units * UNIT, word=self._word(units), moves=place.moves + 1)
         return longer if await self._resent(self._moved(place, longer)) else None
@@ -71,7 +73,7 @@ class AwaitedRegistry(Recipe):
         await self._resent(self._moved(place, place._replace(word=0, moves=place.moves + 1)))
 
     async def _try_to_join(self, units: int) -> Optional[Place]:
-        """Some place that is free."""
+        """Some place that is free, if the reply comes before the lease is over."""
         since = time.monotonic()
         words = await self._session.get_many(range(self._at, self._at + PLACE_WORDS * self._places), self._wait)
         states = [(words[k], words[k + 1]) for k in range(0, len(words), PLACE_WORDS)]
@@ -82,7 +84,12 @@ class AwaitedRegistry(Recipe):
         (moves, word), count = states[number], words[PLACE_WORDS * number + 2]
         place = Place(number, self._at + PLACE_WORDS * number + 2, since + units * UNIT, self._word(units), moves + 1)
         entries = [*self._moved(place._replace(word=word, moves=moves), place), (place.address, count, count + STEP)]
-        return place if await self._resent(entries) else None
+        if not await self._resent(entries):
+            return None
+        if place.left() <= 0:
+            await self.leave(place)
+            return None
+        return place
 
     def _moved(self, place: Place, then: Place) -> List[Entry]:
         """From one state of a place to another."""
