@@ -3,6 +3,7 @@
 Used by: scripts/check-backup.
 """
 import os
+import shutil
 import signal
 import socket
 import subprocess
@@ -18,6 +19,7 @@ OLD, YOUNG = "2026-01-01T000000Z.part", "2026-01-01T000001Z.part"
 """What runs that were cut off have left."""
 HOURS = 7200
 """After so many seconds it is old."""
+NO_SERVER = "without a server"
 Copies = Dict[str, Dict[str, bytes]]
 """The folders that are kept, by name: of each its files, by name, with their bytes."""
 
@@ -77,14 +79,17 @@ class Backup:
         after = self.copies()
         new = [it for it in after if it not in before]
         same((len(new), {it: after.get(it) for it in before}), (1, before), f"the copies that are kept, {what}")
-        same(sorted(after[new[0]]), ["a.mw", "b.mw", "tenants"], f"the files of the new copy, {what}")
-        same(after[new[0]]["tenants"], (self.served / "tenants").read_bytes(), f"its tenants file, {what}")
+        same(sorted(after[new[0]]), ["a.mw", "b.mw", "tenants", "tenants.served"], f"the files of the new copy, {what}")
+        same(after[new[0]]["tenants.served"], (self.served / "tenants").read_bytes(), f"its copy of the tenants file, {what}")
+        same(after[new[0]]["tenants"], "".join(f"{name} {words} {quota} {name}.mw\n" for name, words, quota in TENANTS).encode(), f"its own tenants file, {what}")
         same([self.words_of(self.kept / new[0] / f"{name}.mw") for name, _, _ in TENANTS], [[word, 0, 0], [0] * 5], f"its words, {what}")
 
     def keeps_nothing(self, step: str, what: str) -> None:
         """A run that fails: its status, its last line, and all that is kept is as it was."""
         before, moment, ended = self.copies(), self.last(), self.run()
         same(self.last(), moment, f"the moment of the last backup, {what}")
+        unanswered = f"no answer at unix:{self.served / 'pages'}: is the unit running?\n"
+        same(unanswered in ended.stdout, what == NO_SERVER, f"whether {SCRIPT.name}, {what}, says that nobody answers: {ended.stdout!r}")
         last = f"mondlexi-backup: failed at {step}; earlier copies are as they were\n"
         same((ended.returncode != 0, ended.stdout.endswith(last)), (True, True), f"{SCRIPT.name}, {what}, which says {ended.stdout!r}")
         same(self.copies(), before, f"what is kept, {what}")
@@ -129,7 +134,18 @@ def try_failures(backup: Backup, server: Server) -> None:
     backup.keeps_nothing("tenant a, by what mwshow says of its copy", "with a copy that has damage")
     backup.programs = programs
     server.end()
-    backup.keeps_nothing(f"tenant a, asked for at {pages}", "without a server")
+    backup.keeps_nothing(f"tenant a, asked for at {pages}", NO_SERVER)
+
+
+def try_drill(backup: Backup, mwserve: Path) -> None:
+    """A drill on the last copy changes no file that was served, though the tenants file has absolute paths; no server has them now."""
+    served, drill = {it: (backup.served / it).read_bytes() for it in ("a.mw", "b.mw")}, backup.folder / "drill"
+    shutil.copytree(max(it for it in backup.kept.iterdir() if not it.name.endswith(".part")), drill)
+    (drill / "script").write_text("TENANT a\nCAS 0:1:7\nGET 0\n")
+    told = subprocess.run([mwserve, "--tenants", "tenants", "--strict", "--script", "script"], cwd=drill, stdout=subprocess.PIPE, text=True, timeout=PATIENCE)
+    same((told.returncode, told.stdout), (0, "OK 3\nYES\nVAL 7\n"), "a drill on a copy")
+    same({it: (backup.served / it).read_bytes() for it in served}, served, "the files that were served, after a drill")
+    same(backup.words_of(drill / "a.mw")[0], 7, "the word that the drill changed")
 
 
 def try_backup_for_cron(mwserve: Path, mwshow: Path, folder: Path) -> str:
@@ -137,15 +153,18 @@ def try_backup_for_cron(mwserve: Path, mwshow: Path, folder: Path) -> str:
     backup = Backup(folder, mwshow)
     with Server(mwserve, backup.served, TENANTS).start() as server:
         backup.keeps_one_more(0, "as the first run")
+        (backup.served / "tenants").write_text("".join(f"{name} {words} {quota} {backup.served / name}.mw\n" for name, words, quota in TENANTS))
         client = Client(server.port, "a")
         same(client.ask("CAS 0:0:1"), "YES", "a change between two runs")
         client.close()
         backup.keeps_one_more(1, "as the second run of a day")
         try_leftovers(backup)
         try_failures(backup, server)
+        try_drill(backup, mwserve)
     backup.kept.rename(backup.folder / "away")
     ended = backup.run()
     last = f"mondlexi-backup: failed at a new folder in {backup.kept}; earlier copies are as they were\n"
     if ended.returncode == 0 or not ended.stdout.endswith(last):
         raise Wrong(f"{SCRIPT.name}, without the folder of copies: status {ended.returncode}, {ended.stdout!r}")
-    return f"contrib/{SCRIPT.name}: each run keeps a copy of its own; a run that fails or is cut off leaves the earlier ones, and stops no other"
+    return (f"contrib/{SCRIPT.name}: each run keeps a copy of its own; a run that fails or is cut off leaves the earlier ones, and stops no other; "
+            "a drill on a copy changes no file that was served")

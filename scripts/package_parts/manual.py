@@ -118,7 +118,9 @@ def head_of(script: str) -> List[str]:
 def manual(name: str, version: str, day: str) -> str:
     """The man page of a program, in roff. ValueError if a document lacks what it needs."""
     of = MANUALS[name]
-    text = [f'.TH {name.upper()} 1 {day} "mondlexi {version}"', ".SH NAME", f"{name} \\- {escaped(of.purpose)}"]
+    # (moment and commit of an unreleased version leave no room for the day at the foot of a page)
+    told = re.sub(r"(?<=\+unreleased)\..*", "", version)
+    text = [f'.TH {name.upper()} 1 {day} "mondlexi {told}"', ".SH NAME", f"{name} \\- {escaped(of.purpose)}"]
     for number, (page, heading) in enumerate(of.sections):
         text += [f".SH {'DESCRIPTION' if number == 0 else heading.upper()}", *blocks(section_text(page, heading))]
     if of.script:

@@ -17,6 +17,7 @@ import sys
 import threading
 import time
 from pathlib import Path
+from typing import List, Tuple
 
 from units import (LOCAL, OPTIONS, PAGE, PATIENCE, PROXY, PROXY_PAGE, ROOM, UNITS, DropIn, Unit, begin, blocks, client, end, ended, journal, main_process,
                    refuses_to_start, run, same, section_of, servers, shown, state, try_to_talk, type_block, wait_until, word,
@@ -79,11 +80,11 @@ def try_process(unit: Unit) -> None:
 
 
 def try_socket_users() -> None:
-    """A user may connect to the local socket once he is in the group mwclients, and not before."""
-    run("useradd", "--create-home", "alice")
-    connect = ("runuser", "-u", "alice", "--", "python3", "-c", "import mondlexi; print(mondlexi.Client('unix:/run/mondlexi/socket', 't').words)")
+    """A user may connect to the local socket once she is in the group mwclients, by the page's commands, and not before."""
+    run("useradd", "--create-home", "anna")
+    connect = ("runuser", "-u", "anna", "--", "python3", "-c", "import mondlexi; print(mondlexi.Client('unix:/run/mondlexi/socket', 't').words)")
     same("Permission denied" in ended(*connect).stdout, True, "that a user who isn't in mwclients is refused")
-    run("usermod", "-aG", "mwclients", "alice")
+    type_block(blocks("As a service")[1], ROOM)
     same(run(*connect), "1000\n", "what a user in mwclients hears")
     run("runuser", "-u", "mw", "--", "mondlexi-check", "unix:/run/mondlexi/admin")
 
@@ -137,12 +138,20 @@ def try_second_unit() -> None:
     print("the two units conflict: each start ends the other one first")
 
 
+def errors_of(unit: Unit) -> List[str]:
+    """What the page's command shows of a unit: its notes that are errors."""
+    command = re.findall(r"`(journalctl -p err -u )UNIT`", PAGE.read_text())
+    same(len(command), 1, "the command of OPERATING that shows errors")
+    return run(*command[0].split(), unit.name, "--boot", "--output", "cat", "--no-pager").splitlines()
+
+
 def try_failing_starts(unit: Unit) -> None:
     """`systemctl start` fails if nothing is served: without the tenants file, with a wrong option, and if no tenant is up. With one that is up it goes well."""
     tenants, chosen = ROOM / "tenants", OPTIONS.read_text()
     text = tenants.read_text()
     tenants.rename(ROOM / "tenants.away")
     refuses_to_start(unit, "refused 2 file", "without a tenants file")
+    same("mwserve: refused 2 file" in errors_of(unit), True, f"that journalctl -p err shows why {unit.name} doesn't start")
     (ROOM / "tenants.away").rename(tenants)
     OPTIONS.write_text(chosen.replace("--clients 256", "--clients none"))
     refuses_to_start(unit, "none", "with a wrong option")
@@ -153,10 +162,39 @@ def try_failing_starts(unit: Unit) -> None:
     tenants.write_text(f"{text}away 2 1 away.mw\n")
     begin(unit)
     same(ended("mondlexi-health", "unix:/run/mondlexi/pages").stdout, "down away\n", "mondlexi-health of a unit with a tenant that is down")
+    same("tenant away: disk" in errors_of(unit), True, "that journalctl -p err shows which tenant isn't served")
     end(unit)
     tenants.write_text(text)
     OPTIONS.write_text(chosen)
     print(f"{unit.name}: systemctl start fails if nothing is served, and says why")
+
+
+def try_most_clients(unit: Unit) -> None:
+    """The limits of a unit are enough for the most clients, with --wait."""
+    chosen, before = OPTIONS.read_text(), len(journal(unit.name))
+    OPTIONS.write_text(chosen.replace("--clients 256", "--clients 4096"))
+    begin(unit)
+    try_to_talk(unit)
+    same([it for it in journal(unit.name)[before:] if it.startswith("mwserve: ")], [], "the notes of a unit with --clients 4096")
+    end(unit)
+    OPTIONS.write_text(chosen)
+    print(f"{unit.name}: --clients 4096 within the limits of the unit")
+
+
+def try_command(unit: Unit, folder: Path) -> None:
+    """The command mondlexi: a change, a word that is set and read, words that are dumped and loaded, and a file that is made of a dump."""
+    begin(unit)
+    run("mondlexi", unit.listen, "t", "set", "7:5")
+    run("mondlexi", unit.listen, "t", "cas", "7:5:6", "8:0:1")
+    same(run("mondlexi", unit.listen, "t", "read", "7", "8").split(), ["6", "1"], "what mondlexi read prints")
+    run("sh", "-c", f"mondlexi {unit.listen} t dump --words > {folder}/dump && mwinit --from {folder}/dump {folder}/again.mw 1000 4")
+    same("word 7 6" in run("mwshow", folder / "again.mw").splitlines(), True, "the word of a file that was made of a dump")
+    run("mondlexi", unit.listen, "t", "cas", "7:6:0", "8:1:0")
+    run("sh", "-c", f"mondlexi {unit.listen} t load {folder}/dump")
+    same(run("mondlexi", unit.listen, "t", "get", "7"), "6\n", "a word that was loaded")
+    run("mondlexi", unit.listen, "t", "cas", "7:6:0", "8:1:0")
+    end(unit)
+    print("the command mondlexi: set, cas, read, dump, load; mwinit makes a file of its dump")
 
 
 def try_full(unit: Unit) -> None:
@@ -283,41 +321,69 @@ def try_timers(unit: Unit) -> None:
         run("systemctl", "start", name)
     end(unit)
     copies = sorted(kept.iterdir())
-    same([sorted(it.name for it in copy.iterdir()) for copy in copies], 2 * [["t.mw", "tenants"]], "the copies of mondlexi-backup")
+    same([sorted(it.name for it in copy.iterdir()) for copy in copies], 2 * [["t.mw", "tenants", "tenants.served"]], "the copies of mondlexi-backup")
     same([f"word 0 {value}" in run("mwshow", copy / "t.mw").splitlines() for copy in copies], [True, True], "the word 0 of these copies")
     figure = (figures / "mondlexi.prom").read_text().split()
     same((figure[-2], time.time() - float(figure[-1]) < PATIENCE), ("mondlexi_backup_time_seconds", True), "the figure of the last backup")
-    fails_with_alarm("mondlexi-health", "no answer", mail)
+    fails_with_alarm("mondlexi-health", "no answer at unix:/run/mondlexi/pages: is the unit running", mail)
     fails_with_alarm("mondlexi-backup", "mondlexi-backup: failed at tenant t", mail)
     same(sorted(kept.iterdir()), copies, "the copies after a backup that failed")
     run("rm", "-r", *copies, mailer)
     print("the timers' health and backup: well with a server, with a figure of the last backup; without one an alarm in the journal and by mail")
 
 
+def try_drill(unit: Unit, drill: List[Tuple[str, str]], value: int) -> None:
+    """The page's drill, and with a change in place of its read, beside a server and without one: the served word stays as it is."""
+    changing = [(command.replace("GET 0", f"CAS 0:{value}:{value + 1}"), "OK 1000\nYES\n" if "--script" in command else wanted)
+                for command, wanted in drill]
+    same("CAS" in "".join(command for command, _ in changing), True, "that the page's drill reads the word 0")
+    type_block(drill, ROOM)
+    type_block(changing, ROOM)
+    same(word(unit), value, "the word after a drill beside the server")
+    end(unit)
+    type_block(changing, ROOM)
+    begin(unit)
+    same(word(unit), value, "the word after a drill without a server")
+
+
+def try_drill_in_service(unit: Unit, second: List[Tuple[str, str]], value: int) -> None:
+    """The page's commands that restore a copy as a second tenant, which goes after."""
+    text = (ROOM / "tenants").read_text()
+    type_block(second, ROOM)
+    same(run("mondlexi", unit.listen, "u", "get", "0"), f"{value}\n", "the word of a copy that was restored as a second tenant")
+    end(unit)
+    (ROOM / "tenants").write_text(text)
+    (ROOM / "u.mw").unlink()
+    begin(unit)
+
+
 def try_page(unit: Unit) -> None:
-    """The page's commands for a backup of a server that serves, and of a stopped one, for a drill, to restore it, when a tenant is down,
-    and for more words."""
+    """The page's commands for a backup of a server that serves, and of a stopped one, for drills, to restore it, when a tenant is down,
+    and for more words. The tenants file has an absolute path."""
+    text = (ROOM / "tenants").read_text()
+    (ROOM / "tenants").write_text(text.replace(" t.mw\n", f" {ROOM}/t.mw\n"))
     begin(unit)
     try_to_talk(unit)
     value = word(unit)
-    backup, restore = (it for it in blocks("Backup") if any("systemctl stop" in command for command, _ in it))
+    backup, restore, second = (it for it in blocks("Backup") if any("systemctl stop" in command for command, _ in it))
     serving, drill = (next(it for it in blocks("Backup") if any(word_of in command for command, _ in it)) for word_of in ("--unix-socket", "--script"))
     type_block(serving, ROOM)
     same(f"word 0 {value}" in run("mwshow", "/backup/today/t.mw").splitlines(), True, "the word 0 of a backup while it serves")
     type_block(backup, ROOM)
-    type_block(drill, ROOM)
     wait_until("the server after a backup", lambda: ended("mondlexi-check", unit.admin).returncode == 0)
+    try_drill(unit, drill, value)
     try_to_talk(unit)
     type_block(restore, ROOM)
     wait_until("the server after that was restored", lambda: ended("mondlexi-check", unit.admin).returncode == 0)
     same(word(unit), value, "the word of a backup that was restored")
+    try_drill_in_service(unit, second, value)
     type_block(blocks("When a tenant is down")[0], ROOM)
     same(state(unit.name), ("inactive", "success"), "the unit while a tenant is mended")
     type_block(blocks("Changing tenants")[0], ROOM)
     wait_until("the server after the tenant has grown", lambda: ended("mondlexi-check", unit.admin).returncode == 0)
     with client(unit) as at:
         same((at.words, at.get(0)), (2000, value), "the tenant that has grown")
-    print("the page's commands for a backup of a server that serves, and of a stopped one, for a drill, to restore it, when a tenant is down, and for more words")
+    print("the page's commands for a backup of a server that serves, and of a stopped one, for drills, to restore it, when a tenant is down, and for more words")
 
 
 def restart_elsewhere(unit: Unit) -> None:
@@ -395,6 +461,8 @@ def first_boot(deb: str) -> None:
         try_pages(unit)
     try_timers(port)
     try_full(port)
+    try_most_clients(port)
+    try_command(local, Path("/tmp"))
     try_strict(local)
     try_own_administrators(local)
     try_without_systemd(local)
@@ -480,7 +548,7 @@ def try_archive(archive: str) -> None:
     modules = run("python3", "-c", "import site; print(site.getsitepackages()[0])").strip()
     run("sh", "-c", f"cp {top}/bin/* /usr/local/bin && mkdir -p {modules} && cp -r {top}/python/mondlexi {modules} && cp {top}/contrib/*.service {top}/contrib/*.socket {top}/contrib/*.timer /etc/systemd/system"
         f" && cp {top}/contrib/mondlexi.default /etc/default/mondlexi")
-    package, users, *_ = blocks("As a service", top / "docs/OPERATING.md")
+    package, _, users, *_ = blocks("As a service", top / "docs/OPERATING.md")
     type_block(users, Path("/root"))
     Path("/backup").rename("/backup-before")
     type_block(package[1:], Path("/root"))

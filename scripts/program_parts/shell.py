@@ -51,6 +51,8 @@ def try_lines(server):
     status, lines, errors = piped("report\n", server.at, "--admin")
     same((status, lines.split("\n")[1].split(), lines.split("\n")[-2], errors), (0, ["t", str(WORDS), "5", "10", "0", "up"], "free 256", ""), "report")
     same(piped("get 0\n", server.at, "--admin")[0], 1, "get of the administrator")
+    same(piped("", server.at, "--admin"), (1, "", "mondlexi: no command came; `report` is one\n"), "no command of the administrator")
+    same(piped("", server.at, "t"), (0, "", ""), "no command of a tenant")
 
 
 def once(*words):

@@ -80,8 +80,9 @@ def run_shell(shell: Shell, intro: str, command: List[str]) -> int:
     elif sys.stdin.isatty():
         shell.run_terminal(f"{intro}; `help` lists the commands")
         return 0
-    else:
-        shell.run_lines(sys.stdin)
+    elif not shell.run_lines(sys.stdin) and isinstance(shell, AdministratorShell):
+        print("mondlexi: no command came; `report` is one", file=sys.stderr)
+        return 1
     return 1 if shell.has_failed else 0
 
 

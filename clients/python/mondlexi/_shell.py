@@ -45,11 +45,14 @@ class Shell(cmd.Cmd):
             except KeyboardInterrupt:
                 self._say("")
 
-    def run_lines(self, lines: IO[str]) -> None:
-        """Takes a command from each line until the end, or `quit`."""
+    def run_lines(self, lines: IO[str]) -> bool:
+        """Takes a command from each line until the end, or `quit`. Whether a line came."""
+        came = False
         for line in lines:
+            came = True
             if self.onecmd(line.rstrip("\n")):
-                return
+                break
+        return came
 
     def onecmd(self, line: str) -> bool:
         """Does a command. Whether it was the last one."""
