@@ -1,6 +1,5 @@
 -- A job that is well formed for its tenant is one that a request may have, and its entries are in range.
--- Used by: the proof of Actor::new, mw_engine, mw_simulator, mw_law_runs. Its statements may change with mw_engine, mw_law_runs
--- and mw_simulator; its proofs may change freely.
+-- Used by: Actor::new, mw_law_runs, mw_engine, mw_simulator.
 use Rattle.std.specs.Prelude.{ℕ, ◌≡◌, ◌≤◌, ◌<◌, ◌^◌, ◌&&◌, Bool, true, false, List, [], ◌∷◌, length, nat_le, slice_index_or}
 use Rattle.std.specs.List.{list_all}
 use Rattle.std.proofs.Common.{refl, sym, subst, arith}

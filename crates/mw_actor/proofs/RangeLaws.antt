@@ -1,7 +1,6 @@
--- The numbers that a request keeps (slots, entries, sequence and attempt numbers) stay in range from each point of its program
--- to the next.
--- Used by: the proofs of Actor::after and Actor::tell_of, mw_law_runs. Its statements may change with mw_law_runs; its proofs
--- may change freely.
+-- The numbers that a request keeps (slots, entries, sequence and attempt numbers) stay in range from each point of its
+-- program to the next.
+-- Used by: Actor::after, Actor::tell_of, mw_law_runs.
 use Rattle.std.specs.Prelude.{IfSome, ℕ, ◌≡◌, ◌+◌, ◌^◌, ◌<◌, ◌≤◌, ◌==◌, ◌&&◌, ◌||◌, ◌++◌, Bool, true, false, cond, nat_lt, nat_le, Some, None, List, [], ◌∷◌, length}
 use Rattle.std.specs.declared.option.Option.{Option}
 use Rattle.mw_words.specs.declared.limits.TheConstants.{MAX_ENTRIES, MAX_VALUE, MAX_WORDS, MAX_WORKERS, WORN_NUMBER}

@@ -1,6 +1,6 @@
--- Defines the state of a request while a worker works on it, and small definitions that its program uses.
--- Used by: 11 pages of specs/, 17 crates from mw_world on, the contracts of actor.rt, actor/asks.rt and tasks.rt. A change here
--- changes the program of every request, and the laws about it.
+-- Defines the state of a request, and small definitions that its program uses.
+-- Used by: many crates from mw_world on, actor.rt, actor/asks.rt, tasks.rt. A change here changes the program of every
+-- request, and its laws.
 use Rattle.std.specs.Prelude.{ℕ, ◌==◌, ◌&&◌, Bool, cond, List, [], slice_index_or}
 use Rattle.mw_words.specs.declared.rows.Row.{Row}
 use Rattle.mw_words.specs.declared.words.Word.{Word}

@@ -1,6 +1,6 @@
 -- Defines how a change gets a slot: its tenant's door admits it, it claims a free slot's gate, and it is written there.
--- Used by: Program, mw_law_runs, mw_law_store, mw_rule, the contracts of actor/moves.rt. It is a part of Program: a change here
--- changes the algorithm, and the laws in the crates above must be proved again.
+-- Used by: mw_law_runs, mw_law_store, mw_rule, actor/moves.rt. It is a part of Program: a change here changes the algorithm
+-- and its laws.
 use Rattle.std.specs.Prelude.{ℕ, ◌+◌, ◌==◌, ◌&&◌, ◌||◌, not, Bool, false, cond, nat_lt, Some, None, length}
 use Rattle.std.specs.declared.option.Option.{Option}
 use Rattle.mw_words.specs.declared.limits.TheConstants.{WORN_NUMBER}

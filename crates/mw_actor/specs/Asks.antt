@@ -1,6 +1,5 @@
 -- Defines the step for which a request asks at each point of its program.
--- Used by: Parts, 13 crates from mw_world on, the contracts of actor.rt and actor/asks.rt. A new point needs a case here and in
--- Program.
+-- Used by: many crates from mw_world on, actor.rt, actor/asks.rt. A new point needs a case here and in Program.
 use Rattle.std.specs.Prelude.{ℕ, Bool, true, false, length}
 use Rattle.mw_words.specs.declared.places.At.{At}
 use Rattle.mw_words.specs.declared.places.At.TheVariants.{Door as AtDoor, Gate as AtGate, Row as AtRow, Data, Status as AtStatus, Count, Addr, Expected, New}

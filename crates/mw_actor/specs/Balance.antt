@@ -1,6 +1,7 @@
 -- Defines what a request must still give back at each stage: its pins, a slot that it must free, and a slot that the door
--- counts for it. No contract of this crate cites it. The world's counts of pins and slots do (Definition/Counts of mw_world),
--- and laws of mw_law_runs and mw_law_store. A new stage needs a case here if the request must give back something there.
+-- counts for it.
+-- Used by: mw_world (`Definition/Counts`), mw_law_runs, mw_law_store. A new stage needs a case here if the request must give
+-- back something there.
 use Rattle.std.specs.Prelude.{ℕ, ◌+◌, cond}
 use Rattle.mw_look.specs.Runs.{if_same}
 use Rattle.mw_actor.specs.declared.points.Task.{Task}

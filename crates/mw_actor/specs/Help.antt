@@ -1,6 +1,6 @@
 -- Defines how a request turns to another's change that is in its way (helping), pins it, and reads it.
--- Used by: Inspection, Program, mw_law_runs, mw_law_store, mw_rule, the contracts of actor.rt, actor/moves.rt and tasks.rt. It
--- is a part of Program: a change here changes the algorithm, and the laws in the crates above must be proved again.
+-- Used by: mw_law_runs, mw_law_store, mw_rule, actor.rt, actor/moves.rt, tasks.rt. It is a part of Program: a change here
+-- changes the algorithm and its laws.
 use Rattle.std.specs.Prelude.{ℕ, ◌+◌, ◌&&◌, ◌++◌, cond, nat_lt, nat_le, Some, None, List, [], ◌∷◌, length}
 use Rattle.std.specs.declared.option.Option.{Option}
 use Rattle.mw_words.specs.declared.limits.TheConstants.{MAX_ENTRIES, MAX_VALUE, MAX_WORDS, WORN_NUMBER}

@@ -1,7 +1,6 @@
--- Defines how a request acquires the words of a change that is not decided: it looks at each word, and installs an attempt in
--- it.
--- Used by: Program, mw_law_runs, mw_law_store, mw_rule, the contracts of actor/moves.rt and tasks.rt. It is a part of Program:
--- a change here changes the algorithm, and the laws in the crates above must be proved again.
+-- Defines how a request acquires the words of a change that is not decided, by an attempt in each.
+-- Used by: mw_law_runs, mw_law_store, mw_rule, actor/moves.rt, tasks.rt. It is a part of Program: a change here changes the
+-- algorithm and its laws.
 use Rattle.std.specs.Prelude.{ℕ, ◌+◌, ◌==◌, ◌&&◌, Bool, true, false, cond, nat_lt, nat_le, length}
 use Rattle.mw_words.specs.declared.limits.TheConstants.{WORN_NUMBER}
 use Rattle.mw_words.specs.declared.gates.Gate.{Gate}

@@ -1,6 +1,5 @@
 -- Divides the points of a request's program among the functions of the code, and defines the next step in each part.
--- Used by: the contracts of actor/asks.rt. No law is about it: it may change with src/actor/asks.rt, which follows its
--- division.
+-- Used by: actor/asks.rt. No law is about it: change it with src/actor/asks.rt.
 use Rattle.std.specs.Prelude.{Bool, true, false, cond, Some, None}
 use Rattle.std.specs.declared.option.Option.{Option}
 use Rattle.mw_look.specs.declared.steps.Op.{Op}

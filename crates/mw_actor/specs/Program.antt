@@ -1,6 +1,6 @@
--- Defines the program of a request (a state machine): where it goes from each of its points.
--- Used by: 14 crates from mw_world on, the contracts of actor.rt and actor/moves.rt. It is the algorithm of a request: a new
--- point needs a case here and in Asks, and the laws in the crates above must be proved again.
+-- Defines the program of a request (a state machine): where it goes from each of its points. It is the algorithm.
+-- Used by: many crates from mw_world on, actor.rt, actor/moves.rt. A new point needs a case here and in Asks, and the laws
+-- above must be proved again.
 use Rattle.std.specs.Prelude.{ℕ, false, Some, None}
 use Rattle.std.specs.declared.option.Option.{Option}
 use Rattle.mw_words.specs.declared.replies.Reply.{Reply}

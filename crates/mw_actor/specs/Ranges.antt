@@ -1,6 +1,5 @@
 -- Defines when a request is in range: each number that it keeps fits into the bits of its place.
--- Used by: mw_law_runs, mw_law_store, mw_engine, mw_simulator, the contracts of actor.rt and actor/asks.rt. A new number in a
--- request needs a bound here, which each step must keep.
+-- Used by: mw_law_runs, mw_law_store, mw_engine, mw_simulator, actor.rt, actor/asks.rt. A new number needs a bound here.
 use Rattle.std.specs.Prelude.{ℕ, ◌≡◌, true, ◌<◌, ◌≤◌, ◌^◌, List, length, All}
 use Rattle.mw_words.specs.declared.limits.TheConstants.{MAX_ENTRIES, MAX_POOL, MAX_VALUE, MAX_WORDS, MAX_WORKERS, WORN_NUMBER}
 use Rattle.mw_words.specs.declared.jobs.Entry.{Entry}

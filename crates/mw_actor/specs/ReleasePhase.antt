@@ -1,6 +1,6 @@
 -- Defines the release phase: a request visits each word of a decided change, and removes what refers to the change.
--- Used by: Inspection, Program, mw_law_runs, mw_law_store, mw_rule, the contracts of actor/moves.rt and tasks.rt. It is a part
--- of Program: a change here changes the algorithm, and the laws in the crates above must be proved again.
+-- Used by: mw_law_runs, mw_law_store, mw_rule, actor/moves.rt, tasks.rt. It is a part of Program: a change here changes the
+-- algorithm and its laws.
 use Rattle.std.specs.Prelude.{ℕ, ◌+◌, ◌==◌, ◌&&◌, Bool, cond, nat_lt, length}
 use Rattle.mw_words.specs.declared.words.Word.{Word}
 use Rattle.mw_words.specs.declared.words.Word.TheVariants.{Plain, Planted, Held, Dirty}

@@ -1,6 +1,6 @@
 -- Defines how a request gives back a pin when its target (the change that it works on) is done, gives up, and ends.
--- Used by: Help, Inspection, Program, ReleasePhase, 6 crates from mw_law_runs on, the contracts of actor/moves.rt and tasks.rt.
--- It is a part of Program: a change here changes the algorithm, and the laws in the crates above must be proved again.
+-- Used by: mw_law_runs, mw_law_store, mw_rule, actor/moves.rt, tasks.rt. It is a part of Program: a change here changes the
+-- algorithm and its laws.
 use Rattle.std.specs.Prelude.{ℕ, ◌==◌, cond}
 use Rattle.mw_words.specs.declared.gates.Gate.{Gate}
 use Rattle.mw_words.specs.declared.statuses.Status.{Status}

@@ -1,6 +1,6 @@
--- Groups the points of a request's program into stages: what it holds there (pins, a slot), and what it will do next.
--- Used by: Balance, mw_world, mw_law_runs, mw_law_store. No code has stages: they group the points for the laws. A new point
--- needs a stage here.
+-- Groups the points of a request's program into stages, for the laws: what it holds there (pins, a slot), and what it will do
+-- next.
+-- Used by: mw_world, mw_law_runs, mw_law_store. A new point needs a stage here.
 use Rattle.std.specs.Prelude.{ℕ, ◌≡◌, ◌+◌, ◌==◌, ◌≤◌, true, false, nat_lt, List, length}
 use Rattle.mw_words.specs.declared.doors.Door.{Door}
 use Rattle.mw_words.specs.declared.gates.Gate.{Gate}

@@ -1,19 +1,18 @@
 //! The program of a request as a state machine: a read, or a change of several words at once.
 //!
 //! The machine is asked for its next step. A worker makes that step on the shared words or on the tenant's file, and
-//! tells the machine what the step found. This goes on until the request has its reply. A change is written into a
-//! slot of the pool. If a change finds another in its way, it first works on that one, as the other's own worker
-//! does. A read only looks.
+//! tells the machine what it found, until the request has its reply. A change is written into a slot of the pool. If
+//! a change finds another in its way, it first works on that one. A read only looks.
 //!
 //! A change follows the multi-word compare-and-swap of Harris, Fraser and Pratt ("A practical multi-word
-//! compare-and-swap operation", 2002). A slot is what they call a descriptor, and work on the change in the way
-//! is their helping. A plant and a resolve are their restricted double-compare single-swap, RDCSS: the worker
-//! plants an attempt in a word, then loads the change's status. It exchanges the attempt for the held word if
-//! the change was open, else for the old value. This crate adds the tenant's file, which holds the change
-//! before any word has its new value, and the pins and sequence numbers with which slots are used again.
+//! compare-and-swap operation", 2002). A slot is what they call a descriptor, and work on the change in the way is
+//! their helping. A plant and a resolve are their restricted double-compare single-swap, RDCSS: the worker plants an
+//! attempt in a word, then loads the change's status. It exchanges the attempt for the held word if the change was
+//! open, else for the old value. This crate adds the tenant's file, which holds the change before any word has its
+//! new value, and the pins and sequence numbers with which slots are used again.
 //!
-//! The statuses of a change. The two decisions are exchanges, and any worker on the change may win them.
-//! Prepare, seal, settle and cancel are calls on the file.
+//! The statuses of a change. The two decisions are exchanges, and any worker on the change may win them. Prepare,
+//! seal, settle and cancel are calls on the file.
 //!
 //! ```text
 //! Draft --prepare--> Open --decide yes--> YesDirty --seal--> Yes --settle--> DoneYes
@@ -21,14 +20,12 @@
 //!                     +-----decide no---> No --cancel--> DoneNo
 //! ```
 //!
-//! The definitions, in the order of reading: `specs/ActorState` (a request), `specs/Asks` (its step at each point),
-//! `specs/Program` (where it goes from there, with `Admission`, `Inspection`, `Help`, `ReleasePhase` and `RequestEnds` as its
-//! parts), and `specs/Ranges` (which numbers are in range). `specs/Parts` divides the points among the functions of the code.
-//! `specs/Stages` and `specs/Balance` group them by what the request holds there. What holds of all runs of a request is in
-//! mw_law_runs.
+//! Read `specs/ActorState` (a request), `specs/Asks` (its step at each point), `specs/Program` (where it goes from
+//! there) with its parts `Admission`, `Inspection`, `Help`, `ReleasePhase` and `RequestEnds`, and `specs/Ranges`.
+//! mw_law_runs says what holds of all runs of a request.
 //!
-//! mw_core makes these steps on the shared words of threads, and mw_simulator on a world in memory. docs/STEPS tells
-//! the algorithm; a change of it is a change of `specs/Program`, and of the laws of the world.
+//! Used by: mw_core, on the shared words of threads; mw_simulator, in memory. docs/STEPS tells the algorithm; a
+//! change of it changes `specs/Program` and the laws of the world.
 #![tactic(auto)]
 
 mod actor;

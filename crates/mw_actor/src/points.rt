@@ -1,8 +1,7 @@
 //! The points of a request's program (its program counter), each with what the request must know there.
 //!
-//! `actor.rt` goes from point to point; the definitions and laws of the world see the point of each request. A new
-//! point needs a case in `specs/Asks`, `specs/Program`, `specs/Parts`, `specs/Stages` and `specs/Ranges`, and in each
-//! law of requests.
+//! `actor.rt` goes from point to point. A new point needs a case in `specs/Asks`, `specs/Program`, `specs/Parts`,
+//! `specs/Stages` and `specs/Ranges`, and in each law of requests.
 
 use mw_look::Look;
 use mw_words::{Door, Gate, Reply};

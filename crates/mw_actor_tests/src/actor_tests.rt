@@ -1,7 +1,5 @@
 //! Tests the machine of a request (`mw_actor`): it is told what each of its steps found, and must ask for the right
 //! next step.
-//!
-//! Nothing else uses it: it may change with what it tests.
 use crate::script::Step;
 use mw_actor::*;
 use mw_look::{Call, Got, Kind, Told};

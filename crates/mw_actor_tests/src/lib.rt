@@ -1,6 +1,5 @@
-//! Tests the machines of requests, which ask for one step on the shared words at a time: paths through their
-//! programs, and each public function once. The tests are apart from the crates that they test, so that those are
-//! proved once.
+//! Tests the machines of requests: paths through their programs, and each public function once. The tests are apart
+//! from the crates that they test, so that those are proved once.
 #![tactic(auto)]
 
 #[cfg(test)]

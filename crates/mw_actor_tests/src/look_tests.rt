@@ -1,7 +1,5 @@
 //! Tests the machine of a read (`mw_look`): it is told what each of its steps found, and must ask for the right
 //! next step.
-//!
-//! Nothing else uses it: it may change with what it tests.
 use crate::script::Step;
 use mw_look::*;
 use mw_words::{At, Reply};

@@ -1,6 +1,4 @@
 //! Tests the rules for doors and gates (`mw_pool`): admission, claims, pins and freed slots.
-//!
-//! Nothing else uses it: it may change with what it tests.
 use mw_pool::*;
 use mw_words::{Door, Gate, MAX_PINS, WORN_NUMBER};
 

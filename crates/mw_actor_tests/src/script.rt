@@ -1,6 +1,6 @@
 //! The steps of a script: what a machine must ask for, and what it is told that the step found.
 //!
-//! Used by: `actor_tests`, `look_tests`. It may change freely as long as this crate checks and its tests pass.
+//! Used by: `actor_tests`, `look_tests`.
 use mw_look::{Call, Got, Kind, Op};
 use mw_words::At;
 

@@ -1,5 +1,5 @@
 -- A book (a tenant's open file under its lock) that represents a simulated file also represents every file that is alike.
--- Used by: mw_core, the law files_that_are_alike. Its statements may change with mw_core; its proofs may change freely.
+-- Used by: mw_core.
 use Rattle.std.proofs.Common.{ℕ, List, length, sym, ap, subst, ◌∙◌}
 use Rattle.mw_words.specs.declared.jobs.Entry.{Entry}
 use Rattle.mw_disk.specs.Facts.{Facts}

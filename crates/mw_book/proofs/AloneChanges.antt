@@ -1,5 +1,6 @@
--- A call for a change that is alone makes just the device calls that the world lists, and leaves no change settled or prepared ahead.
--- Used by: the law a_change_alone_makes_the_listed_calls. It may change freely as long as this crate checks.
+-- A call for a change that is alone makes just the device calls that the world lists, and leaves no change settled or
+-- prepared ahead.
+-- Used by: a_change_alone_makes_the_listed_calls.
 use Rattle.std.proofs.Common.{◌≡◌, ◌≢◌, ℕ, ◌+◌, ◌<◌, zero, suc, ◌||◌, ◌&&◌, not, Bool, true, false, List, [], ◌∷◌, length, nat_lt, take, min, if◌then◌else◌, refl, sym, ap, ◌∙◌, inl, inr, arith}
 use Rattle.std.specs.List.{filter}
 use Rattle.std.proofs.lemmas.Bool.{and_parts, cases_eq, cases_lt, cond-true, cond-false, eq-eqb, ne_eqb, ltb-true}

@@ -1,5 +1,5 @@
 -- Which waiting changes are chosen: one more of them is looked at, and is left out, or gets the highest free place.
--- Used by: RecordsAhead, the proofs of Chosen::add and choose. It may change freely as long as this crate checks.
+-- Used by: Chosen::add, choose.
 use Rattle.std.proofs.Common.{◌≡◌, ◌≢◌, ℕ, zero, suc, ◌+◌, ◌-◌, ◌==◌, ◌<◌, ◌≤◌, ◌&&◌, ◌||◌, not, Bool, true, false, List, [], ◌∷◌, ◌++◌, length, take, min, drop, Option, Some, None, is_some, get_or, slice_set, nat_lt, nat_le, refl, sym, ap, subst, ◌∙◌, inl, inr, arith}
 use Rattle.std.specs.List.{filter}
 use Rattle.std.proofs.lemmas.Bool.{cases_eq, cases_lt, cond-true, cond-false, eq-eqb, le-leb, leb-true, le-ltb, lt-ltb, ne_eqb, or_cases, or_left, or_right}

@@ -1,5 +1,4 @@
--- A waiting change that gets the next free place can be prepared along with those chosen before it.
--- Used by: PlacedAhead, the proofs of Chosen::add and choose. It may change freely as long as this crate checks.
+-- A waiting change that gets the next free place can be prepared along with those chosen before it. Used by: Chosen::add.
 use Rattle.std.proofs.Common.{◌≡◌, ◌≢◌, ℕ, ◌+◌, ◌<◌, ◌≤◌, ◌&&◌, not, Bool, true, false, List, [], ◌∷◌, ◌++◌, length, Some, None, is_some, slice_set, All, IsTrue, refl, sym, ap, subst, ◌∙◌, inl, inr, arith}
 use Rattle.std.proofs.Math.ListN.{get_or-append}
 use Rattle.std.proofs.Math.Seq.{get_or-append_seam}

@@ -1,5 +1,6 @@
--- A book whose file was only read represents the files that it represented, and the bytes that were read are a backup of them.
--- Used by: the proof of Book::copy_bytes, and mw_engine. Its statements may change with mw_engine; its proofs may change freely.
+-- A book whose file was only read represents the files that it represented, and the bytes that were read are a backup of
+-- them.
+-- Used by: Book::copy_bytes, mw_engine.
 use Rattle.std.proofs.Common.{◌≡◌, ℕ, true, false, List, Option, Some, None, Vec, Result, Ok, Err, refl, sym, subst, ◌∙◌}
 use Rattle.std.specs.declared.alloc.Global.{Global}
 use Rattle.std.specs.Option.{is_some}

@@ -1,5 +1,4 @@
--- Each call on a book ends as its contract says, whether the device fails in it or not.
--- Used by: the proofs of all calls of Book. It may change freely as long as this crate checks.
+-- Each call on a book ends as its contract says, whether the device fails in it or not. Used by: all calls of Book.
 use Rattle.std.proofs.Common.{◌≡◌, ◌≢◌, ℕ, ◌+◌, ◌==◌, ◌-◌, ◌&&◌, not, ◌∷◌, ◌++◌, ◌<◌, ◌≤◌, Bool, true, false, List, [], length, Some, None, get_or, Result, Ok, Err, is_err, slice_set, nat_le, IsTrue, refl, sym, ap, subst, ◌∙◌, inl, inr, arith}
 use Rattle.std.proofs.lemmas.Bool.{and_from, cases_Bool, cases_eq, cases_lt, cond-true, cond-false, eq-eqb, le-leb, ne_eqb}
 use Rattle.std.proofs.lemmas.List.{length-append}

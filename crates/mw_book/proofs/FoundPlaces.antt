@@ -1,7 +1,6 @@
--- If a book represents a simulated file (`File` of mw_world_file), the lowest vacant place of the book is the lowest empty place
--- of that file.
--- Used by: FiledCalls, PermittedCalls, the proofs of vacant_place, Book::prepare and Book::has_place. It may change freely as long
--- as this crate checks.
+-- If a book represents a simulated file (`File` of mw_world_file), the lowest vacant place of the book is the lowest empty
+-- place of that file.
+-- Used by: vacant_place, Book::has_place.
 use Rattle.std.proofs.Common.{◌≡◌, ℕ, zero, suc, ◌+◌, ◌-◌, ◌<◌, ◌≤◌, ◌&&◌, not, Bool, true, false, List, if◌then◌else◌, refl, sym, ap, ◌∙◌, inl, inr, arith}
 use Rattle.std.proofs.lemmas.Bool.{and_parts, cond-true, cond-false, cases_Bool}
 use Rattle.mw_file.specs.declared.place_states.PlaceState.{PlaceState}

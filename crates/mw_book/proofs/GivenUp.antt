@@ -1,6 +1,6 @@
--- If a change that was prepared ahead is given up in the lowest vacant place, the book represents the same files, and that place is the
--- lowest vacant one still.
--- Used by: the proof of Book::make_room. It may change freely as long as this crate checks.
+-- If a change that was prepared ahead is given up in the lowest vacant place, the book represents the same files, and that
+-- place is the lowest vacant one still.
+-- Used by: Book::make_room.
 use Rattle.std.proofs.Common.{◌≡◌, ◌≢◌, ℕ, ◌<◌, ◌≤◌, ◌+◌, ◌==◌, ◌&&◌, not, true, false, List, length, Some, None, is_some, get_or, slice_set, IsTrue, refl, sym, ap, subst, ◌∙◌, inl, inr, arith}
 use Rattle.std.proofs.lemmas.Bool.{cases_eq, cond-true, eq-eqb, ne_eqb}
 use Rattle.std.proofs.lemmas.List.{get_or-set_same, get_or-set_other}

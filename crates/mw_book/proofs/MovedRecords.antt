@@ -1,6 +1,6 @@
--- If the change that is prepared ahead in the lowest vacant place moves to a free place, the book represents the same files, and the same
--- changes are prepared ahead. What a change that is given up leaves is here too.
--- Used by: the proof of Book::make_room. It may change freely as long as this crate checks.
+-- If the change that is prepared ahead in the lowest vacant place moves to a free place, the book represents the same files,
+-- with the same changes prepared ahead.
+-- Used by: Book::make_room.
 use Rattle.std.proofs.Common.{◌≡◌, ◌≢◌, ℕ, ◌+◌, ◌-◌, ◌==◌, ◌<◌, ◌≤◌, ◌&&◌, not, Bool, true, false, List, length, if◌then◌else◌, refl, sym, ap, ◌∙◌, inl, inr, arith}
 use Rattle.std.proofs.lemmas.Bool.{cases_eq, cond-true, cond-false, eq-eqb, ne_eqb}
 use Rattle.mw_words.specs.declared.jobs.Entry.{Entry}

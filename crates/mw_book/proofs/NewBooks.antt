@@ -1,5 +1,5 @@
 -- The book of a file that just opened, or that didn't open, represents that file, and no change is settled ahead.
--- Used by: the proofs of Book::new and unopened. It may change freely as long as this crate checks.
+-- Used by: Book::new, unopened.
 use Rattle.std.proofs.Common.{◌≡◌, ℕ, zero, suc, ◌<◌, true, false, List, [], length, get_or, replicate, Option, Some, None, is_some, IsTrue, nat_lt, refl, sym, ◌∙◌, arith}
 use Rattle.std.proofs.lemmas.Bool.{le-ltb}
 use Rattle.mw_words.specs.declared.limits.TheConstants.{MAX_POOL}

@@ -1,6 +1,5 @@
 -- If a call can be made on a simulated file (`File` of mw_world_file), it may be made on each book that represents the file.
--- Used by: mw_core, the law calls_that_can_be_made. They use `permits` alone, which may change with mw_core; the rest may
--- change freely.
+-- Used by: mw_core (`permits` alone), calls_that_can_be_made.
 use Rattle.std.proofs.Common.{◌≡◌, ℕ, ◌<◌, ◌&&◌, true, false, List, length, nat_lt, refl, sym, ap, subst, ◌∙◌, arith}
 use Rattle.std.proofs.lemmas.Bool.{and_parts, ltb-true}
 use Rattle.mw_words.specs.declared.limits.TheConstants.{MAX_POOL}

@@ -1,7 +1,6 @@
--- What it tells of a place's stage in a book's open file whether its change is settled ahead. A settle that makes device calls
--- settles each other sealed change ahead. After it, and after the settle of such a change, all places still match.
--- Used by: FiledCalls, ApartChanges, RepresentedFiles, StagedPlaces, AloneChanges, the proof of Book::settle. It may change freely
--- as long as this crate checks.
+-- A settle that makes device calls settles each other sealed change ahead. After it, and after the settle of such a change,
+-- all places still match.
+-- Used by: Book::settle.
 use Rattle.std.proofs.Common.{◌≡◌, ◌≢◌, ℕ, ◌<◌, ◌≤◌, ◌||◌, ◌&&◌, not, Bool, true, false, List, length, Option, Some, None, slice_set, refl, sym, ap, ◌∙◌, inl, inr, arith}
 use Rattle.std.proofs.lemmas.Bool.{cases_eq, cases_lt, cond-true, cond-false, eq-eqb, ne_eqb}
 use Rattle.std.proofs.lemmas.List.{get_or_past, get_or-set_same, get_or-set_other}

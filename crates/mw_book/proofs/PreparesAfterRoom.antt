@@ -1,5 +1,5 @@
 -- If room was made for a record first, a prepare ends for the book before that as it ends for the book after it.
--- Used by: the proof of Book::prepare. It may change freely as long as this crate checks.
+-- Used by: Book::prepare.
 use Rattle.std.proofs.Common.{◌≡◌, ℕ, ◌+◌, ◌-◌, ◌||◌, not, false, List, [], length, refl, sym, ap, subst, ◌∙◌}
 use Rattle.std.proofs.lemmas.Bool.{cond-true}
 use Rattle.mw_words.specs.declared.jobs.Entry.{Entry}

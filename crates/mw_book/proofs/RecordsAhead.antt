@@ -1,6 +1,6 @@
--- What is prepared ahead after a call, by the changes that were chosen, by the places whose writes stay, and by the place that is lost.
--- Used by: FiledCalls, TakenPlaces, GivenUp, MovedRecords, AloneChanges, the proofs of Book::write_down, seal, settle, take_written and
--- make_room. It may change freely as long as this crate checks.
+-- What is prepared ahead after a call, by the changes that were chosen, by the places whose writes stay, and by the place
+-- that is lost.
+-- Used by: Book::write_down, make_room.
 use Rattle.std.proofs.Common.{◌≡◌, ℕ, zero, suc, ◌+◌, ◌-◌, ◌==◌, ◌<◌, ◌≤◌, ◌&&◌, ◌||◌, not, Bool, true, false, List, [], length, take, min, Option, Some, None, get_or, nat_lt, nat_le, All, refl, sym, ap, ◌∙◌, inl, inr, arith}
 use Rattle.std.specs.Cmp.{both_ways}
 use Rattle.std.specs.List.{filter}

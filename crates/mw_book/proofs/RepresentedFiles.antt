@@ -1,6 +1,6 @@
--- If a book represents a file, the open file in the book has the same places and the same fault. On an honest disk it recovers
--- to the same words.
--- Used by: FiledCalls, NewBooks, mw_core, among others. Its statements may change with mw_core; its proofs may change freely.
+-- If a book represents a file, the open file in the book has the same places and the same fault. On an honest disk it
+-- recovers to the same words.
+-- Used by: mw_core, mw_law_threads.
 use Rattle.std.proofs.Common.{◌≡◌, ℕ, ◌<◌, ◌≤◌, Bool, true, false, List, [], length, Option, Some, None, IsTrue, refl, sym, ap, subst, ◌∙◌, inl, inr, arith}
 use Rattle.std.proofs.lemmas.Bool.{cases_lt}
 use Rattle.std.proofs.lemmas.List.{length-map}

@@ -1,5 +1,6 @@
--- If a place takes the record that was prepared ahead in another one, each place still has its own place of the file, and all places match.
--- Used by: MovedRecords, the proof of Book::take_written. It may change freely as long as this crate checks.
+-- If a place takes the record that was prepared ahead in another one, each place still has its own place of the file, and all
+-- places match.
+-- Used by: Book::take_written.
 use Rattle.std.proofs.Common.{◌≡◌, ◌≢◌, ℕ, ◌+◌, ◌==◌, ◌<◌, ◌≤◌, ◌&&◌, ◌||◌, not, Bool, true, false, List, [], length, None, is_some, get_or, slice_set, refl, sym, ap, subst, ◌∙◌, inl, inr, arith}
 use Rattle.std.specs.Cmp.{both_ways}
 use Rattle.std.proofs.lemmas.Bool.{and_parts, cases_eq, cond-true, cond-false, eq-eqb, lt-ltb, ne_eqb}

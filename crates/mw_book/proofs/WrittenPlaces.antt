@@ -1,6 +1,6 @@
--- The lowest place in which a change is prepared ahead has just its writes. After one more place was looked at, the search goes on alike.
--- Used by: TakenPlaces, GivenUp, AloneChanges, the proofs of are_writes_of, PlaceTable::written_place and Book::take_written. It may
--- change freely as long as this crate checks.
+-- The lowest place in which a change is prepared ahead has just its writes. After one more place was looked at, the search
+-- goes on alike.
+-- Used by: are_writes_of, PlaceTable::written_place, Book::take_written.
 use Rattle.std.proofs.Common.{◌≡◌, ◌≢◌, ℕ, zero, suc, ◌+◌, ◌-◌, ◌==◌, ◌<◌, ◌≤◌, ◌&&◌, Bool, true, false, List, [], ◌∷◌, length, Option, Some, None, is_some, get_or, refl, sym, ap, ◌∙◌, inl, inr, arith}
 use Rattle.std.proofs.lemmas.Bool.{and_parts, cases_Bool, cond-true, cond-false, eqb-true}
 use Rattle.mw_words.specs.declared.jobs.Entry.{Entry}

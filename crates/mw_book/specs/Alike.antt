@@ -1,6 +1,6 @@
--- Defines which simulated files (`File` of mw_world_file) a book can't tell apart, and claims that it represents all of them or
--- none.
--- Used by: the contracts of laws.rt. A change here changes the law files_that_are_alike.
+-- Defines which simulated files (`File` of mw_world_file) a book can't tell apart, and claims that it represents all of them
+-- or none.
+-- Used by: laws.rt. A change here changes the law files_that_are_alike.
 use Rattle.std.specs.Prelude.{ℕ, ◌≡◌, ◌<◌}
 use Rattle.mw_words.specs.declared.limits.TheConstants.{MAX_POOL}
 use Rattle.mw_disk.specs.Facts.{Facts}

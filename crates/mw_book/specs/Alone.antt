@@ -1,6 +1,6 @@
--- Defines that a change is alone: no other change is sealed, and none is settled or prepared ahead, as with one client. Then each call
--- makes just the device calls that the world lists, and leaves no change settled or prepared ahead.
--- Used by: the contracts of laws.rt. A change here changes the law a_change_alone_makes_the_listed_calls.
+-- Defines that a change is alone: no other change is sealed, settled ahead or prepared ahead, as with one client. Then each
+-- call makes just the device calls that the world lists.
+-- Used by: laws.rt. A change here changes the law a_change_alone_makes_the_listed_calls.
 use Rattle.std.specs.Prelude.{◌≡◌, ◌≢◌, ◌<◌, ◌≤◌, ◌+◌, ℕ, true, false, List, [], ◌∷◌}
 use Rattle.mw_words.specs.declared.limits.TheConstants.{MAX_POOL}
 use Rattle.mw_words.specs.declared.jobs.Entry.{Entry}

@@ -1,5 +1,5 @@
 -- Defines which waiting changes a call writes ahead, and into which places: places that are vacant and free in the file.
--- Used by: the contracts of waiting.rt. It is private to this crate: it may change freely as long as this crate checks.
+-- Used by: waiting.rt.
 use Rattle.std.specs.Prelude.{◌≡◌, ◌<◌, ◌≤◌, ◌==◌, ◌-◌, ◌&&◌, ◌++◌, not, ℕ, Bool, true, false, List, length, take, min, nat_le, None, get_or, All}
 use Rattle.std.specs.List.{filter}
 use Rattle.mw_words.specs.declared.jobs.Entry.{Entry}

@@ -1,6 +1,5 @@
 -- Defines how a call on a book ends, for each simulated file (`File` of mw_world_file) that the book represented before it.
--- Used by: CallOutcome, mw_core, the contracts of calls.rt. A change here changes what a call promises of the file as the world
--- knows it.
+-- Used by: mw_core, calls.rt. A change here changes what a call promises of the file.
 use Rattle.std.specs.Prelude.{◌≡◌, ◌≤◌, ◌+◌, ℕ, Bool, true, false, List}
 use Rattle.mw_words.specs.declared.jobs.Entry.{Entry}
 use Rattle.mw_look.specs.declared.steps.Call.{Call}

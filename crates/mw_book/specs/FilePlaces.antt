@@ -1,5 +1,5 @@
 -- Defines how the places that the world knows are mapped to the places of the file: by a table that permutes the used ones.
--- Used by: Representation, the contracts of book.rt, place_table.rt and waiting.rt. A change here changes which places of a file a book uses.
+-- Used by: book.rt, place_table.rt, waiting.rt. A change here changes which places a book uses.
 use Rattle.std.specs.Prelude.{◌≡◌, ◌<◌, ◌≤◌, ◌==◌, ◌||◌, ℕ, zero, suc, Bool, true, false, List, get_or}
 
 -- the flag of a place; past the end of the table it is false

@@ -1,6 +1,5 @@
 -- Names the parts of a book's open file (words, places, disk), also if the file didn't open.
--- Used by: 6 pages of specs/, mw_core, mw_engine, the contracts of book.rt, calls.rt, new_books.rt and queries.rt. They are
--- names for what a book holds, also when its file did not open: a change here changes the contracts that cite them.
+-- Used by: mw_core, mw_engine, mw_law_threads, book.rt, calls.rt, new_books.rt, queries.rt.
 use Rattle.std.specs.Prelude.{ℕ, Bool, true, List, [], length, Option, Some, None, IsTrue}
 use Rattle.mw_disk.specs.Facts.{Facts}
 use Rattle.mw_record.specs.Records.{Pairs}

@@ -1,6 +1,5 @@
 -- Defines which records of waiting changes a call on a book writes ahead, and which changes are prepared ahead after it.
--- Used by: CallOutcome, Alone, the contracts of calls.rt, place_table.rt and waiting.rt. A change here changes what a call promises of the
--- changes that wait.
+-- Used by: calls.rt, place_table.rt, waiting.rt. A change here changes what a call promises of these changes.
 use Rattle.std.specs.Prelude.{◌≡◌, ◌+◌, ◌-◌, ◌==◌, ◌&&◌, ◌||◌, not, if◌then◌else◌, ℕ, zero, suc, Bool, true, false, List, [], length, take, min, nat_lt}
 use Rattle.std.specs.List.{filter, list_any}
 use Rattle.mw_words.specs.Change.{is_change}

@@ -1,7 +1,6 @@
--- Defines when a book represents a simulated file of mw_world_file: same words, fault and change in doubt, and the same changes in the
--- places, but for those that are settled or prepared ahead.
--- Used by: Alike, CallOutcome, Crashes, Ends, Permits, mw_core, mw_engine, the contracts of calls.rt, new_books.rt and
--- queries.rt. It is the relation that every call keeps. mw_core ties the world of running threads to the files by it.
+-- Defines when a book represents a simulated file of mw_world_file: same words, fault and change in doubt, and the same
+-- changes in the places, but for those settled or prepared ahead. Every call keeps this relation.
+-- Used by: mw_core, mw_engine, calls.rt, new_books.rt, queries.rt.
 use Rattle.std.specs.Prelude.{◌≡◌, ◌<◌, ◌≤◌, ℕ, Bool, true, false, List, length, get_or, slice_index, Option, None, is_some}
 use Rattle.mw_words.specs.declared.limits.TheConstants.{MAX_POOL}
 use Rattle.mw_disk.specs.Facts.{Facts}

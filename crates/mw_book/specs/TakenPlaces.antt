@@ -1,5 +1,5 @@
 -- Defines how two places exchange their places in the file: the first then has what the file had for the second.
--- Used by: the contracts of place_table.rt. It is private to this crate: it may change freely as long as this crate checks.
+-- Used by: place_table.rt.
 use Rattle.std.specs.Prelude.{ℕ, None, get_or, slice_set}
 use Rattle.mw_book.specs.declared.place_table.PlaceTable.{PlaceTable}
 use Rattle.mw_book.specs.Representation.{place_in_file}

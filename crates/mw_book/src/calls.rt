@@ -1,7 +1,7 @@
 //! Makes the calls on a tenant's book: prepare, seal, settle and cancel the change of a slot.
 //!
-//! mw_core makes these calls, in its `file_calls.rt`. `specs/Permits` says when one may be made, and
-//! `specs/CallOutcome` what it leaves: change them together. README and docs/PROMISES cite `call`.
+//! Used by: mw_core (`file_calls.rt`). Change it with `specs/Permits` (when one may be made) and `specs/CallOutcome`
+//! (what it leaves). docs/PROMISES cites `call`.
 ghost use Rattle.std.specs.Prelude.{◌≡◌, ◌≢◌, ℕ, List, [], length, true, false};
 ghost use Rattle.mw_disk.specs.Runs.{Later};
 ghost use Rattle.mw_words.specs.declared.jobs.Entry.{Entry as EntryAt};

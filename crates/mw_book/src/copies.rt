@@ -1,7 +1,6 @@
 //! Copies the bytes of a book's file: a backup of it at one moment.
 //!
-//! mw_engine makes this call under the tenant's lock, between two calls of `calls.rt`. `specs/Copies` says what a copy
-//! has, and that the book stays as it was.
+//! mw_engine makes this call under the tenant's lock. `specs/Copies` says what a copy has: change both together.
 ghost use Rattle.mw_world_file.specs.Files.{File};
 
 use crate::book::Book;

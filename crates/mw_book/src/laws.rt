@@ -1,7 +1,7 @@
-//! Laws (theorems, as contracts of empty functions) of books, which are tenants' open files as threads keep them: which
-//! calls may be made, what a crash leaves, and which files a book can't tell apart.
+//! Laws (contracts of empty functions) of books: which calls may be made, what a crash leaves, and which files a book
+//! can't tell apart.
 //!
-//! No code calls them. Proofs of mw_core cite the lemmas behind them: a statement may change with mw_core.
+//! Proofs of mw_core cite the lemmas behind them: a statement may change with mw_core.
 ghost use Rattle.mw_book.specs.Alike.{RepresentsAlike};
 ghost use Rattle.mw_book.specs.Alone.{AloneLeavesNoneAhead, AloneLeavesNonePrepared, AloneMakesListedCalls, AloneRunsMakeListedCalls};
 ghost use Rattle.mw_book.specs.Crashes.{LeavesWords};

@@ -1,19 +1,19 @@
 //! A tenant's open file as running threads keep it: the file itself, on any disk, and the place of each slot's
 //! change.
 //!
-//! Whoever holds the tenant's lock makes the calls on it. Each call tells whether the device failed. After the
-//! first failure only a cancel does anything, until the file is opened again.
+//! Whoever holds the tenant's lock makes the calls. Each call tells whether the device failed. After the first
+//! failure only a cancel does anything, until the file is opened again.
 //!
-//! A book represents files as the world's definitions know them (`File` of `mw_world_file`): the words, the
-//! places with their changes, the place of each slot, whether the file has failed, and the change in doubt. If
-//! a book represents a file before a call, it represents after the call the file that the world has then,
-//! whether the device failed or not. A call that the world can make on the file may be made on the book.
+//! A book represents files as the world's definitions know them (`File` of `mw_world_file`): the words, the places
+//! with their changes, the place of each slot, whether the file has failed, and the change in doubt. If a book
+//! represents a file before a call, it represents after the call the file that the world has then. A call that the
+//! world can make on the file may be made on the book.
 //!
-//! What is said of bytes, of the number of device calls, and of which one failed holds on a disk that keeps the
-//! model of [`mw_disk::Disk`]. What is said of answers and of faults holds on every disk.
+//! What is said of bytes, of the number of device calls, and of which one failed holds on a disk that keeps the model
+//! of [`mw_disk::Disk`]. What is said of answers and of faults holds on every disk.
 //!
-//! mw_engine keeps a book for each tenant under its lock, and mw_core makes the calls. A change of a contract changes
-//! what mw_core is promised of the file.
+//! Used by: mw_engine, which keeps a book for each tenant; mw_core, which makes the calls, and to which these
+//! contracts are promised.
 #![tactic(auto)]
 
 mod answers;

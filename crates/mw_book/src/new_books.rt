@@ -1,7 +1,6 @@
 //! Makes the books of files that just opened, and of files that didn't, and takes their disks back.
 //!
-//! mw_engine makes the books of its tenants by it when a server starts, and takes the disks back at its end. A new
-//! field of `Book` needs a value here.
+//! Used by: mw_engine, at its start and its end. A new field of `Book` needs a value here.
 ghost use Rattle.std.specs.Prelude.{◌≡◌, ◌≤◌, false, Some, None, ℕ, List, [], length, IsTrue};
 ghost use Rattle.mw_file.specs.File.{disk_of, words_of, states_of, has_failed};
 ghost use Rattle.mw_file.specs.PlaceStates.{all_free};

@@ -1,8 +1,8 @@
-//! Where a book's file has the change of each place, and which changes are in the file ahead of the world: settled
-//! there before their own slots settle them, or prepared there before their own slots prepare them.
+//! Where a book's file has the change of each place, and which changes are settled or prepared in the file before
+//! their own slots settle or prepare them.
 //!
-//! `calls.rt`, `waiting.rt` and `queries.rt` call these. `specs/Representation`, `specs/Permits`, `specs/PreparedAhead`,
-//! `specs/RecordsAhead` and `specs/SettledAhead` have what they compute.
+//! `calls.rt`, `waiting.rt` and `queries.rt` call these. Change it with `specs/Representation`, `specs/Permits`,
+//! `specs/PreparedAhead`, `specs/RecordsAhead` and `specs/SettledAhead`.
 ghost use Rattle.std.specs.Prelude.{◌≡◌, ◌≤◌, ◌<◌, ◌||◌, ℕ, None, true, false, length, IfSome};
 ghost use Rattle.mw_words.specs.declared.limits.TheConstants.{MAX_PLACES};
 ghost use Rattle.mw_file.specs.PlaceStates as spec;

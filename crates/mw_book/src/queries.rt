@@ -1,8 +1,7 @@
 //! Tells a book's number of words and places, whether its file has failed, whether a place is free, and whether a
 //! change is prepared ahead.
 //!
-//! mw_engine asks whether a change is prepared ahead. Only tests call the others (mw_file_tests): the server makes
-//! calls on a book, and takes its words when a file opens.
+//! mw_engine asks the last. Only tests call the others (mw_file_tests).
 ghost use Rattle.std.specs.Prelude.{◌≡◌, ◌&&◌, true, false, nat_lt, is_some};
 ghost use Rattle.mw_world_file.specs.Files.{File, empty_from};
 

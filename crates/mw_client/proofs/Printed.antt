@@ -1,6 +1,5 @@
 -- An entry and a `GET` that are printed piece by piece have the text that the protocol's grammar gives them.
--- Used by: the proofs of put_entry and put_get. Only `entry_from` and `get_from` are used outside. It may change freely as long
--- as this crate checks.
+-- Used by: put_entry, put_get. Only `entry_from` and `get_from` are used outside.
 use Rattle.std.proofs.Common.{◌≡◌, ℕ, ◌^◌, ◌<◌, ◌≤◌, ◌++◌, List, [], ◌∷◌, decimal, sym, ap, ap₂, ◌∙◌, arith, append_assoc}
 use Rattle.std.specs.Prelude.{codes}
 use Rattle.mw_words.specs.declared.jobs.Entry.{Entry}

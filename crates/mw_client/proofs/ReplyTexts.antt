@@ -1,5 +1,4 @@
--- The text of a server's reply is read as that reply, and what is read as a reply is its text.
--- Used by: the proof of read_reply. It may change freely as long as this crate checks.
+-- The text of a server's reply is read as that reply, and what is read as a reply is its text. Used by: read_reply.
 use Rattle.std.proofs.Common.{◌≡◌, ℕ, ◌<◌, ◌≤◌, Bool, true, false, cond, eqb, ltb, leb, leb-true, ltb-true, le-leb, lt-ltb, eqb-true, ◌&&◌, List, [], ◌∷◌, ◌++◌, length, decimal, Option, Some, None, ◌⊎◌, inl, inr, refl, sym, ap, subst, ◌∙◌, arith, append-nil, append_assoc}
 use Rattle.std.specs.Prelude.{codes, bytes_eq}
 use Rattle.std.proofs.lemmas.List.{nil_from_length}

@@ -1,6 +1,6 @@
--- A request that keeps the limits spells a command without a fault, and no other request has that command. So the server reads
--- what was sent.
--- Used by: the proof of what_is_sent_is_read. It may change freely as long as this crate checks.
+-- A request that keeps the limits spells a command without a fault, and no other request has that command. So the server
+-- reads what was sent.
+-- Used by: what_is_sent_is_read.
 use Rattle.std.proofs.Common.{◌≡◌, ◌<◌, ◌≤◌, Bool, true, false, leb-true, le-leb, lt-ltb, ltb-true, le-ltb, ◌&&◌, List, [], ◌∷◌, length, None, Result, Ok, Err, refl, sym, ap, ◌∙◌, arith}
 use Rattle.std.specs.List.{list_all}
 use Rattle.std.proofs.lemmas.Option.{none-some}

@@ -1,5 +1,5 @@
 -- A request that is sent again after each `BUSY` gives what the last reply means. A change that was made was answered `YES`.
--- Used by: the proofs of Client::change_patiently and Client::confirm. It may change freely as long as this crate checks.
+-- Used by: Client::change_patiently, Client::confirm.
 use Rattle.std.proofs.Common.{◌≡◌, ℕ, suc, Bool, true, false, cond, List, [], ◌++◌, Option, Some, None, Result, Ok, Err, inl, inr, refl, sym, ap, subst, ◌∙◌, append-nil, append_assoc}
 use Rattle.std.specs.Io.KnownBytes.{Appends, Consumes}
 use Rattle.mw_words.specs.declared.jobs.Entry.{Entry}

@@ -1,5 +1,4 @@
--- A word's value is printed with at most 15 digits, and an address with at most 5.
--- Used by: the proofs of the functions of requests.rt. It may change freely as long as this crate checks.
+-- A word's value is printed with at most 15 digits, and an address with at most 5. Used by: requests.rt.
 use Rattle.std.proofs.Common.{ℕ, ◌^◌, ◌<◌, ◌≤◌, length, decimal, arith}
 use Rattle.std.proofs.lemmas.Fmt.{length-decimal-le}
 

@@ -1,6 +1,6 @@
--- Defines what a client sends and reads for a request, and what each of its calls makes of the reply. Used by the contracts of
--- client.rt, administrator.rt, conversation.rt, report.rt and meanings.rt. A change here changes what a call of a client
--- promises. A new reply (Say) needs a case in failure_of.
+-- Defines what a client sends and reads for a request, and what each of its calls makes of the reply.
+-- Used by: client.rt, administrator.rt, conversation.rt, report.rt, meanings.rt. A new reply (Say) needs a case in
+-- failure_of.
 use Rattle.std.specs.Prelude.{◌≡◌, ℕ, zero, suc, ◌++◌, ◌==◌, ◌&&◌, ◌⊎◌, Bool, true, false, not, List, [], if◌then◌else◌, Option, Result, Ok, Err}
 use Rattle.std.specs.List.{list_any}
 use Rattle.std.specs.Io.KnownBytes.{Appends, Consumes}

@@ -1,6 +1,5 @@
 -- Defines which reply of the server a line is, and how a client reads it from left to right.
--- Used by: the contracts of src/conversation.rt and src/replies.rt, specs/Exchanges. A change here changes which replies a
--- client understands: it must match `specs/Replies` of mw_line.
+-- Used by: src/conversation.rt, src/replies.rt, mw_client_c. It must match `specs/Replies` of mw_line.
 use Rattle.std.specs.Prelude.{◌≡◌, ℕ, ◌<◌, ◌≤◌, ◌==◌, ◌&&◌, List, length, codes, nat_le, nat_lt, bytes_eq, if◌then◌else◌, Option, Some, None}
 use Rattle.mw_words.specs.declared.limits.TheConstants.{MAX_VALUE, MAX_WORDS}
 use Rattle.mw_words.specs.declared.replies.Reply.TheVariants as reply

@@ -1,6 +1,6 @@
 -- Defines which line a client sends for a request, and that the server reads it as that request.
--- Used by: the contracts of src/client.rt, src/conversation.rt, src/laws.rt and src/requests.rt, specs/Exchanges. A change here
--- changes what a client sends: it must match `specs/Grammar` of mw_line.
+-- Used by: src/client.rt, src/conversation.rt, src/laws.rt, src/requests.rt, mw_client_c. It must match `specs/Grammar` of
+-- mw_line.
 use Rattle.std.specs.Prelude.{◌≡◌, ℕ, ◌≤◌, ◌++◌, List, codes, IsTrue, Result, Ok}
 use Rattle.mw_words.specs.declared.limits.TheConstants.{MAX_VALUE, MAX_WORDS}
 use Rattle.mw_words.specs.declared.jobs.Entry.{Entry}

@@ -1,8 +1,6 @@
 //! A client's session for one tenant: it reads words, changes them, and repeats a change that was answered `BUSY`.
 //!
-//! `wire.rt` makes clients over sockets; programs use those, as mwbench does. What a call promises is said with
-//! `specs/Exchanges`, and what a reply means is in `meanings.rt`. `docs/CLIENTS.md` describes these calls for users: change it
-//! with them. docs/PROMISES cites `try_cas`.
+//! Used by: `wire.rt`, mwbench. Change it with `specs/Exchanges` and docs/CLIENTS.md. docs/PROMISES cites `try_cas`.
 ghost use Rattle.std.specs.Prelude.{◌≡◌, true, false, Ok, Err, IfOk, IfSome, IsTrue};
 ghost use Rattle.std.specs.List.{list_all};
 ghost use Rattle.mw_words.specs.declared.jobs.Job.TheVariants.{Get, Cas};

@@ -1,7 +1,7 @@
-//! The law that each request is read by the server as it was sent, as the contract of an empty function.
+//! The law that the server reads each request as it was sent: the contract of an empty function, proved in
+//! `proofs/laws`.
 //!
-//! The function does nothing, and nothing calls it: its contract is the fact, proved in `proofs/laws`. To
-//! change the fact, change its definition in `specs`, and then its proof.
+//! To change it, begin with its definition in `specs`.
 ghost use Rattle.mw_client.specs.RequestLines.{WhatIsSentIsRead};
 
 /// States that whoever reads the line of a request as the server does ([`mw_line::read_line`]) gets that

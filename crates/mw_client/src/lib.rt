@@ -1,12 +1,11 @@
 //! A client of the server, for programs in Rattle: what each call sends, and what each reply means.
 //!
-//! [`Client`] is a session for one tenant, over any reader and writer; [`connect`] makes one by a socket.
-//! [`Administrator`] is a session for the administrator, who may ask for the report;
-//! [`connect_administrator`] makes one by a socket.
+//! [`Client`] is a session for one tenant, and [`Administrator`] one for the administrator, who may ask for the
+//! report: each over any reader and writer. [`connect`] and [`connect_administrator`] make them by a socket.
 //!
-//! Below both, [`exchange`] sends one request and reads its reply. [`request_text`] gives the line of a
-//! request, which the server's own reader reads as that request ([`what_is_sent_is_read`]). [`read_reply`]
-//! tells which reply a line is, if it is one.
+//! Below both, [`exchange`] sends one request and reads its reply. [`request_text`] gives the line of a request,
+//! which the server's reader reads as that request ([`what_is_sent_is_read`]). [`read_reply`] tells which reply a
+//! line is.
 //!
 //! Used by: mwbench, mw_client_tests. docs/CLIENTS describes it for users: change both together.
 #![tactic(auto)]

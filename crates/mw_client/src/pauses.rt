@@ -1,7 +1,6 @@
 //! Waits between two tries of a call, each time twice as long, for a limited time in all.
 //!
-//! Used by: `client`, between two tries of a change, and of a read of several words; mwbench. No contract names its numbers: it
-//! may change freely.
+//! Used by: `client`, mwbench. No contract names its numbers.
 use std::thread;
 use std::time::{Clock, Duration, Instant};
 

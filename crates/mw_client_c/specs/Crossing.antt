@@ -1,5 +1,5 @@
 -- Defines what a program in C gets: when the line of a command was written for it, and how a reply is shown to it.
--- Used by: the contracts of src/lib.rt. clients/c/proved.h says the same of the kinds: change both together.
+-- Used by: src/lib.rt. Change it with clients/c/proved.h.
 use Rattle.std.specs.Prelude.{◌≡◌, ℕ, ◌++◌, Bool, true, false, List, length, codes, take, nat_le, nat_lt, Option, Some, None}
 use Rattle.mw_words.specs.declared.limits.TheConstants.{MAX_WORDS}
 use Rattle.mw_words.specs.declared.jobs.Entry.{Entry}

@@ -1,8 +1,9 @@
-//! The lines that a client sends and the replies that it reads, for programs in C: those of mw_client, as a static library.
+//! The lines that a client sends and the replies that it reads, for programs in C: those of mw_client, as a static
+//! library.
 //!
-//! clients/c/proved.h declares each function. A slice is a pointer, never null, and then how many elements are there.
+//! clients/c/proved.h declares each function. A slice is a pointer, never null, and then its number of elements.
 //!
-//! Used by: clients/c. A new request or reply of mw_client that the client in C is to know needs a function or a kind here.
+//! Used by: clients/c. A new request or reply needs a function or a kind here.
 #![tactic(auto)]
 
 ghost use Rattle.std.specs.Prelude.{◌≡◌, ◌⊎◌, ◌≤◌, ◌<◌, ◌++◌, zero, codes, length, map, take, IfSome, IsTrue, None};

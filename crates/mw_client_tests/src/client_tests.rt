@@ -1,6 +1,4 @@
 //! Tests clients of a server that is a text in memory, and a client that comes by a socket.
-//!
-//! Nothing else uses it: it may change with what it tests.
 use crate::test_server::serves_right;
 use arrayvec::ArrayVec;
 use mw_client::{

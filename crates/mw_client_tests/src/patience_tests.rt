@@ -1,6 +1,4 @@
 //! Tests how long a client asks again, by a clock that goes on only while somebody waits.
-//!
-//! Nothing else uses it: it may change with what it tests.
 use arrayvec::ArrayVec;
 use mw_client::{Client, Failure, Outcome};
 use mw_words::{Entries, Entry, Name};

@@ -1,6 +1,6 @@
 //! A server for tests, which has no tenant's words and tells the administrator always the same.
 //!
-//! Used by: `client_tests`. It may change freely as long as this crate checks and its tests pass.
+//! Used by: `client_tests`.
 ghost use Rattle.std.specs.Prelude.{◌<◌, vec_len};
 
 use arrayvec::ArrayVec;

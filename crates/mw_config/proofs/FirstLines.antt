@@ -1,6 +1,5 @@
 -- The reader of a tenants file finds the first line of a text, or what is wrong with it after the lines before.
--- Used by: the proofs of read_path, tenants::read_line, read_lines and read_tenants. It may change freely as long as this crate
--- checks.
+-- Used by: read_path, tenants::read_line, read_lines, read_tenants.
 use Rattle.std.proofs.Common.{◌≡◌, ◌≢◌, ℕ, zero, suc, ◌+◌, ◌<◌, ◌≤◌, min, leb, leb-true, le-leb, Bool, true, false, not, List, [], ◌∷◌, ◌++◌, length, map, Some, refl, sym, ap, subst, ◌∙◌, inl, inr, ◌⊎◌, arith, append_assoc, append-nil, ◌&&◌}
 use Rattle.std.specs.Prelude.{flat_map, All, sum_by, bytes_eq}
 use Rattle.std.specs.List.{list_all, AllPairs, Contains, slice_index_or}

@@ -1,6 +1,5 @@
--- The first broken rule of a line's fields is that of the line, and that of a text's first line is that of the text. A text
--- breaks a rule exactly if it begins with no line.
--- Used by: the proofs of broken_rule, rule_of_line and fields_of. It may change freely as long as this crate checks.
+-- The first broken rule of a line's fields is that of the line, and that of a text's first line is that of the text.
+-- Used by: broken_rule, rule_of_line, fields_of.
 use Rattle.std.proofs.Common.{◌≡◌, ℕ, ◌<◌, ◌≤◌, eqb, leb, leb-true, le-leb, eq-eqb, Bool, true, false, not, List, [], ◌∷◌, ◌++◌, length, Option, Some, None, MatchOption, refl, sym, ap, subst, ◌∙◌, inl, inr, ◌⊎◌, arith, append_assoc, ◌&&◌}
 use Rattle.std.specs.Prelude.{codes}
 use Rattle.std.specs.List.{list_all}

@@ -1,6 +1,5 @@
 -- The text of a tenants file's line is read as that line, and what is read as a line is its text.
--- Used by: OneAnswer, FirstLines, the proofs of tenants::read_line and read_path. It may change freely as long as this crate
--- checks.
+-- Used by: tenants::read_line, read_path.
 use Rattle.std.proofs.Common.{◌≡◌, ℕ, Bool, true, false, eqb, List, [], ◌∷◌, ◌++◌, Some, None, refl, sym, ap, subst, ◌∙◌, inl, inr, append_assoc, eqb-true, ◌&&◌, eq-eqb}
 use Rattle.std.specs.Prelude.{codes}
 use Rattle.std.specs.List.{list_all}

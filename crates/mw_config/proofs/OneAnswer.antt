@@ -1,5 +1,4 @@
--- A tenants file has only one answer: its lines, or one first refusal.
--- Used by: the proof of one_answer. It may change freely as long as this crate checks.
+-- A tenants file has only one answer: its lines, or one first refusal. Used by: one_answer.
 use Rattle.std.proofs.Common.{◌≡◌, ◌≢◌, ℕ, suc, ◌+◌, ◌<◌, ◌≤◌, leb, le-leb, ltb, lt-ltb, le-ltb, Bool, true, false, not, cond, List, [], ◌∷◌, ◌++◌, length, Option, Some, None, refl, sym, ap, ap₂, subst, ◌∙◌, inl, inr, ◌⊎◌, arith, append_assoc, append-nil, ◌&&◌}
 use Rattle.std.specs.Prelude.{flat_map, All, bytes_eq, Result, Ok, Err}
 use Rattle.std.specs.List.{list_all, AllPairs, slice_index_or}

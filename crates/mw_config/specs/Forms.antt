@@ -1,5 +1,6 @@
 -- Defines which rules of its form the first line of a text breaks, and which of them the note about a refused tenants file
--- tells. Used by: the contracts of forms.rt. A new rule needs its case in each definition here, and in FormRule.
+-- tells.
+-- Used by: forms.rt. A new rule needs its case here, and in FormRule.
 use Rattle.std.specs.Prelude.{ℕ, ◌≡◌, ◌<◌, ◌==◌, nat_le, ◌&&◌, Bool, false, not, List, ◌++◌, length, codes, Option, Some, None, IsTrue}
 use Rattle.std.specs.List.{list_all}
 use Rattle.mw_words.specs.declared.limits.TheConstants.{MAX_PATH}

@@ -1,6 +1,5 @@
 -- Defines which lines a tenants file may have: the limits of each line, and of all together.
--- Used by: LineReader, Refusals, mw_engine, mw_programs, mw_engine_tests, the contracts of laws.rt, lines.rt and tenants.rt. A
--- change here changes which tenants files are refused: docs/OPERATING changes with it.
+-- Used by: mw_engine, mw_opening, mw_programs, mw_engine_tests, laws.rt, lines.rt, tenants.rt. Change it with docs/OPERATING.
 use Rattle.std.specs.Prelude.{ℕ, ◌≡◌, ◌≢◌, ◌≤◌, ◌⊎◌, ◌&&◌, Bool, not, List, length, map, All, flat_map, sum_by, bytes_eq, IsTrue}
 use Rattle.std.specs.List.{AllPairs, Contains}
 use Rattle.mw_words.specs.declared.limits.TheConstants.{MAX_WORDS, MAX_QUOTA, MAX_TENANTS, MAX_TENANTS_FILE}

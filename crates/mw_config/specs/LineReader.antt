@@ -1,7 +1,6 @@
--- Defines how a tenants file's line is read from left to right, by a reader that may see a large number as a smaller one. What
--- `read_tenants` promises is in LineTexts, Limits and Refusals; this page is for the contracts of its steps.
--- Used by: the contracts of lines.rt and tenants.rt. It may change with the reader as long as read_tenants proves the same
--- contract.
+-- Defines how a tenants file's line is read from left to right, by a reader that may see a large number as a smaller one.
+-- Used by: lines.rt, tenants.rt. It may change with the reader as long as read_tenants keeps its contract (LineTexts, Limits,
+-- Refusals).
 use Rattle.std.specs.Prelude.{ℕ, Bool, nat_le, ◌≡◌, ◌<◌, ◌&&◌, ◌+◌, List, ◌++◌, length, if◌then◌else◌, codes, Option, Some, None, Result, Ok, Err}
 use Rattle.std.specs.Borrow.{Bor}
 use Rattle.mw_words.specs.Name.{is_name}

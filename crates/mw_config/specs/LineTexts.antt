@@ -1,6 +1,5 @@
--- Defines the lines of a tenants file and the text of each, before any limit is checked.
--- Used by: Forms, Limits, LineReader, Refusals, the contracts of laws.rt, lines.rt and tenants.rt. A change here changes the
--- grammar of a tenants file: docs/OPERATING changes with it.
+-- Defines the grammar of a tenants file: its lines and the text of each, before any limit is checked.
+-- Used by: laws.rt, lines.rt, tenants.rt. Change it with docs/OPERATING.
 use Rattle.std.specs.Prelude.{ℕ, ◌≡◌, ◌&&◌, Bool, List, ◌++◌, length, codes, nat_le, IsTrue, map}
 use Rattle.std.specs.List.{list_all}
 use Rattle.mw_words.specs.declared.limits.TheConstants.{MAX_PATH}

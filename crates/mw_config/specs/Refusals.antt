@@ -1,6 +1,5 @@
 -- Defines why a tenants file is refused: what is wrong first, and in which line.
--- Used by: LineReader, the contracts of laws.rt and tenants.rt. A new Refusal needs a case here, in src/refusals.rt and in
--- docs/OPERATING.
+-- Used by: laws.rt, tenants.rt. A new Refusal needs a case here, in src/refusals.rt and in docs/OPERATING.
 use Rattle.std.specs.Prelude.{ℕ, ◌≡◌, ◌≤◌, ◌<◌, ◌+◌, ◌⊎◌, List, [], ◌++◌, length, flat_map, Result, Ok, Err}
 use Rattle.mw_words.specs.declared.limits.TheConstants.{MAX_WORDS, MAX_QUOTA, MAX_TENANTS, MAX_TENANTS_FILE}
 use Rattle.mw_config.specs.declared.refusals.Refusal.{Refusal}

@@ -1,7 +1,6 @@
-//! Tells which rule of its form a line of a tenants file breaks.
+//! Tells which rule of its form a line of a tenants file breaks, for a note: it decides no refusal.
 //!
-//! mw_opening calls [`broken_rule`] for the note about a refused line. It may change with `specs/Forms`: it decides
-//! the text of a note alone, and not what is refused.
+//! Used by: mw_opening. Change it with `specs/Forms`.
 ghost use Rattle.std.specs.Prelude.{◌≡◌, ◌&&◌, MatchOption};
 ghost use Rattle.std.specs.List.{list_all};
 ghost use Rattle.mw_line.specs.Number as number;

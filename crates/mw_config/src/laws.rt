@@ -1,7 +1,7 @@
-//! The law that a tenants file has one answer, as the contract of an empty function.
+//! The law that `specs/Refusals` leaves `read_tenants` one answer for a tenants file: the contract of an empty
+//! function.
 //!
-//! No code calls it, and no other crate cites it. It says that `specs/Refusals` leaves `read_tenants` one answer. It
-//! may change with `specs/Refusals`.
+//! Nothing calls it. Change it with `specs/Refusals`.
 ghost use Rattle.std.specs.Prelude.{◌≡◌, ◌↔◌, ℕ, List, Result, Ok};
 ghost use Rattle.mw_config.specs.declared.refusals.Refusal.{Refusal};
 ghost use Rattle.mw_config.specs.LineTexts.{Line};

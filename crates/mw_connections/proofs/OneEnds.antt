@@ -1,5 +1,5 @@
 -- The first bytes of some, no more than a line with its line feed, have one line feed at most, as their last byte.
--- Used by: the proof of copy_line. It may change freely as long as this crate checks.
+-- Used by: copy_line.
 use Rattle.std.proofs.Common.{◌≡◌, ℕ, zero, suc, ◌+◌, ◌<◌, ◌≤◌, ◌++◌, ◌==◌, Bool, true, false, not, List, [], ◌∷◌, length, take, refl, ap, ◌∙◌, arith}
 use Rattle.std.proofs.lemmas.List.{length-take-le}
 use Rattle.std.specs.List.{prefix_len}

@@ -1,5 +1,5 @@
 -- Defines after which reply a session reads no further line, if its client may make so many faults only.
--- Used by: the contracts of fault_limit.rt. A change here changes when a client is sent away that speaks another protocol.
+-- Used by: fault_limit.rt. A change here changes when a client is sent away that speaks another protocol.
 use Rattle.std.specs.Prelude.{◌≡◌, ℕ, ◌+◌, ◌-◌, ◌==◌, ◌≤◌, Bool, zero, suc, not, List, length, take, ⊤, codes, nat_eq, Option, Some, None, Result, IfOk, IsErr, if◌then◌else◌}
 use Rattle.std.specs.List.{prefix_len, starts_with}
 use Rattle.std.specs.Option.{option_map}

@@ -1,5 +1,5 @@
 -- Defines what a listener that counts its connections gives, by what the listener below gives.
--- Used by: the contracts of src/metered.rt. It may change with that file.
+-- Used by: src/metered.rt. It may change with that file.
 use Rattle.std.specs.Prelude.{Result, Ok, Err}
 use Rattle.mw_session.specs.declared.session.Ended.{Ended}
 use Rattle.mw_session.specs.declared.session.Ended.TheVariants as ended

@@ -1,6 +1,5 @@
 -- Defines how long the server waits before it asks a listener again that had no room for a connection.
--- Used by: the contracts of patience.rt. The first and the longest wait are constants of patience.rt. A change here changes
--- when Patient asks again.
+-- Used by: patience.rt, which has the first and the longest wait. A change here changes when Patient asks again.
 use Rattle.std.specs.Prelude.{◌≡◌, ◌*◌, ℕ, min, Bool, true, false, if◌then◌else◌}
 use Rattle.std.specs.declared.result.Result.{Result}
 use Rattle.std.specs.declared.result.Result.TheVariants.{Ok, Err}

@@ -1,5 +1,5 @@
 -- Defines what it is to serve a connection by one session.
--- Used by: mw_workers, the contract of peer.rt. A change here changes what `Connection::serve` and a worker promise.
+-- Used by: mw_workers, peer.rt. A change here changes what `Connection::serve` and a worker promise.
 use Rattle.std.specs.Prelude.{ℕ, ◌≡◌, List, Option}
 use Rattle.std.specs.Io.KnownBytes.{IsAtEnd}
 use Rattle.mw_session.specs.declared.session.Ended.{Ended}

@@ -1,6 +1,5 @@
--- Defines how long a session may still wait for its client: which times run, and what is left of each limit.
--- Used by: the contracts of time_limits.rt. A change here changes when a client is sent away that is slow. Times and lengths
--- of time are in nanoseconds.
+-- Defines how long a session may still wait for its client: which times run, and what is left of each limit, in nanoseconds.
+-- Used by: time_limits.rt. A change here changes when a slow client is sent away.
 use Rattle.std.specs.Prelude.{◌≡◌, ◌||◌, ◌&&◌, is_some, ℕ, ◌-◌, ◌*◌, ◌==◌, min, max, length, Bool, true, false, List, Option, Some, None, slice_get, if◌then◌else◌}
 use Rattle.std.specs.List.{list_any}
 use Rattle.std.specs.Option.{option_map}

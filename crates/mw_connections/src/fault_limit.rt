@@ -1,7 +1,7 @@
-//! A stream over another one, from which no further line is read after so many replies that tell a line's fault.
+//! A stream over another one: no further line is read from it after so many replies that tell a line's fault.
 //!
-//! `sockets.rt` puts one over the stream of each client, so that a program which speaks another protocol isn't served on.
-//! `specs/FaultLimits` says what it promises: change both together. [`BLOCK`] may have another number.
+//! `sockets.rt` puts one over the stream of each client, against programs that speak another protocol. Change it with
+//! `specs/FaultLimits`. [`BLOCK`] may have another number.
 ghost use Rattle.std.specs.Prelude.{◌≡◌, ◌+◌, ◌≤◌, length, None, IfOk, take};
 ghost use Rattle.std.specs.Io.{ReadsAtMost};
 ghost use Rattle.mw_connections.specs.FaultLimits.{HasOneEnd, IsCallOfLimited, one_less, text_len};

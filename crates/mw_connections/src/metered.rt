@@ -1,9 +1,8 @@
-//! A listener over another one, which counts its connections: those that were accepted, that are served, and that were
-//! closed, and why.
+//! A listener over another one, which counts its connections: those accepted, those served, and those closed, and
+//! why. A connection that is dropped before a session serves it counts as closed.
 //!
-//! mw_programs makes one over each of its listeners. A connection that is dropped before a session serves it, wherever that
-//! is, is counted as closed too. What both promise is what the listener and the connection below promise: `specs/Metered`.
-//! A new way in which a session ends needs a [`CloseReason`].
+//! mw_programs makes one over each of its listeners. Change it with `specs/Metered`. A new way in which a session
+//! ends needs a [`CloseReason`].
 ghost use Rattle.std.specs.Prelude.{◌≡◌};
 ghost use Rattle.mw_connections.specs.Metered.{inside};
 ghost use Rattle.mw_connections.specs.Metered as spec;

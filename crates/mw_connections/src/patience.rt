@@ -1,7 +1,7 @@
 //! A listener over another one: it waits, longer each time, while the system has no room for a connection.
 //!
-//! mw_programs puts a [`Patient`] over its listener, and mw_workers over the desk's. The two waits may have other
-//! numbers: no proof names these, but docs/OPERATING tells them.
+//! Used by: mw_programs; mw_workers, for the desk's listener. The two waits may have other numbers; docs/OPERATING
+//! tells them.
 ghost use Rattle.std.specs.Prelude.{◌≡◌, false};
 ghost use Rattle.mw_connections.specs.Pauses.{GoesOn, is_of_client, longer};
 

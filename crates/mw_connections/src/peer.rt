@@ -1,7 +1,6 @@
 //! Defines the traits of listeners and of a client's connection.
 //!
-//! `sockets.rt` implements both for clients, `patience.rt` a listener over another one, and tests have peers of
-//! their own. A new call needs a body in each. mw_workers is generic over both.
+//! Used by: `sockets.rt`, `patience.rt`, mw_workers, tests. A new call needs a body in each implementation.
 ghost use Rattle.std.specs.Prelude.{ℕ, ◌≡◌, List, Option, IfOk};
 ghost use Rattle.std.specs.declared.result.Result.{Result as Outcome};
 ghost use Rattle.std.specs.declared.io.Error.{Error as IoError};

@@ -1,8 +1,7 @@
 //! The limits of a session's waits, and how much of each is left: a calculation with times, which reads no clock.
 //!
-//! `timed_stream.rt` and `sockets.rt` ask it before a wait, and mw_programs makes [`TimeLimits`]. `specs/TimesLeft`
-//! says what it promises: change both together. [`LOOK`] may have another number; docs/OPERATING tells users of the
-//! limits.
+//! `timed_stream.rt` and `sockets.rt` ask it before a wait. Change it with `specs/TimesLeft`. [`LOOK`] may have
+//! another number; docs/OPERATING tells the limits.
 ghost use Rattle.std.specs.Prelude.{◌≡◌, None, IsFalse, if◌then◌else◌};
 ghost use Rattle.std.specs.Time.{instant_nanos};
 ghost use Rattle.mw_connections.specs.declared.time_limits.Timing.TheVariants.{Starting, Stopped};

@@ -1,8 +1,7 @@
-//! The stream of a client's socket, within the limits of its waits.
+//! The stream of a client's socket, within the limits of its waits, which `time_limits.rt` calculates.
 //!
-//! `sockets.rt` makes one for each client's session, and `brief.rt` one for each client that stays for one request. How long a
-//! call may wait is calculated in `time_limits.rt`. Nothing is proved of sockets, so this may change freely as long as this crate
-//! checks and its tests pass. [`FAREWELL`] may have another number; docs/PROTOCOL and docs/OPERATING tell it.
+//! `sockets.rt` makes one for each client's session, and `brief.rt` one for each client that stays for one request.
+//! Nothing is proved of sockets. [`FAREWELL`] may have another number; docs/PROTOCOL and docs/OPERATING tell it.
 ghost use Rattle.std.specs.Prelude.{None};
 ghost use Rattle.std.specs.Io.{ReadsAtMost, WritesAtMost};
 

@@ -1,7 +1,6 @@
 -- A book (a tenant's open file) and its file token (the ghost capability to call it) agree after the opening and after each
 -- call.
--- Used by: the laws books_follow_file_tokens and new_books_agree, MadeCalls, mw_engine. Its statements may change with
--- mw_engine; its proofs may change freely.
+-- Used by: books_follow_file_tokens, new_books_agree, mw_engine.
 use Rattle.std.specs.Prelude.{ℕ, zero, suc, ◌≡◌, ◌<◌, ◌≤◌, Bool, true, false, List, length, replicate, slice_index}
 use Rattle.std.proofs.Common.{refl, sym, subst, ◌∙◌, inl, inr, arith}
 use Rattle.std.proofs.lemmas.Bool.{cases_lt}

@@ -1,6 +1,6 @@
 -- A whole call on a file is one event. After it the request, the book and the file pass (the capability to call the file)
 -- agree.
--- Used by: the proof of Core::file. It may change freely as long as this crate checks.
+-- Used by: Core::file.
 use Rattle.std.specs.Prelude.{ℕ, ◌≡◌, ◌++◌, Bool, List, [], ◌∷◌, map, None}
 use Rattle.std.proofs.Common.{refl, sym, ap, subst, ◌∙◌}
 use Rattle.mw_look.specs.declared.steps.Call.{Call}

@@ -1,5 +1,5 @@
 -- A pass that has taken its file meets what each step of the call requires, from the load of the change's status on.
--- Used by: the proof of Core::make_call. It may change freely as long as this crate checks.
+-- Used by: Core::make_call.
 use Rattle.std.specs.Prelude.{ℕ, ◌≡◌, ◌≢◌, ◌≤◌, ◌⊎◌, Bool, true, false, List, [], ◌∷◌, Option, Some, None}
 use Rattle.std.proofs.Common.{sym, ap, subst, ◌∙◌, inl, inr}
 use Rattle.mw_words.specs.declared.limits.TheConstants.{MAX_POOL}

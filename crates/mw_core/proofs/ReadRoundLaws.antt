@@ -1,5 +1,5 @@
 -- One round of a read ends within a bounded number of steps: with the reply, or back at the first point with a reason.
--- Used by: the proofs of Core::try_look, make_first and make_next. It may change freely as long as this crate checks.
+-- Used by: Core::try_look, make_first, make_next.
 use Rattle.std.specs.Prelude.{ℕ, ◌≡◌, ◌≤◌, ◌<◌, ◌+◌, Bool, true, false, cond, is_some, List, [], ◌∷◌, length, Option, Some, None, Result, Ok, Err}
 use Rattle.std.specs.Option.{option_or}
 use Rattle.std.proofs.Common.{refl, sym, ap, subst, ◌∙◌, arith}

@@ -1,6 +1,5 @@
 -- What a step found determines how the call that made it ends, and the pass still carries the request.
--- Used by: ReadRoundLaws, the proofs of Core::advance, begin, make_next and step, mw_engine. Its statements may change with
--- mw_engine; its proofs may change freely.
+-- Used by: Core::advance, begin, make_next, step, mw_engine.
 use Rattle.std.specs.Prelude.{ℕ, ◌≡◌, Bool, true, false, List, [], ◌∷◌, map, Option, Some, None, is_some, if◌then◌else◌}
 use Rattle.std.proofs.Common.{refl, sym, ap, subst, ◌∙◌}
 use Rattle.mw_words.specs.declared.replies.Reply.{Reply}

@@ -1,5 +1,5 @@
 -- Each step of a read leaves fewer steps to the end of its round, and a read that turns back has a reason.
--- Used by: ReadRoundLaws, RetryReasons, the proof of Core::try_look. It may change freely as long as this crate checks.
+-- Used by: Core::try_look.
 use Rattle.std.specs.Prelude.{ℕ, ◌≡◌, ◌≤◌, ◌<◌, ◌+◌, ◌-◌, ◌==◌, ◌&&◌, Bool, true, false, cond, not, is_some, nat_le, nat_lt, Option, Some, None}
 use Rattle.std.specs.Option.{option_or}
 use Rattle.std.proofs.Common.{refl, arith}

@@ -1,6 +1,6 @@
--- Defines that a book (a tenant's open file) and a file token (the ghost capability to call it) agree: both describe one file.
--- Used by: the contracts of src/file_calls.rt and src/laws.rt, specs/FileCalls, mw_engine. A change here changes what these
--- contracts say.
+-- Defines that a book (a tenant's open file) and a file token (the ghost capability to call it) agree: both describe one
+-- file.
+-- Used by: src/file_calls.rt, src/laws.rt, mw_engine.
 use Rattle.std.specs.Prelude.{ℕ, ◌≡◌, ◌<◌, true, false, List, length}
 use Rattle.mw_words.specs.declared.limits.TheConstants.{MAX_POOL}
 use Rattle.mw_words.specs.declared.jobs.Entry.{Entry}

@@ -1,5 +1,5 @@
 -- Defines a whole call on a tenant's file, for the request that a pass carries.
--- Used by: the contracts of src/file_calls.rt, mw_engine. A change here changes what these contracts say.
+-- Used by: src/file_calls.rt, mw_engine, mw_law_threads.
 use Rattle.std.specs.Prelude.{ℕ, ◌≡◌, Bool, List, [], ◌∷◌, length, map, Option, Some, None}
 use Rattle.mw_words.specs.declared.jobs.Entry.{Entry}
 use Rattle.mw_words.specs.declared.statuses.Status.{Status}

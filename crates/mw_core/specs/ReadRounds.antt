@@ -1,5 +1,5 @@
 -- Defines one round of a read over the shared words, from its first step to its reply, or back to its first point.
--- Used by: the contracts of src/read_rounds.rt, mw_engine, mw_table_tests. A change here changes what these contracts say.
+-- Used by: src/read_rounds.rt, mw_engine, mw_table_tests.
 use Rattle.std.specs.Prelude.{ℕ, ◌≡◌, ◌≤◌, ◌+◌, Bool, true, false, List, [], ◌∷◌, length, Option, Some, None, Result, Ok, Err}
 use Rattle.mw_words.specs.declared.jobs.Job.TheVariants.{Get}
 use Rattle.mw_words.specs.declared.limits.TheConstants.{MAX_ENTRIES}

@@ -1,5 +1,4 @@
--- Defines the reasons for which a read begins again, by what its steps found.
--- Used by: the contracts of src/read_rounds.rt, specs/ReadRounds. A change here changes what these contracts say.
+-- Defines the reasons for which a read begins again, by what its steps found. Used by: src/read_rounds.rt.
 use Rattle.std.specs.Prelude.{ℕ, ◌≡◌, false, cond, List, [], ◌∷◌, Option, Some, None}
 use Rattle.mw_words.specs.declared.gates.Gate.{Gate}
 use Rattle.mw_words.specs.declared.places.At.TheVariants.{Gate as AtGate, Row as AtRow, Data}

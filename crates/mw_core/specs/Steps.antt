@@ -1,5 +1,5 @@
 -- Defines what a call of the core does: one step of a request on the shared words, or nothing.
--- Used by: the contracts of src/calls.rt, mw_engine, mw_table_tests. A change here changes what these contracts say.
+-- Used by: src/calls.rt, mw_engine, mw_table_tests.
 use Rattle.std.specs.Prelude.{ℕ, ◌≡◌, Option, Some, None}
 use Rattle.mw_words.specs.declared.replies.Reply.{Reply}
 use Rattle.mw_look.specs.declared.steps.Call.{Call}

@@ -1,7 +1,6 @@
 //! Makes one atomic step of a request at a time.
 //!
-//! mw_engine serves requests by these calls, and tests use them without an engine. Its contracts use `specs/Steps`:
-//! change them together.
+//! mw_engine serves requests by these calls, and tests use them without an engine. Change it with `specs/Steps`.
 ghost use Rattle.std.specs.Prelude.{◌≡◌, false, None};
 ghost use Rattle.mw_table.specs.FromRule.{MayCome};
 ghost use Rattle.mw_table.specs.CarriedRequest.{IsCarried};

@@ -1,7 +1,7 @@
 //! Makes one whole call on a tenant's file, for the request that a pass carries.
 //!
-//! mw_engine calls `Core::file` under the lock of the tenant's file. Its contracts use `specs/FileCalls` and
-//! `specs/Books`: change them together.
+//! mw_engine calls `Core::file` under the lock of the tenant's file. Change it with `specs/FileCalls` and
+//! `specs/Books`.
 ghost use Rattle.std.specs.Prelude.{◌≡◌, ◌≢◌, None, [], length};
 ghost use Rattle.std.specs.Option.{option_map};
 ghost use Rattle.mw_actor.specs.ActorState as acting;

@@ -1,9 +1,8 @@
 //! States that a book (a tenant's open file) and its file token (the ghost capability to call it) agree after each
 //! opening and call.
 //!
-//! The functions do nothing, and nothing calls them: each contract is a fact, proved in `proofs/laws`. Proofs
-//! of crates above import other pages of `proofs`, by which these facts are proved. To change a fact, change
-//! its definition in `specs`, and then its proof.
+//! The functions are empty: their contracts are the facts, proved in `proofs/laws`. To change a fact, begin with its
+//! definition in `specs`.
 ghost use Rattle.mw_core.specs.Books.{BooksFollowFileTokens, BooksTakeCalls, OpenedBooksAgree, UnopenedBooksAgree};
 
 use mw_disk::Disk;

@@ -1,17 +1,13 @@
 //! The lock-free core: requests that threads drive on shared words, one step at a time.
 //!
 //! A thread has a pass, and the machine of the request that the pass carries. [`Core::begin`] makes the request's
-//! first step. Each [`Core::advance`] then makes one atomic step of it on the shared words, until the request has its
-//! reply, or until a call on the tenant's file is next. [`Core::file`] makes that call, on the tenant's [`Book`] and
-//! with its [`FilePass`]. The caller keeps these two together under a lock. They agree on what the file has, before
-//! the call and after it.
-//!
-//! [`Core::try_look`] makes one round of a read: up to its reply, or back to its first point, and then it says why
-//! ([`WhyAgain`]).
+//! first step. Each [`Core::advance`] makes one atomic step of it, until the request has its reply, or a call on the
+//! tenant's file is next. [`Core::file`] makes that call, on the tenant's [`Book`] and with its [`FilePass`], which
+//! the caller keeps together under a lock. [`Core::try_look`] makes one round of a read: up to its reply, or back to
+//! its first point, and then it says why ([`WhyAgain`]).
 //!
 //! `specs/Steps` says what `begin`, `step` and `advance` do, `specs/FileCalls` what `file` does, `specs/ReadRounds`
-//! what `try_look` does, and `specs/Reasons` what the steps found if a read begins again. `specs/Books` says when a
-//! book and a file token agree.
+//! and `specs/Reasons` what `try_look` does, and `specs/Books` when a book and a file token agree.
 //!
 //! Used by: mw_engine, mw_table_tests.
 //!

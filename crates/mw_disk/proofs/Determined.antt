@@ -1,6 +1,6 @@
 -- From one disk in memory the same calls, none of them refused memory, lead to one disk; and a crash with the same torn bytes
 -- leaves one image.
--- Used by: the two laws of src/laws.rt, mw_world_file. It may change freely as long as this crate and mw_world_file check.
+-- Used by: src/laws.rt, mw_world_file.
 use Rattle.std.proofs.Common.{◌≡◌, ◌≤◌, ◌-◌, ℕ, ◌+◌, Bool, true, false, List, [], ◌∷◌, length, min, get_or, refl, sym, ap, ◌∙◌, subst, inl, inr, arith}
 use Rattle.std.proofs.lemmas.List.{ext_get_or}
 use Rattle.std.proofs.lemmas.Bool.{cases_lt, cases_Bool, false≢true}

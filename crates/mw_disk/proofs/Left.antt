@@ -1,5 +1,5 @@
 -- The bytes and unsynced ranges that a disk in memory keeps at run time match the calls that its contracts remember.
--- Used by: the proofs of put, note_torn, note_sync and note_quiet. It may change freely as long as this crate checks.
+-- Used by: put, note_torn, note_sync, note_quiet.
 use Rattle.std.proofs.Common.{◌≡◌, ℕ, List, [], ◌∷◌, ◌++◌, refl, sym, ap, ◌∙◌, subst}
 use Rattle.mw_disk.specs.Facts.{patched}
 use Rattle.mw_disk.specs.Memory.{State, only, padded, after, run}

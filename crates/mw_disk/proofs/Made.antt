@@ -1,5 +1,4 @@
--- How each call on a disk in memory ends is what `memory_made` says of it.
--- Used by: the proofs of the four calls of MemDisk. It may change freely as long as this crate checks.
+-- How each call on a disk in memory ends is what `memory_made` says of it. Used by: calls of MemDisk.
 use Rattle.std.proofs.Common.{◌≡◌, ◌⊎◌, ℕ, ◌+◌, Bool, true, false, List, length, refl, sym, ap, ◌∙◌, subst, inl, inr, leb}
 use Rattle.mw_disk.specs.DeviceCalls.{WriteAt}
 use Rattle.mw_disk.specs.Memory.{Memory, memory_facts, begun, logged, refused_once, goes_well, ended, Ends, IsRefused, FailsAs, only_if, next_turn, read_turn, memory_made}

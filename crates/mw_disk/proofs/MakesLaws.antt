@@ -1,6 +1,4 @@
--- Lists of device calls: no call, one call, one call before a list, and one list after another.
--- Used by: the proofs of mw_file and mw_world_file that name the device calls of a call on a file. A statement may change with
--- them.
+-- Lists of device calls: no call, one call, one call before a list, and one list after another. Used by: mw_file.
 use Rattle.std.proofs.Common.{Bool, true, false, List, [], ◌∷◌, ◌++◌, refl, sym, subst, inl, inr}
 use Rattle.std.proofs.lemmas.Bool.{false≢true}
 use Rattle.mw_disk.specs.DeviceCalls.{DeviceCall, Makes}

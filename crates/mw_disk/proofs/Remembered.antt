@@ -1,6 +1,6 @@
 -- A disk in memory keeps the disk model: each call that it remembers, or that fails without a trace, meets the contract of
 -- `Disk`.
--- Used by: Images, Left, the proofs of all calls of MemDisk. It may change freely as long as this crate checks.
+-- Used by: all calls of MemDisk, mw_file.
 use Rattle.std.proofs.Common.{◌≡◌, ◌<◌, ◌≤◌, ◌-◌, ℕ, ◌+◌, ◌^◌, Bool, true, false, cond, Some, Result, Ok, Err, List, [], ◌∷◌, ◌++◌, length, take, drop, min, max, replicate, get_or, refl, sym, ap, ◌∙◌, subst, inl, inr, ◌⊎◌, leb, arith, append_assoc, length-append}
 use Rattle.std.specs.List.{flat_map}
 use Rattle.std.specs.Result.{IsErr, is_ok}

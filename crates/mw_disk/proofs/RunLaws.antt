@@ -1,7 +1,6 @@
 -- Two runs of device calls, one after the other, make one run: in what they touch, what a crash since leaves, and how their
 -- calls are counted.
--- Used by: mw_file, mw_book, mw_world_file, mw_plain, mw_simulator. Its statements may change with mw_book, mw_file, mw_plain,
--- mw_simulator and mw_world_file; its proofs may change freely.
+-- Used by: mw_file, mw_plain, mw_world_file, mw_book, mw_simulator.
 use Rattle.std.specs.Prelude.{◌≡◌, ◌<◌, ◌≤◌, ℕ, suc, ◌+◌, ◌-◌, ◌^◌, Bool, true, false, Some, List, [], ◌∷◌, ◌++◌, length, min, replicate, IsTrue}
 use Rattle.std.proofs.Common.{refl, sym, ap, ◌∙◌, subst, inl, inr, arith, append_assoc, length-append}
 use Rattle.std.proofs.lemmas.List.{get_or_past, length-replicate, replicate-append-replicate, append-nil}

@@ -1,5 +1,5 @@
 -- A disk in memory that puts torn bytes into its unsynced ranges, one after the other, gets bytes that a crash may leave.
--- Used by: Left, the proofs of tear and MemDisk::crash. It may change freely as long as this crate checks.
+-- Used by: tear, MemDisk::crash.
 use Rattle.std.proofs.Common.{◌≡◌, ◌≢◌, ◌<◌, ◌≤◌, ◌-◌, ℕ, ◌+◌, suc, zero, Bool, cond, IsTrue, List, [], ◌∷◌, ◌++◌, length, set, get_or, replicate, refl, sym, ap, ◌∙◌, subst, inl, inr, arith, add-one, Some, None}
 use Rattle.std.proofs.lemmas.List.{get_or_past, get_or_append_left, get_or-append_right, get_or-replicate, get_or-set_same, get_or-set_other, length-set, length-replicate}
 use Rattle.std.proofs.lemmas.Bool.{cases_lt, cases_eq, cases_Bool, false≢true}

@@ -1,6 +1,6 @@
 -- Defines the calls of a device, and what it means that a list of them was made of a disk.
--- Used by: Memory, mw_file, mw_world_file, mw_simulator, the contracts of device.rt, laws.rt and memory.rt. The contracts of
--- mw_file name the device calls of prepare, seal and settle. A new call of `Disk` needs a case here.
+-- Used by: mw_file, mw_world_file, mw_simulator, mw_opening, device.rt, laws.rt, memory.rt. A new call of `Disk` needs a case
+-- here.
 use Rattle.std.specs.Prelude.{◌≡◌, ◌⊎◌, ℕ, Bool, true, false, List, [], ◌∷◌}
 
 -- One call of a device.

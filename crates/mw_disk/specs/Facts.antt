@@ -1,7 +1,6 @@
--- Defines the facts of a disk at one moment (its abstract state), and what one call may change of them.
--- Used by: Memory, Runs, Unknown, 9 crates from mw_file on, the contracts of device.rt, edits.rt, file.rt and memory.rt. It is
--- the disk model on which all that is said of crashes rests. A change here changes what the server assumes of a disk: README,
--- docs/PROMISES and docs/OPERATING change with it.
+-- Defines the facts of a disk at one moment (its abstract state), and what one call may change of them. It is the disk model.
+-- Used by: many crates from mw_file on, device.rt, edits.rt, file.rt, memory.rt. A change here changes what the server
+-- assumes of a disk: README, docs/PROMISES and docs/OPERATING.
 use Rattle.std.specs.Prelude.{◌≡◌, ◌<◌, ◌≤◌, ℕ, suc, ◌+◌, ◌^◌, ◌-◌, Bool, true, false, Option, Some, IsTrue, List, [], ◌∷◌, ◌++◌, length, take, drop, min, max, slice_index, if◌then◌else◌}
 
 -- The facts of a disk at one moment.

@@ -1,6 +1,5 @@
 -- Defines what a run of device calls may change of a disk, and how many of its calls went well.
--- Used by: proofs of this crate, mw_file, mw_plain, mw_world_file, mw_book, mw_simulator. No contract of this crate cites it;
--- those of mw_file do, for each call on a file. A change here changes what they promise.
+-- Used by: proofs of this crate, many crates from mw_file on. A change here changes what each call on a file promises.
 use Rattle.std.specs.Prelude.{◌≡◌, ◌<◌, ◌≤◌, ℕ, suc, ◌+◌, ◌^◌, true, false, Some, List, [], ◌∷◌, ◌++◌, length, min, replicate, slice_index, IsTrue}
 use Rattle.mw_disk.specs.Facts.{Facts, MayLeave, MayHaveLeft, most_counted}
 

@@ -1,7 +1,6 @@
--- Defines the facts (abstract state) of a disk of which only the number of its failed calls is known. A real file has
--- these facts, so contracts promise nothing of its bytes.
--- Used by: the contracts of src/file.rt, proofs of mw_opening. A new field of Facts needs its value here. Another change
--- changes what a real file promises: check src/file.rt and mw_opening.
+-- Defines the facts of a disk of which only the number of its failed calls is known, as of a real file: contracts promise
+-- nothing of its bytes.
+-- Used by: src/file.rt. A new field of Facts needs its value here.
 use Rattle.std.specs.Prelude.{ℕ, false, None, []}
 use Rattle.mw_disk.specs.Facts.{Facts}
 

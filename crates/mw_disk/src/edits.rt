@@ -1,6 +1,6 @@
 //! Writes a block, or zeros, over the bytes of a disk in memory.
 //!
-//! Used by `memory.rt` and `spans.rt` alone: it may change freely as long as both check.
+//! Used by `memory.rt` and `spans.rt` alone.
 ghost use Rattle.std.specs.Prelude.{◌≡◌, ◌+◌, ◌≤◌, length, OnOk, OnErr};
 ghost use Rattle.mw_disk.specs.Facts.{patched};
 ghost use Rattle.mw_disk.specs.Memory.{padded};

@@ -1,8 +1,7 @@
 //! The calls of a disk in memory as contracts remember them, and how the next call will end.
 //!
-//! Used by `memory.rt` and `history.rt`. Only contracts look at a [`Call`] or an [`Event`]; a [`Turn`] is looked at
-//! when a program runs. A new kind of `Call` needs a case in `specs/Memory` and `specs/Crash`, a new `Turn` one in
-//! `specs/Memory`.
+//! Used by: `memory.rt`, `history.rt`. A [`Call`] and an [`Event`] are for contracts alone. A new `Call` needs a case
+//! in `specs/Memory` and `specs/Crash`, a new `Turn` one in `specs/Memory`.
 ghost use Rattle.std.specs.Prelude.{◌≡◌, ℕ, List};
 ghost use Rattle.std.specs.Borrow.{ftrue};
 

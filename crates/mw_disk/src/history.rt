@@ -1,6 +1,6 @@
 //! The calls that a disk in memory has seen, as its contracts read them. At run time it takes no memory.
 //!
-//! Only `memory.rt` has one. It may change with `specs/Memory`, which says what follows from a history.
+//! Only `memory.rt` has one. Change it with `specs/Memory`.
 ghost use Rattle.std.specs.Prelude.{◌≡◌, ℕ, List, [], ◌∷◌, ◌++◌};
 ghost use Rattle.std.specs.Borrow.{ftrue};
 ghost use Rattle.mw_disk.specs.declared.event.Event.{Event as Remembered};

@@ -1,7 +1,7 @@
 //! Laws of a disk in memory: its calls determine it, and a crash with given torn bytes leaves one image. Each is the
 //! contract of an empty function.
 //!
-//! Nothing that runs calls them. By these laws mw_world_file says what a file is after a restart.
+//! By these laws mw_world_file says what a file is after a restart.
 ghost use Rattle.std.specs.Prelude.{◌≡◌, ℕ, Bool, List, length};
 ghost use Rattle.mw_disk.specs.DeviceCalls.{DeviceCall, Makes};
 ghost use Rattle.mw_disk.specs.Memory.{Memory, memory_facts, memory_made, NoneRefused};

@@ -1,11 +1,8 @@
 //! The disk on which a tenant's file is kept: the model of what a read gives and what a crash may leave, and two
 //! implementations.
 //!
-//! [`Disk`] is the trait. [`MemDisk`] is such a disk in memory, for tests. [`FileDisk`] is a disk over a
-//! real file.
-//!
-//! A file (mw_file) makes all calls on its disk. The server uses [`FileDisk`]; tests and the simulated files of
-//! mw_world_file use [`MemDisk`]. A change of `device.rt` is a change of the disk model.
+//! [`Disk`] is the trait, and `device.rt` the disk model. [`MemDisk`] is a disk in memory, for tests and the
+//! simulated files of mw_world_file. [`FileDisk`] is one over a real file, for the server. mw_file makes all calls.
 #![tactic(auto)]
 
 mod device;

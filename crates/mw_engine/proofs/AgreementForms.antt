@@ -1,6 +1,5 @@
--- The two definitions of agreement between a book and a file token, mw_core's and this crate's, hold of the same pairs. Only
--- this crate's has at most one proof, as the invariant of a type must.
--- Used by: GuardedFileLaws, Disks, PartsAgree. It may change freely as long as this crate checks.
+-- The two definitions of agreement between a book and a file token, mw_core's and this crate's, hold of the same pairs.
+-- Used by: mw_law_threads.
 use Rattle.std.specs.Prelude.{◌≡◌, ◌⊎◌, ℕ, List, [], ◌∷◌, drop, length, Option, Some, None, IsTrue}
 use Rattle.std.specs.Coded.{Coded-set, coded_option, coded_list, coded_ℕ}
 use Rattle.std.proofs.Common.{refl, ap, subst, ◌∙◌, inl, inr}

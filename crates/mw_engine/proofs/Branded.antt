@@ -1,6 +1,6 @@
 -- An engine's identity (what stays the same for its whole life) and its table agree on lines, places, slots, passes and
 -- requests.
--- Used by: nearly all calls of Engine. It may change freely as long as this crate checks.
+-- Used by: nearly all calls of Engine.
 use Rattle.std.specs.Prelude.{ℕ, ◌≡◌, ◌<◌, List, map}
 use Rattle.std.proofs.Common.{sym, ap, subst, ◌∙◌}
 use Rattle.mw_words.specs.declared.jobs.Job.{Job}

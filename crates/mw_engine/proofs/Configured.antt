@@ -1,5 +1,4 @@
--- Tenants' lines and files that fit them make a valid configuration of a world and a valid start.
--- Used by: PartsAgree, the proof of EngineParts::new. It may change freely as long as this crate checks.
+-- Tenants' lines and files that fit them make a valid configuration of a world and a valid start. Used by: EngineParts::new.
 use Rattle.std.specs.Prelude.{◌≡◌, ◌≤◌, ◌<◌, ◌+◌, ℕ, zero, suc, All, List, [], ◌∷◌, length, map, slice_get, slice_index_or, sum_by, IsTrue, Option, Some, None, Vec}
 use Rattle.std.specs.declared.alloc.Global.{Global}
 use Rattle.std.proofs.Common.{refl, sym, ap, subst, ◌∙◌, arith}

@@ -1,5 +1,5 @@
 -- At its end an engine gives each tenant's disk under that tenant's number.
--- Used by: the proofs of Engine::into_disks, into_disks_with, GuardedFile::into_disk and into_disk_with. It may change freely as long as this crate checks.
+-- Used by: Engine::into_disks, into_disks_with, GuardedFile::into_disk, into_disk_with.
 use Rattle.std.specs.Prelude.{◌≡◌, ℕ, zero, suc, is_some, List, [], ◌∷◌, ◌++◌, length, slice_get, Option, Some, None, IsTrue}
 use Rattle.std.proofs.Common.{refl, sym, ap, subst, ◌∙◌}
 use Rattle.mw_disk.specs.Facts.{Facts}

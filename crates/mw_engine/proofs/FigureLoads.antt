@@ -1,5 +1,5 @@
 -- For the figures (a report), a load of a tenant's door finds a door, and a load of a slot's gate finds a gate.
--- Used by: the proofs of TenantWords::door and TenantWords::gate. It may change freely as long as this crate checks.
+-- Used by: TenantWords::door, TenantWords::gate.
 use Rattle.std.specs.Prelude.{ℕ, ◌≡◌, ◌<◌, ◌≤◌, true, nat_lt, List, length, Option, Some, None}
 use Rattle.std.proofs.Common.{refl, sym, ap, subst, ◌∙◌, arith}
 use Rattle.std.proofs.lemmas.Bool.Decides.{nat_tests}

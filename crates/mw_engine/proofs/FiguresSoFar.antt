@@ -1,6 +1,5 @@
 -- If figures (a report) tell what the loads so far found, they still do after one more load.
--- Used by: the proofs of TenantWords::free_slots and TenantWords::tenant_figures. It may change freely as long as this crate
--- checks.
+-- Used by: TenantWords::free_slots, TenantWords::tenant_figures.
 use Rattle.std.specs.Prelude.{ℕ, suc, ◌≡◌, ◌<◌, ◌+◌, Bool, true, false, not, cond, List, [], ◌∷◌, ◌++◌, length, map, take}
 use Rattle.std.proofs.Common.{refl, sym, ap, subst, ◌∙◌, get_or, length-append, arith}
 use Rattle.std.proofs.lemmas.List.{length-map, map-append}

@@ -1,5 +1,5 @@
 -- The book that a lock keeps is kept after its file was only read, and the bytes that were read are a backup of it.
--- Used by: the proof of GuardedFile::copy_of. It may change freely as long as this crate checks.
+-- Used by: GuardedFile::copy_of.
 use Rattle.std.specs.Prelude.{◌≡◌, ℕ, true, is_some, Option, Some, None, Vec, Result, Ok}
 use Rattle.std.specs.declared.alloc.Global.{Global}
 use Rattle.std.proofs.Common.{refl, subst, ◌∙◌}

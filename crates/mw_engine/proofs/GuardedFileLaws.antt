@@ -1,6 +1,5 @@
 -- The book and file pass that a lock keeps are what the table's calls require, and a call on the file leaves them so.
--- Used by: the proofs of GuardedFile::file, GuardedFile::into_disk and `locked` of start. It may change freely as long as this
--- crate checks.
+-- Used by: GuardedFile::file, GuardedFile::into_disk, `locked`.
 use Rattle.std.specs.Prelude.{◌≡◌, ℕ, suc, true, is_some, List, ◌∷◌, slice_get, Option, Some, None}
 use Rattle.std.proofs.Common.{refl, sym, ap, subst, ◌∙◌}
 use Rattle.mw_disk.specs.Facts.{Facts}

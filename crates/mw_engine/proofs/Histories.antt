@@ -1,6 +1,5 @@
 -- After each step a thread still knows of its request that it is under way, or that it was answered.
--- Used by: StepOrFileCall, RepliesOfJobs, the proofs of Engine::serve, advance, make_step and try_look. It may change freely as
--- long as this crate checks.
+-- Used by: Engine::serve, advance, make_step, try_look.
 use Rattle.std.specs.Prelude.{ℕ, ◌≡◌, Bool, true, false, List, [], ◌∷◌, map, Option, Some, None, Result, Ok, Err}
 use Rattle.std.proofs.Common.{refl, sym, ap, subst, ◌∙◌}
 use Rattle.mw_words.specs.declared.replies.Reply.{Reply}

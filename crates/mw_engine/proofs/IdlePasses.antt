@@ -1,5 +1,4 @@
--- When a pass becomes idle, what is known of its finished request stays.
--- Used by: the proof of Engine::advance. It may change freely as long as this crate checks.
+-- When a pass becomes idle, what is known of its finished request stays. Used by: Engine::advance.
 use Rattle.std.specs.Prelude.{◌≡◌, true, false, is_some, Option, Some, None}
 use Rattle.std.proofs.Common.{refl, sym, subst}
 use Rattle.mw_words.specs.declared.replies.Reply.{Reply}

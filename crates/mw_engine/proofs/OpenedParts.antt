@@ -1,6 +1,5 @@
--- Each line of the tenants file, with its opened file, gives an opening and a book. Then the openings are what the start gave,
--- and each book agrees with its opening.
--- Used by: PartsAgree, the proofs of `opened` and EngineParts::new. It may change freely as long as this crate checks.
+-- Each line of the tenants file, with its opened file, gives an opening and a book, which agree.
+-- Used by: `opened`, EngineParts::new.
 use Rattle.std.specs.Prelude.{◌≡◌, ◌≤◌, ◌<◌, ◌+◌, ℕ, zero, suc, not, is_some, List, [], ◌∷◌, ◌++◌, drop, length, map, replicate, slice_get, Option, Some, None, Vec}
 use Rattle.std.specs.declared.alloc.Global.{Global}
 use Rattle.std.proofs.Common.{refl, sym, ap, subst, ◌∙◌, arith, add-one, append_assoc, get_or, inl, inr}

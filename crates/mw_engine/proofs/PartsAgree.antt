@@ -1,5 +1,5 @@
 -- When an engine's parts are made, its lines, table, passes, books and file passes agree with each other.
--- Used by: the proof of EngineParts::new. It may change freely as long as this crate checks.
+-- Used by: EngineParts::new.
 use Rattle.std.specs.Prelude.{◌≡◌, ◌<◌, ℕ, All, List, [], ◌∷◌, length, map, not, slice_get, Option, Some, Vec}
 use Rattle.std.specs.declared.alloc.Global.{Global}
 use Rattle.std.proofs.Common.{sym, ap, subst, ◌∙◌}

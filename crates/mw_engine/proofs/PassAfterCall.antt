@@ -1,6 +1,5 @@
 -- A pass still belongs to the table after a step, a round of a read, or a load.
--- Used by: Branded, StepOrFileCall, the proofs of Engine::make_step, try_look, TenantWords::door and gate. It may change freely
--- as long as this crate checks.
+-- Used by: Engine::make_step, try_look, TenantWords::door, gate.
 use Rattle.std.specs.Prelude.{ℕ, ◌≡◌, ◌<◌, Bool, true, false, List, [], ◌∷◌, Option, Some, None, Result}
 use Rattle.std.proofs.Common.{sym, ap, subst, ◌∙◌}
 use Rattle.mw_words.specs.declared.replies.Reply.{Reply}

@@ -1,7 +1,5 @@
--- The reply to a request is one that its job can have (`specs/Replies`). To a read it is VAL or FAULT. To a change it is YES,
--- BUSY, FAULT, WORN, or a NO that an entry explains.
--- Used by: StepOrFileCall, the proofs of Engine::serve, try_look, advance, file and make_step. It may change freely as long as
--- this crate checks.
+-- The reply to a request is one that its job can have (`specs/Replies`).
+-- Used by: Engine::serve, try_look, advance, file, make_step.
 use Rattle.std.specs.Prelude.{◌≡◌, ℕ, ◌-◌, ◌==◌, Bool, nat_lt, Option, Some, None, IfSome, [], ◌∷◌, List, map, Result, Ok, Err, IfOk}
 use Rattle.std.proofs.Common.{refl, sym, subst, ◌∙◌, get_or, ap}
 use Rattle.std.proofs.lemmas.Option.{none-some, same_Some, slice_get-get_or, slice_get_within}

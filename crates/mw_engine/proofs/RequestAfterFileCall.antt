@@ -1,5 +1,4 @@
--- A call on its file leaves a request the same. A request without a reply is under way.
--- Used by: the proofs of Engine::file, Engine::go_on and Engine::serve. It may change freely as long as this crate checks.
+-- A call on its file leaves a request the same. A request without a reply is under way. Used by: Engine::file, Engine::serve.
 use Rattle.std.specs.Prelude.{ℕ, ◌≡◌, true, false, Bool, Option, None}
 use Rattle.std.proofs.Common.{sym, ap, subst, ◌∙◌}
 use Rattle.mw_words.specs.declared.jobs.Job.{Job}

@@ -1,5 +1,4 @@
--- After a step a request is the same. If it then needs its file, it has come to a call on it.
--- Used by: StepOrFileCall, the proof of Engine::advance. It may change freely as long as this crate checks.
+-- After a step a request is the same. If it then needs its file, it has come to a call on it. Used by: Engine::advance.
 use Rattle.std.specs.Prelude.{◌≡◌, Bool, true, false, Option, Some, None}
 use Rattle.std.proofs.Common.{refl, sym, ap, ◌∙◌}
 use Rattle.mw_words.specs.declared.replies.Reply.{Reply}

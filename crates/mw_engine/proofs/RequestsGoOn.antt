@@ -1,5 +1,5 @@
 -- A request with which threads have gone on, one after another, has gone on.
--- Used by: the proofs of the functions of src/combiner.rt and src/file_lock/one_call.rt. It may change freely as long as this crate checks.
+-- Used by: src/combiner.rt, src/file_lock/one_call.rt.
 use Rattle.std.proofs.Common.{refl, ◌∙◌}
 use Rattle.mw_actor.specs.ActorState.{ActorState}
 use Rattle.mw_disk.specs.Facts.{Facts}

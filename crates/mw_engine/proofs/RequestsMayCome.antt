@@ -1,6 +1,5 @@
 -- A request that the engine makes for a tenant may come to an idle pass.
--- Used by: FigureLoads, the proofs of Engine::serve, make_step, request, try_look and TenantWords::tenant_figures. It may
--- change freely as long as this crate checks.
+-- Used by: Engine::serve, make_step, request, try_look, TenantWords::tenant_figures.
 use Rattle.std.specs.Prelude.{ℕ, ◌≡◌, ◌<◌, ◌≤◌, true, List, [], ◌∷◌, length, map, Option}
 use Rattle.std.specs.Option.{option_map_or}
 use Rattle.std.proofs.Common.{refl, sym, ap, subst, ◌∙◌}

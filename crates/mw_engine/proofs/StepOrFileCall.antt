@@ -1,5 +1,4 @@
--- After one step without a reply, or before a call on its file, a request is the same and under way.
--- Used by: the proof of Engine::go_on. It may change freely as long as this crate checks.
+-- After one step without a reply, or before a call on its file, a request is the same and under way. Used by: Engine::go_on.
 use Rattle.std.specs.Prelude.{◌≡◌, false, Option, None, if◌then◌else◌, is_some}
 use Rattle.std.proofs.Common.{refl}
 use Rattle.mw_look.specs.declared.steps.Call.{Call}

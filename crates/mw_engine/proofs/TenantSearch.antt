@@ -1,6 +1,5 @@
 -- The search for a name finds the first tenant that has it.
--- Used by: the proofs of Engine::find, Engine::request and TenantWords::tenant_figures. It may change freely as long as this
--- crate checks.
+-- Used by: Engine::find, Engine::request, TenantWords::tenant_figures.
 use Rattle.std.proofs.Common.{◌≡◌, ℕ, ◌+◌, ◌<◌, ◌≤◌, List, length, map, slice_get, Option, Some, get_or, sym, ap, ◌∙◌, inl, inr, arith}
 use Rattle.std.proofs.lemmas.Bool.{cases_eq}
 use Rattle.std.specs.Option.{option_map, option_map_or}

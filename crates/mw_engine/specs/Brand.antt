@@ -1,6 +1,5 @@
 -- Defines the identity of an engine: what stays the same for its whole life.
--- Used by: the contracts of src/brand.rt, src/end.rt, src/engine.rt and other code of this crate, many specs of this crate,
--- mw_programs. A change here changes what these contracts say.
+-- Used by: src/brand.rt, src/end.rt, src/engine.rt, other code of this crate, mw_service, mw_law_threads, mw_programs.
 use Rattle.std.specs.Prelude.{List, []}
 use Rattle.atomic_table.specs.Seated.{TableId}
 use Rattle.mw_world.specs.declared.config.Config.{Config}

@@ -1,6 +1,4 @@
--- Defines which disks an engine (all tenants' words, which threads change at once) gives back when it ends, and which words
--- are on them.
--- Used by: the contracts of src/end.rt. A change here changes what these contracts say.
+-- Defines which disks an engine gives back when it ends, and which words are on them. Used by: src/end.rt.
 use Rattle.std.specs.Prelude.{◌≡◌, ℕ, false, List, length, slice_get, Option, Some, None, IsTrue}
 use Rattle.mw_disk.specs.Facts.{Facts}
 use Rattle.mw_record.specs.Layout.{pairs_of}

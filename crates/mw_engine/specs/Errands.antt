@@ -1,5 +1,5 @@
--- Defines how a request comes back to its thread after this or other threads made calls on its file for it. It may be just as it was left.
--- Used by: the contracts of src/combiner.rt and src/file_lock/one_call.rt, the ghost type of src/errand.rt. A change here changes what these contracts say.
+-- Defines how a request comes back to its thread after threads made calls on its file for it, or just as it was left.
+-- Used by: src/combiner.rt, src/file_lock/one_call.rt, src/errand.rt.
 use Rattle.mw_actor.specs.ActorState.{ActorState}
 use Rattle.mw_core.specs.FromTable.{IsCarried, IsOfSameWorker, Pass, View}
 use Rattle.mw_disk.specs.Facts.{Facts}

@@ -1,6 +1,6 @@
 -- Defines what figures (a report for the administrator) tell: what one load of each tenant's door and one of each slot's gate
--- found. Each load has a moment of its own. No load is a step of a request, or adds an event to the run.
--- Used by: the contracts of src/figures.rt, mw_programs. A change here changes what these contracts say.
+-- found, each at a moment of its own. No load adds an event to the run.
+-- Used by: src/figures.rt, mw_service.
 use Rattle.std.specs.Prelude.{ℕ, suc, ◌≡◌, ◌&&◌, Bool, true, not, cond, nat_lt, List, [], ◌∷◌, length, map, sum_by, Option, Some}
 use Rattle.mw_words.specs.declared.doors.Door.{Door}
 use Rattle.mw_words.specs.declared.gates.Gate.{Gate}

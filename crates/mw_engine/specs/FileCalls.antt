@@ -1,5 +1,5 @@
 -- Defines what a call on a tenant's file does, as an engine makes it.
--- Used by: the contracts of src/file_calls.rt and src/file_lock/one_call.rt, specs/Errands. A change here changes what these contracts say.
+-- Used by: src/file_calls.rt, src/file_lock/one_call.rt, mw_law_threads.
 use Rattle.std.specs.Prelude.{◌≡◌, ℕ, zero, suc}
 use Rattle.mw_actor.specs.ActorState.{ActorState}
 use Rattle.mw_disk.specs.Facts.{Facts}

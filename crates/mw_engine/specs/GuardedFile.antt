@@ -1,7 +1,6 @@
--- Defines that a tenant's book and its file pass agree. `Agrees` of mw_core says the same. Here each statement has at most one
--- proof, as the invariant of a type must.
--- Used by: the contracts of src/guarded_file.rt, src/parts.rt and src/start.rt, specs/DisksAtEnd, specs/FileCalls. A change
--- here changes what these contracts say.
+-- Defines that a tenant's book and its file pass agree, as `Agrees` of mw_core does, but with one proof at most, as the
+-- invariant of a type must.
+-- Used by: src/guarded_file.rt, src/parts.rt, src/start.rt, mw_law_threads.
 use Rattle.std.specs.Prelude.{◌≡◌, ◌<◌, ℕ, true, false, is_some, List, [], drop, length, slice_get, slice_index, Option, Some, None, IsTrue}
 use Rattle.mw_words.specs.declared.limits.TheConstants.{MAX_POOL}
 use Rattle.mw_disk.specs.Facts.{Facts, IsSynced, MayLeave}

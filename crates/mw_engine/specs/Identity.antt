@@ -1,6 +1,5 @@
 -- Defines the lines of an engine's tenants (name, number of words, quota), which stay the same for its whole life.
--- Used by: the contracts of src/figures.rt, src/reads.rt, src/serving.rt and src/tenants.rt, many specs of this crate,
--- mw_programs, mw_engine_tests. A change here changes what these contracts say.
+-- Used by: figures.rt, reads.rt, serving.rt, tenants.rt, mw_service, mw_programs, mw_engine_tests.
 use Rattle.std.specs.Prelude.{◌≡◌, ◌≢◌, ◌<◌, ℕ, List, length, slice_get, Option, Some, IsTrue}
 use Rattle.std.specs.Option.{option_map, option_map_or}
 use Rattle.mw_words.specs.declared.jobs.Job.{Job}

@@ -1,6 +1,5 @@
 -- Defines the tenants' lines as an engine keeps them, with how many places for changes each tenant's file has.
--- Used by: the contracts of src/new_parts.rt and src/tenant_words.rt, specs/TenantWords. A change here changes what these
--- contracts say.
+-- Used by: src/new_parts.rt, src/tenant_words.rt.
 use Rattle.std.specs.Prelude.{◌≤◌, ℕ, All, List}
 use Rattle.mw_words.specs.declared.limits.TheConstants.{MAX_PLACES}
 use Rattle.mw_engine.specs.declared.listed.Listed.{Listed}

@@ -1,6 +1,5 @@
 -- Defines that the lines that an engine keeps agree with the world of its shared words.
--- Used by: the contracts of src/figures.rt and src/tenant_words.rt, mw_programs. A change here changes what these contracts
--- say.
+-- Used by: src/figures.rt, src/tenant_words.rt, mw_service.
 use Rattle.std.specs.Prelude.{◌≡◌, ◌<◌, ℕ, List, length, slice_get, if◌then◌else◌, Some}
 use Rattle.mw_world.specs.declared.config.Config.{Config}
 use Rattle.mw_world.specs.Definition.State.{TenantStart, tenant_at, tenants_of}

@@ -1,5 +1,4 @@
--- Defines which notes of what a pass has seen belong to an engine.
--- Used by: the contracts of src/notes.rt, mw_service. A change here changes what these contracts say.
+-- Defines which notes of what a pass has seen belong to an engine. Used by: src/notes.rt, mw_service.
 use Rattle.std.specs.Prelude.{◌≡◌}
 use Rattle.mw_core.specs.FromTable.{Note}
 use Rattle.mw_engine.specs.Brand.{Identity}

@@ -1,6 +1,5 @@
 -- Defines what an engine is made of: the tenants' lines, and their files as they opened.
--- Used by: the contracts of src/new_parts.rt, specs/Parts, mw_programs, mw_engine_tests. A change here changes what these
--- contracts say.
+-- Used by: src/new_parts.rt, mw_opening, mw_law_threads, mw_engine_tests.
 use Rattle.std.specs.Prelude.{◌≡◌, ◌≤◌, ℕ, true, false, All, List, [], ◌∷◌, length, replicate, if◌then◌else◌, is_some, Option, Some, None, Vec, IsTrue}
 use Rattle.std.specs.declared.alloc.Global.{Global}
 use Rattle.mw_words.specs.Change.{AreWords}

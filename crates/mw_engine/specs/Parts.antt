@@ -1,6 +1,6 @@
--- Defines the identity of an engine from its parts, and the world that its lines make. Used by the contracts of new_parts.rt
--- and start.rt, and by those of mw_programs and mw_engine_tests. A change here changes which world an engine is promised to
--- serve.
+-- Defines the identity of an engine from its parts, and the world that its lines make.
+-- Used by: new_parts.rt, start.rt, mw_opening, mw_programs, mw_engine_tests. A change here changes which world an engine
+-- serves.
 use Rattle.std.specs.Prelude.{ℕ, List, map}
 use Rattle.mw_disk.specs.declared.device.Disk.{Ghosts}
 use Rattle.mw_config.specs.declared.lines.TenantLine.{TenantLine}

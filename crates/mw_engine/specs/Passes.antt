@@ -1,6 +1,6 @@
 -- Defines which passes belong to an engine.
--- Used by: the contracts of src/figures.rt, src/file_calls.rt, src/meet.rt and other code of this crate, specs/TenantWords,
--- mw_programs, mw_engine_tests. A change here changes what these contracts say.
+-- Used by: src/figures.rt, src/file_calls.rt, src/meet.rt, other code of this crate, mw_opening, mw_service, mw_programs,
+-- mw_engine_tests.
 use Rattle.std.specs.Prelude.{◌≡◌, ◌<◌, true, [], Some}
 use Rattle.mw_core.specs.FromTable.{IsFree, IsOf, Pass, Shared, config_of, known_run_of, opening_at}
 use Rattle.mw_engine.specs.Brand.{Identity}

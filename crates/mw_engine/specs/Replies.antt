@@ -1,6 +1,5 @@
 -- Defines which replies a job can have, whatever a tenant's words are.
--- Used by: the contracts of src/reads.rt, src/serving.rt and src/steps.rt, mw_programs. A change here changes what these
--- contracts say.
+-- Used by: src/reads.rt, src/serving.rt, src/steps.rt, mw_service.
 use Rattle.std.specs.Prelude.{◌≡◌, ◌≢◌, ℕ, Any, IfSome}
 use Rattle.mw_words.specs.declared.jobs.Entry.{Entry}
 use Rattle.mw_words.specs.declared.jobs.Job.{Job}

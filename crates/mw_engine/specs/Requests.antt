@@ -1,6 +1,4 @@
--- Defines which requests may be made of an engine.
--- Used by: the contracts of src/reads.rt, src/steps.rt and src/tenants.rt, mw_engine_tests. A change here changes what these
--- contracts say.
+-- Defines which requests may be made of an engine. Used by: src/reads.rt, src/steps.rt, src/tenants.rt, mw_engine_tests.
 use Rattle.std.specs.Prelude.{◌≡◌, ℕ}
 use Rattle.mw_words.specs.declared.jobs.Job.{Job}
 use Rattle.mw_words.specs.declared.jobs.Job.TheVariants.{Get}

@@ -1,5 +1,4 @@
--- Defines the effect of a call of the engine that makes one step of a request.
--- Used by: the contracts of src/serving.rt and src/steps.rt. A change here changes what these contracts say.
+-- Defines the effect of a call of the engine that makes one step of a request. Used by: src/serving.rt, src/steps.rt.
 use Rattle.std.specs.Prelude.{◌≡◌, ◌≢◌, Bool, true, false, Option, Some, None}
 use Rattle.mw_words.specs.declared.replies.Reply.{Reply}
 use Rattle.mw_actor.specs.ActorState.{ActorState}

@@ -1,6 +1,6 @@
--- States that a request which was answered was answered as its tenant's store alone (the sequential reference model) answers it.
--- It joins `Engine::serve` with the theorem (docs/THEOREM.md).
--- Used by: the law of src/laws.rt. A change here changes what this law says.
+-- States that an answered request was answered as its tenant's store alone (the sequential reference model) answers it. It
+-- joins `Engine::serve` with the theorem (docs/THEOREM.md).
+-- Used by: src/laws.rt.
 use Rattle.std.specs.Prelude.{ℕ, ◌++◌}
 use Rattle.mw_words.specs.declared.jobs.Job.{Job}
 use Rattle.mw_words.specs.declared.replies.Reply.{Reply}

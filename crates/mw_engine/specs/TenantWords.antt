@@ -1,6 +1,5 @@
 -- Defines the tenants' words as an engine keeps them: their lines, and the passes of their table.
--- Used by: the contracts of src/engine.rt, src/figures.rt and src/parts.rt, specs/Parts. A change here changes what these
--- contracts say.
+-- Used by: src/engine.rt, src/figures.rt, src/parts.rt.
 use Rattle.std.specs.Prelude.{ℕ, List, map}
 use Rattle.mw_core.specs.FromTable.{Pass}
 use Rattle.mw_engine.specs.declared.tenant_words.TenantWords.{TenantWords}

@@ -1,32 +1,28 @@
 //! Makes the calls of many requests on one file, one call at a time, so that they share syncs.
 //!
 //! A worker whose request comes to a call on its file tries the file's lock. If others wait for the file, or are
-//! expected there, it leaves the request in its box (`errand_boxes`), enters the file's room, and sleeps. Whoever gets
-//! the lock makes the call of those that wait that is best made next (`order`), its own or another worker's, and no
-//! more: the lock is kept for one call, and for no step and no point of the engine's `Hold`. Then that worker makes
-//! calls that are due and cheap, as a courtesy, wakes others, and goes on with its own request. So a seal's sync writes
-//! the records of all that wait, and a settle settles all sealed changes. This is flat combining (Hendler, Incze,
-//! Shavit, Tzafrir, 2010) of calls, without a combiner that others depend on.
+//! expected there, it leaves the request in its box (`errand_boxes`), enters the file's room, and sleeps. Whoever
+//! gets the lock makes the call that is best made next (`order`), its own or another worker's, and no more. Then it
+//! makes calls that are due and cheap, wakes others, and goes on with its own request. So a seal's sync writes the
+//! records of all that wait, and a settle settles all sealed changes. This is flat combining (Hendler, Incze, Shavit,
+//! Tzafrir, 2010) of calls, without a combiner that others depend on.
 //!
 //! # Why no worker sleeps for ever
 //!
 //! No sleep is longer than a fiftieth of a second, and then the worker tries the lock itself. Rings only make it
-//! faster. A worker that is stopped holds nothing that others need, but while it has the file's lock or the room's: its
-//! request waits, and theirs go on. Others wait for it once, for a fifth of a millisecond, if its change was prepared
-//! and its seal is expected.
+//! faster. A stopped worker holds nothing that others need, but while it has the file's lock or the room's. Others
+//! wait for it once, for a fifth of a millisecond, if its change was prepared and its seal is expected.
 //!
 //! # Who wakes whom
 //!
-//! A worker enters the room, and tries the lock before each sleep. If the lock is held, its holder looks into the room
-//! after the release. It makes calls there, or rings the bell of the one that came first, unless it comes back soon
-//! itself. Of the workers whose calls were made three are rung, and each that takes its request back rings the next: if
-//! all woke at once, the first reply would wait for a processor. A worker whose change another one has sealed sleeps on
+//! A worker enters the room, and tries the lock before each sleep. The lock's holder looks into the room after the
+//! release. It makes calls there, or rings the bell of the one that came first, unless it comes back soon itself.
+//! Three of the workers whose calls were made are rung, and each that takes its request back rings the next: if all
+//! woke at once, the first reply would wait for a processor. A worker whose change another one has sealed sleeps on
 //! until the settle of all.
 //!
-//! The calls themselves are in `file_lock/one_call`, which takes the lock.
-//!
-//! Used by: `one_call`, which sends requests here; `serving` calls `depart`, and `copies` `wake_next`. Its contracts use
-//! `specs/Errands`: change them together.
+//! Used by: `one_call`, which takes the lock and sends requests here; `serving` calls `depart`, and `copies`
+//! `wake_next`. Change it with `specs/Errands`.
 ghost use Rattle.std.specs.Prelude.{IfOk, IfErr};
 ghost use Rattle.mw_loan.specs.Loans.{IsReceiptFor, IsReceiptOf};
 ghost use Rattle.mw_engine.specs.declared.errand.Errand.{Errand as ErrandOf};

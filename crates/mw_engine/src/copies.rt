@@ -1,6 +1,6 @@
 //! Copies the bytes of a tenant's file while the engine serves: a backup of it at one moment.
 //!
-//! Whoever serves operators calls `copy_file`. Its contracts use `specs/Copies`: change them together.
+//! Whoever serves operators calls `copy_file`. Change it with `specs/Copies`.
 ghost use Rattle.std.specs.Prelude.{◌<◌, length, IfSome};
 ghost use Rattle.mw_engine.specs.Copies.{CopiesOne};
 

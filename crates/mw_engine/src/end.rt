@@ -1,7 +1,7 @@
 //! Ends an engine and gives the disks of its tenants' files.
 //!
-//! Only tests call `into_disks` and `into_disks_with`. `mwserve` drops its engine when it ends. Its contracts use
-//! `specs/Brand`, `specs/DisksAtEnd` and `specs/Passes`: change them together.
+//! Only tests call `into_disks` and `into_disks_with`. `mwserve` drops its engine when it ends. Change it with
+//! `specs/Brand`, `specs/DisksAtEnd` and `specs/Passes`.
 ghost use Rattle.std.specs.Prelude.{◌≡◌, IfOk};
 ghost use Rattle.mw_engine.specs.Brand.{identity_on};
 ghost use Rattle.mw_core.specs.FromTable.{IsSamePass};

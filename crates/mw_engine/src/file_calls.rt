@@ -1,7 +1,7 @@
 //! Makes a call on a tenant's file, under its lock.
 //!
-//! Used by: `one_call`, which takes the lock; `serving` and `combiner` ask for the call that is due. Its contracts use `specs/Brand`, `specs/FileCalls` and
-//! `specs/Passes`: change them together.
+//! Used by: `one_call`, which takes the lock; `serving` and `combiner`, to ask for the call that is due. Change it
+//! with `specs/Brand`, `specs/FileCalls` and `specs/Passes`.
 ghost use Rattle.std.specs.Prelude.{◌≡◌, ◌≢◌, ◌↔◌, true, is_some, None, IsTrue};
 ghost use Rattle.mw_world.specs.Definition.Calls.{called_at};
 ghost use Rattle.mw_core.specs.FromTable.{IsCarried, IsSamePass};

@@ -1,8 +1,8 @@
 //! The lock of a tenant's file, with a room for those that wait for it.
 //!
-//! Used by: `engine`; `start`, which makes it; `one_call`, which takes it; `combiner`; `copies`; `end`. The contracts of
-//! the file come from its lock. The room has none. Whoever releases the lock then looks into the room, or calls
-//! `wake_next`. Who takes the lock is private here, so that only `one_call` keeps it over anything.
+//! Used by: `engine`; `start`, which makes it; `one_call`, which takes it; `combiner`; `copies`; `end`. No contract
+//! is about the room. Whoever releases the lock looks into the room, or calls `wake_next`. Who takes the lock is
+//! private here.
 ghost use Rattle.std.specs.Prelude.{IfSome};
 ghost use Rattle.mw_engine.specs.Copies.{CopiesOne};
 

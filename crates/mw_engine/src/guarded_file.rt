@@ -1,7 +1,6 @@
 //! What the lock of a tenant's file guards: its book, and the file pass (the capability to call it).
 //!
-//! Used by: `file_lock`, `one_call`; `start`, which makes it; `file_calls`, `copies`, `end`. Its ghost fields use `specs/GuardedFile`:
-//! change them together.
+//! Used by: `file_lock`, `one_call`, `start`, `file_calls`, `copies`, `end`. Change it with `specs/GuardedFile`.
 ghost use Rattle.mw_engine.specs.GuardedFile.{KeepsFor};
 
 use crate::brand::EngineBrand;

@@ -1,25 +1,22 @@
 //! The engine: the tenants' words, which many workers change at once, without a lock around them.
 //!
 //! [`EngineParts`] are made of the tenants' lines and files, with a pass for each worker.
-//! [`EngineParts::into_engine`] makes them an [`Engine`]. Each worker serves one request at a time with its pass,
-//! by [`Engine::serve`]. The lock of a tenant's file is taken for one call on it at a time, and kept over nothing else.
-//! Whoever has it makes the call of a request that waits for the file, its own or another worker's (`combiner`). Only
-//! `file_lock` and its module `one_call` can take it.
-//! [`Engine::file`] makes one call of one request, and [`Engine::copy_file`] copies a file: both take its lock.
-//! Everything else takes none: one step of a request, a read, the figures, the meeting of two passes, a note of what a
-//! pass has seen. The tenants and their numbers of words stay the same for the engine's whole life. So a job that was
-//! judged by what [`Engine::find`] told is well formed whenever it is asked for. [`Engine::into_disks`] ends the engine.
+//! [`EngineParts::into_engine`] makes them an [`Engine`]. Each worker serves one request at a time with its pass, by
+//! [`Engine::serve`]. The lock of a tenant's file is taken for one call on it at a time: the call of the worker's own
+//! request, or of one that waits for the file (`combiner`). [`Engine::file`] makes one call of one request, and
+//! [`Engine::copy_file`] copies a file, under the lock too. Everything else takes none. The tenants and their numbers
+//! of words stay the same, so a job that was judged by what [`Engine::find`] told is well formed whenever it is asked
+//! for. [`Engine::into_disks`] ends the engine.
 //!
 //! Where to read:
 //! - `specs/Brand`: an engine's identity, which stays for its whole life.
 //! - `specs/Passes`: which passes are its own. `specs/Requests`: which requests they may bring.
 //! - `specs/Identity`: what a tenant's line is, and which jobs are for it.
 //! - `specs/LinesOfWorld`: how these lines agree with the world of the shared words.
-//! - `specs/History`: what is known of a request that was answered. `specs/StoreAlone`: that it is answered as its
-//!   tenant's store alone answers it. `specs/Replies`: which replies a job can have.
+//! - `specs/History`: what is known of a request that was answered. `specs/StoreAlone`: that its tenant's store alone
+//!   answers it so. `specs/Replies`: which replies a job can have.
 //! - `specs/Errands`: how a request comes back to its thread when others may have gone on with it.
-//! - `specs/DisksAtEnd`: which words are on the disks that are given at the end. `specs/Copies`: which words a copy of
-//!   a tenant's file has.
+//! - `specs/DisksAtEnd`, `specs/Copies`: which words are on the disks at the end, and in a copy.
 //!
 //! Used by: mw_opening, mw_service, mw_law_threads, mw_programs, mw_engine_tests.
 #![tactic(auto)]

@@ -1,7 +1,6 @@
 //! Lets two passes meet: afterwards each has seen the sealed changes that either had seen.
 //!
-//! Only tests use it. What a session of `mwserve` has seen goes from one pass to another by a note (`notes`). Its contracts use
-//! `specs/Passes`: change them together.
+//! Only tests use it: sessions of `mwserve` use `notes`. Change it with `specs/Passes`.
 ghost use Rattle.mw_core.specs.FromTable.{HaveMet, IsSamePass, LearnsMeeting, MetByNone};
 ghost use Rattle.mw_engine.specs.Passes.{IsPassOf};
 

@@ -1,7 +1,6 @@
-//! Makes an engine's parts of the tenants' lines and their opened files.
+//! Makes an engine's parts of the tenants' lines and their opened files: `EngineParts::new`.
 //!
-//! mw_opening makes the parts of `mwserve`'s engine by `EngineParts::new`, of the files that it has opened. The
-//! contracts use `specs/Lines`, `specs/OpenedFiles`, `specs/Passes` and others: change them together.
+//! mw_opening calls it for `mwserve`. Change it with `specs/Lines`, `specs/OpenedFiles` and `specs/Passes`.
 ghost use Rattle.std.specs.Prelude.{◌≡◌, ◌≤◌, All, length, map, IfOk};
 ghost use Rattle.mw_config.specs.Limits.{ArePermitted};
 ghost use Rattle.mw_core.specs.FromTable.{AreInOrder};

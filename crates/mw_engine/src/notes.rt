@@ -1,7 +1,6 @@
 //! Makes notes of what a pass has seen, and lets another pass learn from one.
 //!
-//! mw_service does so for a session that borrows a pass for each request. Its contracts use `specs/Notes` and
-//! `specs/Passes`: change them together.
+//! mw_service does so for a session that borrows passes. Change it with `specs/Notes` and `specs/Passes`.
 ghost use Rattle.std.specs.Prelude.{◌≡◌};
 ghost use Rattle.mw_core.specs.FromTable.{HasLearned, IsSamePass, note as said_by, said_in};
 ghost use Rattle.mw_engine.specs.Notes.{IsNoteOf};

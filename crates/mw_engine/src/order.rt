@@ -1,8 +1,8 @@
 //! In which order the calls that wait for a tenant's file are made.
 //!
-//! First come the calls that need no sync, then seals, because others ride along with a seal's sync and wait for it.
-//! Then comes a settle, which settles all sealed changes at once, and last a prepare whose record nobody has written
-//! yet. A settle and such a prepare wait while a worker is expected to come with its seal soon.
+//! First come the calls that need no sync, then seals, because others wait for a seal's sync. Then comes a settle,
+//! and last a prepare whose record nobody has written yet. These two wait while a worker is expected to come with its
+//! seal soon.
 //!
 //! Used by: `waiting_room`, `combiner`, `file_lock`, `one_call`. No contract speaks of the order.
 use crate::file_calls::DueCall;

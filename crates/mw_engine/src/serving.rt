@@ -1,7 +1,7 @@
 //! Serves a request to its reply.
 //!
-//! mw_service answers each request of a session by `Engine::serve`. docs/PROMISES.md cites its contract: a
-//! change of it, or of `specs/History` or `specs/Replies`, changes what clients are promised.
+//! mw_service answers each request of a session by `Engine::serve`. docs/PROMISES.md cites its contract. A change of
+//! it, of `specs/History` or `specs/Replies` changes what clients are promised.
 ghost use Rattle.std.specs.Prelude.{◌≡◌, true, false, None};
 ghost use Rattle.mw_actor.specs.Program.{replied};
 ghost use Rattle.mw_core.specs.FromTable.{IsCarried, IsOfSameWorker, View as Knowledge};

@@ -1,8 +1,7 @@
 //! Makes an engine of its parts.
 //!
-//! mw_programs calls `into_engine` once, when the files are open and before the first session. A new field of
-//! `Engine` or of `GuardedFile` gets its value here. Its contracts use `specs/GuardedFile` and `specs/Parts`:
-//! change them together.
+//! mw_programs calls `into_engine` once, before the first session. A new field of `Engine` or of `GuardedFile` gets
+//! its value here. Change it with `specs/GuardedFile` and `specs/Parts`.
 ghost use Rattle.std.specs.Prelude.{◌≡◌, length, IfOk};
 ghost use Rattle.mw_engine.specs.GuardedFile.{AreKept};
 ghost use Rattle.mw_engine.specs.Parts.{identity_of};

@@ -1,7 +1,6 @@
 //! The tenants' words, which no lock guards, and the tenants' lines.
 //!
-//! Used by: `parts`, `engine`, `new_parts`, `figures`. Its ghost fields use `specs/LinesOfWorld` and `specs/Lines`:
-//! change them together.
+//! Used by: `parts`, `engine`, `new_parts`, `figures`. Change it with `specs/LinesOfWorld` and `specs/Lines`.
 ghost use Rattle.std.specs.Prelude.{◌≡◌, map};
 ghost use Rattle.mw_core.specs.FromTable.{openings_of};
 ghost use Rattle.mw_engine.specs.LinesOfWorld.{Agrees, places_told};

@@ -1,7 +1,7 @@
 //! Finds a tenant by its name, and makes the requests that it may have.
 //!
-//! mw_service finds a session's tenant by `find`. `serving` and `reads` make their requests by `request`. Its
-//! contracts use `specs/Identity`, `specs/Passes` and `specs/Requests`: change them together.
+//! Used by: mw_service (`find`), `serving`, `reads` (`request`). Change it with `specs/Identity`, `specs/Passes` and
+//! `specs/Requests`.
 ghost use Rattle.std.specs.Prelude.{◌≡◌, length, IfSome, MatchOption};
 ghost use Rattle.mw_engine.specs.Identity.{HasNone, HasWords, IsFirst, IsFor};
 ghost use Rattle.mw_engine.specs.Passes.{IsPassOf};

@@ -1,9 +1,8 @@
-//! Who waits for a tenant's file: workers, one of whose calls whoever gets the file's lock makes next, and changes,
-//! whose records a call on the file writes along with its own bytes.
+//! Who waits for a tenant's file: workers, one of whose calls is made next, and changes, whose records a call on the
+//! file writes along with its own bytes.
 //!
-//! Used by: `file_lock`, `one_call`, `guarded_file`, `start`, `combiner`. No contract says who is there: a call on a book takes the
-//! changes that it can use, and leaves the rest to their own prepares. A worker that nobody serves tries the lock
-//! itself.
+//! Used by: `file_lock`, `one_call`, `guarded_file`, `start`, `combiner`. No contract says who is there. A worker
+//! that nobody serves tries the lock itself.
 use crate::brand::EngineBrand;
 use crate::errand_boxes::ErrandBox;
 use crate::hints::Hints;

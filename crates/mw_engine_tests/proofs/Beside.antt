@@ -1,5 +1,5 @@
 -- Files that fit their tenants' lines for an engine also fit them for the plain store (one job at a time).
--- Used by: the proof of new_plain. It may change freely as long as this crate checks.
+-- Used by: new_plain.
 use Rattle.std.specs.Prelude.{◌≡◌, ◌≤◌, ℕ, All, List, [], ◌∷◌, Option, Some, None, Vec}
 use Rattle.std.specs.declared.alloc.Global.{Global}
 use Rattle.std.proofs.Common.{sym, subst}

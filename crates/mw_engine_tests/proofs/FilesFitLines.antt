@@ -1,5 +1,4 @@
--- One file that fits its line, after files that fit the lines before, fits as the next.
--- Used by: the proof of all_opened. It may change freely as long as this crate checks.
+-- One file that fits its line, after files that fit the lines before, fits as the next. Used by: all_opened.
 use Rattle.std.proofs.Common.{◌≡◌, ℕ, zero, suc, ◌+◌, List, [], ◌∷◌, ◌++◌, Option, Some, Vec, take, slice_get, get_or, length, ◌<◌, ◌∙◌, ap, subst, sym, arith}
 use Rattle.std.specs.declared.alloc.Global.{Global}
 use Rattle.std.proofs.lemmas.Option.{none-some, same_Some, slice_get-get_or}

@@ -1,5 +1,4 @@
--- A file that was opened with its line's words and places fits that line.
--- Used by: the proof of opened. It may change freely as long as this crate checks.
+-- A file that was opened with its line's words and places fits that line. Used by: opened.
 use Rattle.std.specs.Prelude.{◌≡◌, ◌≤◌, ℕ, length, Vec, IsTrue}
 use Rattle.std.specs.declared.alloc.Global.{Global}
 use Rattle.std.proofs.Common.{sym, subst, ◌∙◌}

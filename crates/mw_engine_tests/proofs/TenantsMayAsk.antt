@@ -1,5 +1,4 @@
 -- A tenant may ask for a job that is well formed for its words.
--- Used by: the proofs of mw_engine_tests. It may change freely as long as this crate checks.
 use Rattle.std.specs.Prelude.{ℕ, List, IsTrue}
 use Rattle.std.proofs.Common.{sym, subst}
 use Rattle.mw_words.specs.declared.jobs.Job.{Job}

@@ -1,6 +1,6 @@
 //! Makes tenants' files on disks in memory, for tests of the engine, and looks at what is left on them.
 //!
-//! Used by: `cases`, `twins`. It may change freely as long as this crate checks and its tests pass.
+//! Used by: `cases`, `twins`.
 use crate::cases::{Case, Device, lines_of};
 use crate::latch::{Latch, LatchedDisk};
 use mw_config::TenantLine;

@@ -1,11 +1,8 @@
 //! Tests an engine in which one request is held while others are served. Nobody waits for a worker that is held:
 //! neither one that asks for the words that its change holds, nor one that asks another tenant.
 //!
-//! A million turns of a yielding loop would be long enough for the others to reply, if the processors were free. The
-//! latch waits thirty times as long, because a slow machine, or the host of a virtual one, may keep the processors from
-//! the test for up to a minute. If the latch gave up before the others replied, a right engine would fail the test.
-//!
-//! Nothing else uses it: it may change with what it tests.
+//! The latch waits for thirty million turns of a yielding loop. A slow machine, or the host of a virtual one, may
+//! keep the processors from the test for up to a minute; if the latch gave up before, a right engine would fail.
 use crate::cases::{Case, Device, Play, Row, come_out};
 use crate::latch::{Place, Stop};
 use crate::talks::Talk;

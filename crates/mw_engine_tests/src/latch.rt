@@ -1,6 +1,6 @@
 //! A latch, which stops a worker in the middle of its request until the test lets it go.
 //!
-//! Used by: most other modules. It may change freely as long as this crate checks and its tests pass.
+//! Used by: most other modules.
 ghost use Rattle.mw_disk.specs.Memory.{memory_facts, memory_made};
 
 use mw_disk::{Disk, DiskFault, MemDisk};

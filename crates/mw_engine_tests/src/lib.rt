@@ -1,8 +1,6 @@
-//! Tests the engine: whole sessions by one worker, requests of several threads at once, and requests that
-//! are held while others go on. The tests are apart from the crates that they test, so that those are
-//! proved once.
-//!
-//! A test is a table of cases (`cases`) or a sweep, and `cases` plays each.
+//! Tests the engine: whole sessions by one worker, requests of several threads at once, and requests that are held
+//! while others go on. A test is a table of cases or a sweep, and `cases` plays each. The tests are apart from the
+//! crates that they test, so that those are proved once.
 #![tactic(auto)]
 
 #[cfg(test)]

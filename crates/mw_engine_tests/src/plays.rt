@@ -1,6 +1,6 @@
 //! Plays what workers do: one after the other, or each in a thread of its own.
 //!
-//! Used by: `cases`. It may change freely as long as this crate checks and its tests pass.
+//! Used by: `cases`.
 use crate::cases::{Case, Play};
 use crate::latch::{ByLatch, Latch, LatchedDisk, Place, comes_to};
 use crate::races::{all_agree, counts_up};

@@ -1,6 +1,6 @@
 //! Lets several workers count up the same words at once.
 //!
-//! Used by: `cases`, `plays`, `race_tests`. It may change freely as long as this crate checks and its tests pass.
+//! Used by: `cases`, `plays`, `thread_tests`.
 use crate::workers::{Worker, change};
 use mw_engine::EngineBrand;
 use mw_words::{Job, MAX_VALUE, Reply};

@@ -1,6 +1,6 @@
 //! Lets eight workers change words at once, each its own and that of the next one, so that each meets two others.
 //!
-//! Used by: `plays`. It may change freely as long as this crate checks and its tests pass.
+//! Used by: `plays`.
 use crate::latch::{Latch, comes_to};
 use crate::workers::{Worker, change};
 use mw_engine::EngineBrand;

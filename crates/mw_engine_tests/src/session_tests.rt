@@ -1,6 +1,4 @@
 //! Tests sessions of an engine's workers, one after the other, and the tenants' files after them.
-//!
-//! Nothing else uses it: it may change with what it tests.
 use crate::cases::{Case, Device, Play, Row, come_out};
 use crate::latch::NOBODY;
 use crate::talks::{Cut, Talk, WHOLE};

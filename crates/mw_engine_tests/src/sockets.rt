@@ -1,6 +1,6 @@
 //! Serves clients over sockets: one while another one's request is held.
 //!
-//! Used by: `plays`. It may change freely as long as this crate checks and its tests pass.
+//! Used by: `plays`.
 ghost use Rattle.std.specs.Prelude.{◌<◌, vec_len};
 
 use crate::latch::{Latch, comes_to};

@@ -1,6 +1,6 @@
 //! Starts an engine for a test.
 //!
-//! Used by: `cases`, `twins`. It may change freely as long as this crate checks and its tests pass.
+//! Used by: `cases`, `twins`.
 ghost use Rattle.std.specs.Prelude.{All, IfSome};
 ghost use Rattle.mw_engine.specs.OpenedFiles.{FitLines, FitsLine};
 ghost use Rattle.mw_engine.specs.Passes.{IsNew};

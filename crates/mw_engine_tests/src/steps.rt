@@ -1,6 +1,6 @@
 //! Makes the steps of a request one by one, from outside the engine.
 //!
-//! Used by: `workers`. It may change freely as long as this crate checks and its tests pass.
+//! Used by: `workers`.
 ghost use Rattle.std.specs.Prelude.{◌≡◌, true};
 ghost use Rattle.mw_engine.specs.Identity.{IsFor};
 ghost use Rattle.mw_engine.specs.Passes.{IsPassOf};

@@ -1,7 +1,5 @@
-//! Tests sweeps: each device call fails, the device stops after each call, and each byte of a session is the last that is
-//! said or taken. Beside them: requests that the plain store must answer in the same way.
-//!
-//! Nothing else uses it: it may change with what it tests.
+//! Tests sweeps: each device call fails, the device stops after each call, and each byte of a session is the last
+//! that is said or taken. Also requests that the plain store must answer in the same way.
 use crate::cases::{Case, Device, Play, comes_out};
 use crate::latch::NOBODY;
 use crate::talks::{ALL, Cut, Talk, WHOLE};

@@ -1,7 +1,6 @@
 //! Says what peers of sessions say and must be told.
 //!
-//! Used by: `cases`, `plays`, `workers`, and tests. It may change freely as long as this crate checks and its tests
-//! pass.
+//! Used by: `cases`, `plays`, `workers`, tests.
 use mw_session::Ended;
 use mw_test_peers::{Failure, Page};
 

@@ -1,6 +1,4 @@
 //! Tests requests that several threads make of an engine at once, and clients that they serve over sockets.
-//!
-//! Nothing else uses it: it may change with what it tests.
 use crate::cases::{Case, Device, Play, Row, come_out};
 use crate::latch::{FIRST_SYNC, NOBODY, Place, Stop};
 use crate::races::Race;

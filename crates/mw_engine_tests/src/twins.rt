@@ -1,6 +1,6 @@
 //! Makes the same requests of an engine's workers and of the plain store, one after the other.
 //!
-//! Used by: `cases`, `plays`. It may change freely as long as this crate checks and its tests pass.
+//! Used by: `cases`, `plays`.
 use crate::cases::{Case, Play, lines_of};
 use crate::disks::new_disks;
 use crate::latch::{Latch, LatchedDisk};

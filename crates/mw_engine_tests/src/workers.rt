@@ -1,7 +1,6 @@
 //! A worker of an engine, with its pass, for tests.
 //!
-//! Used by: `cases`, `plays`, `races`, `rings`, `sockets`, `twins`. It may change freely as long as this crate
-//! checks and its tests pass.
+//! Used by: `cases`, `plays`, `races`, `rings`, `sockets`, `twins`.
 ghost use Rattle.std.specs.Prelude.{◌≡◌, true, All};
 ghost use Rattle.mw_engine.specs.Passes.{IsNew, IsPassOf};
 

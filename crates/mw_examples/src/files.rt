@@ -8,7 +8,7 @@
 //! - `new NAME` says that a file has two words, one place, and no change. `has NAME TEXT` says that a file has just
 //!   this text, `size NAME BYTES` how long a file is, and `absent NAME` that nothing has this name.
 //!
-//! Used by: `player`. It may change freely as long as this crate checks and its tests pass.
+//! Used by: `player`.
 use crate::stage::Stage;
 use crate::talks::play_talk;
 use std::fs::{self, File, OpenOptions};

@@ -1,7 +1,5 @@
 //! Runs whole examples of the programs on real files, and with clients over loopback: a story each, told as lines. Some of
 //! the calls that they make fail. Tests the files that `mwserve` opens over a file in memory.
-//!
-//! Nothing else uses it: it may change with what it tests.
 #![tactic(auto)]
 
 #[cfg(test)]

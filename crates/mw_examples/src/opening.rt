@@ -1,7 +1,5 @@
-//! Tests what opens a server's files, over files that fail when they are told to: that a watched file makes each call on the file
-//! below it once and gives its outcome, and what it keeps of it; and that a disk over a watched file syncs.
-//!
-//! Nothing else uses it: it may change with what it tests.
+//! Tests what opens a server's files, over files that fail when they are told to. A watched file makes each call on
+//! the file below it once, gives its outcome, and keeps what is known; its disk syncs.
 mod fake_file;
 
 use fake_file::{Call, DEVICE, FakeFile, INTERRUPTED};

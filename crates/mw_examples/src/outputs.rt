@@ -1,7 +1,7 @@
 //! What the programs write to in the tests: an output that keeps what it gets, fails if it is told to, and tells what it has
 //! seen.
 //!
-//! Used by: `player`, `stage`, `talks`. It may change freely as long as this crate checks and its tests pass.
+//! Used by: `player`, `stage`, `talks`.
 use std::fs::{File, TryLockError};
 use std::io::{self, ErrorKind, Write};
 use std::sync::atomic::{AtomicU16, Ordering};

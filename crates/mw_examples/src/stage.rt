@@ -1,6 +1,6 @@
 //! Where a story is played: its folder, what its words mean, and what it has come to.
 //!
-//! Used by: `files`, `player`, `servers`, `talks`. It may change freely as long as this crate checks and its tests pass.
+//! Used by: `files`, `player`, `talks`.
 use crate::outputs::Told;
 use mw_test_peers::Caller;
 use std::alloc::AllocError;

@@ -1,6 +1,4 @@
 //! Tests the programs by stories: each table of them, and servers with what is done beside them.
-//!
-//! Nothing else uses it: it may change with what it tests.
 use crate::faults::FAULTS;
 use crate::making::FILES;
 use crate::operating::LINES;

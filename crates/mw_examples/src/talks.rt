@@ -8,7 +8,7 @@
 //! - `fetch NAME` writes what the server's pages give as the file of the tenant t.
 //! - `wait LINES` waits until the server has told so many lines of notes.
 //!
-//! Used by: `files`. It may change freely as long as this crate checks and its tests pass.
+//! Used by: `files`.
 use crate::outputs::wait_for;
 use crate::stage::Stage;
 use mw_test_peers::{Caller, Place};

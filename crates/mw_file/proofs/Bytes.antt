@@ -1,5 +1,4 @@
 -- If only some bytes of a file's second layout change, the records and home words at all other bytes stay.
--- Used by: PlaceWrites, Ready, SettledFiles, RollForwardLaws, Safety, SharedSettles, NewPlaces. It may change freely as long as this crate checks.
 use Rattle.std.proofs.Common.{◌≡◌, ℕ, ◌+◌, ◌<◌, ◌≤◌, ◌==◌, ◌&&◌, nat_le, nat_lt, List, [], ◌∷◌, length, Some, true, slice_index, sym, ap, ◌∙◌, inl, inr, arith, subst}
 use Rattle.std.proofs.lemmas.Bool.{cases_eq, and_parts, or_cases, eqb-true, ltb-true}
 use Rattle.mw_words.specs.declared.limits.TheConstants.{MAX_ENTRIES}

@@ -1,5 +1,5 @@
 -- The device calls of a loop: what is to be made from here on makes, after what was made, all of them from the start.
--- Used by: the proofs of write_records and of the functions of roll.rt. It may change freely as long as this crate checks.
+-- Used by: write_records, roll.rt.
 use Rattle.std.proofs.Common.{◌≡◌, ℕ, ◌+◌, ◌<◌, ◌≤◌, Bool, true, false, List, [], ◌∷◌, ◌++◌, length, drop, get_or, map, sym, ap, ◌∙◌, subst, arith, not, Some, Result, Ok, Err, append_assoc}
 use Rattle.std.specs.List.{slice_get}
 use Rattle.std.specs.Result.{is_ok, is_err}

@@ -1,6 +1,5 @@
 -- If a call on a file answers no error, all its device calls went well, and what its `Ok` promises holds.
--- Used by: mw_book, mw_plain, mw_world_file, among others. Its statements may change with mw_book, mw_plain and mw_world_file;
--- its proofs may change freely.
+-- Used by: mw_plain, mw_world_file, mw_book, among others.
 use Rattle.std.specs.Prelude.{◌≡◌, ℕ, false, Result, Ok, Err, is_err, OnOk}
 use Rattle.mw_disk.specs.Facts.{Facts}
 use Rattle.mw_file.specs.declared.tenant_file.TenantFile.{TenantFile}

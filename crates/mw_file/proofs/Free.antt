@@ -1,6 +1,5 @@
 -- If all places of a file are free, one change may be prepared, sealed and settled alone, and then all places are free again.
--- Used by: Places, Ready, mw_book, among others. Its statements may change with mw_book, mw_plain and mw_world_file; its proofs
--- may change freely.
+-- Used by: mw_plain, mw_world_file, mw_book.
 use Rattle.std.proofs.Common.{◌≡◌, ℕ, zero, suc, ◌+◌, ◌-◌, ◌<◌, ◌≤◌, List, [], ◌∷◌, length, take, true, Some, IsSome, is_some, if◌then◌else◌, refl, sym, ap, ◌∙◌, inl, inr, arith}
 use Rattle.std.proofs.lemmas.Bool.{and_parts, and_from, cases_eq, cases_Bool}
 use Rattle.mw_file.specs.declared.place_states.PlaceState.{PlaceState}

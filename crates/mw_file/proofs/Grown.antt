@@ -1,5 +1,5 @@
 -- A write, a sync and a run of them keep a file's bytes below an offset, except at the offsets that they may change.
--- Used by: Migrated, Opened, the proof of lay. It may change freely as long as this crate checks.
+-- Used by: lay.
 use Rattle.std.proofs.Common.{◌≡◌, ℕ, ◌+◌, ◌<◌, ◌≤◌, Bool, List, refl, sym, ◌∙◌, inl, inr, arith, subst}
 use Rattle.std.proofs.lemmas.Bool.{cases_lt}
 use Rattle.mw_disk.specs.Facts.{Facts, MayLeave, IsSynced, Torn, Called, NothingNew, TearsAt}

@@ -1,6 +1,6 @@
--- A crash while a file gets its second layout leaves a file of the same words. After the migration the second layout is in use,
--- with these words.
--- Used by: Ready, the proofs of lay and migrate. It may change freely as long as this crate checks.
+-- A crash while a file gets its second layout leaves a file of the same words. After the migration the second layout is in
+-- use, with these words.
+-- Used by: lay, migrate.
 use Rattle.std.proofs.Common.{◌≡◌, ℕ, ◌+◌, ◌*◌, ◌-◌, ◌^◌, ◌<◌, ◌≤◌, ◌==◌, true, false, None, List, [], ◌∷◌, ◌++◌, length, take, drop, replicate, slice_index, get_or, refl, sym, ap, ◌∙◌, inl, inr, arith, subst}
 use Rattle.std.specs.List.{flat_map}
 use Rattle.std.proofs.lemmas.Bool.{cases_eq, cases_lt, eq-eqb, ne_eqb, le-leb, and_from}

@@ -1,6 +1,5 @@
 -- What is true of the places of a file after several changes were prepared together, perhaps beside a seal or a settle.
--- Used by: mw_book, RecordWrites, the proofs of set_prepared, prepare_at, seal, seal_with, settle_all and one_sealed_place_settles_alone.
--- Its statements may change with mw_book; its proofs may change freely.
+-- Used by: set_prepared, prepare_at, seal, seal_with, settle_all, one_sealed_place_settles_alone.
 use Rattle.std.proofs.Common.{◌≡◌, ◌≢◌, ◌⊎◌, ℕ, ◌<◌, ◌+◌, ◌==◌, List, [], ◌∷◌, ◌++◌, length, drop, slice_set, get_or, take, refl, sym, ap, ◌∙◌, inl, inr, arith, subst, Some, All, IsTrue}
 use Rattle.std.specs.List.{Contains, AllPairs}
 use Rattle.std.proofs.lemmas.Bool.{cases_eq, eq-eqb, ne_eqb, cond-true, cond-false}

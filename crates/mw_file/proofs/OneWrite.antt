@@ -1,6 +1,6 @@
 -- When a loop writes a record's values into the home words, each write sets the next value and touches only the record's home
 -- words.
--- Used by: the proof of write_values. It may change freely as long as this crate checks.
+-- Used by: write_values.
 use Rattle.std.proofs.Common.{◌≡◌, ℕ, ◌+◌, ◌-◌, ◌^◌, ◌<◌, ◌≤◌, ◌==◌, List, [], ◌∷◌, ◌++◌, length, take, drop, Some, Bool, true, if◌then◌else◌, refl, sym, ap, ◌∙◌, arith, subst, get_or}
 use Rattle.std.proofs.lemmas.List.{take_more, length-drop}
 use Rattle.std.proofs.lemmas.Option.{slice_get-get_or}

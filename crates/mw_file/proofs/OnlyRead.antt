@@ -1,6 +1,5 @@
 -- A file that was only read recovers to the words to which it recovered, and its first bytes are a file of these words.
--- Used by: the proof of TenantFile::copy_bytes, and mw_book. Its statements may change with mw_book; its proofs may change
--- freely.
+-- Used by: TenantFile::copy_bytes, mw_book.
 use Rattle.std.proofs.Common.{◌≡◌, ℕ, false, List, length, take, is_none, Option, Some, None, Result, Ok, Err, Vec, if◌then◌else◌, refl, sym, ◌∙◌, subst}
 use Rattle.std.specs.declared.alloc.Global.{Global}
 use Rattle.mw_disk.specs.Facts.{Facts}

@@ -1,6 +1,4 @@
--- A call on a file sets the state of its own place and of no other. A settle makes one device call for each value, and three
--- more.
--- Used by: NewPlaces, RecordWrites, SharedSettles, the proofs of prepare, seal_with, settle and cancel. It may change freely as long as this crate checks.
+-- A call on a file sets the state of its own place and of no other. Used by: prepare, seal_with, settle, cancel.
 use Rattle.std.proofs.Common.{◌≡◌, ◌≢◌, ℕ, ◌+◌, ◌<◌, List, [], ◌∷◌, length, Some, slice_get, slice_set, get_or, arith, sym, ap, ◌∙◌, inl, inr, subst}
 use Rattle.std.proofs.lemmas.Option.{slice_get_cases, get_or_from_slice_get, slice_get_within, slice_get_read, slice_get_past}
 use Rattle.std.proofs.lemmas.List.{get_or-set_same, get_or-set_other, length-set}

@@ -1,5 +1,5 @@
 -- Two runs of device calls, one after the other, make one run, which went well or ended at its first failed call.
--- Used by: the proofs of all functions that call the device. It may change freely as long as this crate checks.
+-- Used by: all functions that call the device.
 use Rattle.std.proofs.Common.{◌≡◌, ◌⊎◌, ℕ, ◌+◌, ◌<◌, ◌≤◌, min, inl, inr, arith, subst, sym, IsTrue, is_ok, Result, Ok, Err, IsErr, is_err, true, false}
 use Rattle.mw_disk.specs.Facts.{Facts, Called, Spares, most_counted}
 use Rattle.mw_disk.specs.Runs.{Good, Bad}

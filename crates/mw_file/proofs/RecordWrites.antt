@@ -1,6 +1,6 @@
--- While records are written into free places, whatever a crash leaves is a file of the same words. After them a seal or a roll
--- forward keeps its promises, and its sync covers the records.
--- Used by: the proofs of prepare_all, seal_with, settle_all, write_records, sync_records, sync_commit and sync_rolled. It may change freely as long as this crate checks.
+-- While records are written into free places, whatever a crash leaves is a file of the same words. After them a seal or a
+-- roll forward keeps its promises.
+-- Used by: prepare_all, seal_with, settle_all, write_records, sync_records, sync_commit, sync_rolled.
 use Rattle.std.proofs.Common.{◌≡◌, ℕ, ◌+◌, ◌<◌, ◌≤◌, Bool, true, List, [], ◌∷◌, ◌++◌, length, drop, take, get_or, IsTrue, All, refl, sym, ap, ◌∙◌, inl, arith, subst}
 use Rattle.std.proofs.lemmas.List.{drop_more, drop_all}
 use Rattle.std.proofs.lemmas.List.Elements.{All-more, All-take}

@@ -1,6 +1,5 @@
 -- The loops of a roll forward (redo) handle one place each turn: what held of the places so far also holds with the next one.
--- Used by: the proofs of write_homes, clear_commits and repair, among others. It may change freely as long as this crate
--- checks.
+-- Used by: write_homes, clear_commits, repair, among others.
 use Rattle.std.proofs.Common.{◌≡◌, ℕ, ◌+◌, ◌-◌, ◌<◌, List, length, Some, Option, Result, Ok, Err, OnOk, drop, slice_index, slice_get, get_or, sym, ap, ◌∙◌, inl, inr, arith, subst}
 use Rattle.std.proofs.lemmas.Bool.{cases_eq}
 use Rattle.std.proofs.lemmas.Option.{slice_get-get_or}

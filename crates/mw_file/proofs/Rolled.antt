@@ -1,5 +1,5 @@
 -- A crash during a roll forward (redo) leaves a file of the same words. After it the commit bytes are clear.
--- Used by: Safety, Recalled, the proofs of roll_forward and repair. It may change freely as long as this crate checks.
+-- Used by: roll_forward, repair.
 use Rattle.std.proofs.Common.{◌≡◌, ◌⊎◌, ℕ, ◌+◌, ◌<◌, ◌≤◌, List, length, drop, IsTrue, slice_index, sym, inl, inr, arith, subst}
 use Rattle.mw_disk.specs.Facts.{Facts, IsSynced, MayLeave}
 use Rattle.mw_disk.proofs.RunLaws.{touched_trans, same_but_trans, same_but_wider, fits_after, leaves, leaves_touched, leaves_more}

@@ -1,5 +1,5 @@
 -- A crash during a call on a file leaves what the call's contract says, because each of its writes does.
--- Used by: Ready, Recalled, RecordWrites, the proofs of all calls of TenantFile. It may change freely as long as this crate checks.
+-- Used by: all calls of TenantFile.
 use Rattle.std.proofs.Common.{◌≡◌, ◌≢◌, ℕ, ◌+◌, ◌<◌, ◌≤◌, List, [], ◌∷◌, length, drop, Some, None, true, false, IsTrue, slice_index, slice_get, refl, sym, ap, ◌∙◌, inl, inr, arith, subst}
 use Rattle.mw_words.specs.declared.jobs.Entry.{Entry}
 use Rattle.mw_words.specs.Change.{is_change}

@@ -1,7 +1,6 @@
--- After a settle of all sealed changes, the file's bytes match states in which their places are free, and a prepared place has
--- its record. If just one place is sealed, this makes the device calls of a settle of that place.
--- Used by: RecordWrites, the proofs of free_sealed and one_sealed_place_settles_alone. It may change freely as long as this crate
--- checks.
+-- After a settle of all sealed changes, the file's bytes match states in which their places are free, and a prepared place
+-- has its record.
+-- Used by: free_sealed, one_sealed_place_settles_alone, mw_book.
 use Rattle.std.proofs.Common.{◌≡◌, ◌≢◌, ◌⊎◌, ℕ, zero, suc, ◌+◌, ◌-◌, ◌<◌, ◌≤◌, List, [], ◌∷◌, ◌++◌, length, map, drop, Some, None, IsTrue, slice_index, slice_get, slice_set, get_or, sum_by, refl, sym, ap, ◌∙◌, inl, inr, arith, subst, append_assoc}
 use Rattle.std.proofs.lemmas.Bool.{cases_eq, cases_lt}
 use Rattle.std.proofs.lemmas.List.{append-nil}

@@ -1,5 +1,5 @@
 -- Defines how a copy of a file's bytes ends, and that it leaves the file as it was.
--- Used by: mw_book, mw_engine, the contracts of copies.rt. A change here changes what a backup of a served file is.
+-- Used by: mw_book, copies.rt. A change here changes what a backup of a served file is.
 use Rattle.std.specs.Prelude.{◌≡◌, ℕ, false, List, length, Vec, Result, Ok, Err, IsTrue}
 use Rattle.std.specs.declared.alloc.Global.{Global}
 use Rattle.mw_disk.specs.Facts.{Facts}

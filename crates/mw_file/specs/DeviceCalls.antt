@@ -1,6 +1,5 @@
 -- Defines which device calls prepare, seal and settle make, in order, and with which bytes, also with changes prepared ahead.
--- Used by: mw_world_file, the contracts of calls.rt, new_changes.rt and roll.rt. docs/FILES has the same under "How a change goes in": change them
--- together.
+-- Used by: mw_world_file, calls.rt, new_changes.rt, roll.rt. Change it with docs/FILES ("How a change goes in").
 use Rattle.std.specs.Prelude.{ℕ, ◌+◌, true, false, List, [], ◌∷◌, ◌++◌, map, flat_map, Result, Ok, Err, ◌≡◌, Bool}
 use Rattle.mw_words.specs.declared.jobs.Entry.{Entry}
 use Rattle.mw_disk.specs.DeviceCalls.{DeviceCall, WriteAt, Sync, Makes}

@@ -1,7 +1,6 @@
--- Defines the migration of a tenant's file to a new format: a file that has its first layout alone gets the second layout
--- after it.
--- Used by: OpeningEnds, mw_world_file, the contracts of migration.rt and opening.rt. It may change with migration.rt; what
--- callers are promised of an opening is in OpeningEnds.
+-- Defines the migration of a tenant's file: one that has its first layout alone gets the second layout after it.
+-- Used by: mw_world_file, migration.rt, opening.rt. It may change with migration.rt; OpeningEnds has what callers are
+-- promised.
 use Rattle.std.specs.Prelude.{◌≡◌, ◌⊎◌, ◌<◌, ◌≤◌, ℕ, ◌+◌, ◌*◌, false, None, List, [], ◌∷◌, length, drop, slice_index, IsTrue}
 use Rattle.mw_disk.specs.Facts.{Facts, MayLeave, IsSynced, patched}
 use Rattle.mw_disk.specs.Runs.{Later}

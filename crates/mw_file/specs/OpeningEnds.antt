@@ -1,7 +1,5 @@
 -- Defines how the opening of a file ends, and what each ending says of the file and the disk.
--- Used by: mw_plain, mw_world_file, mw_simulator, mw_opening, mw_engine_tests, the contracts of laws.rt and opening.rt. A
--- change here changes what an opening promises, and when it refuses a file. docs/PROMISES cites `IsOpened`, docs/THEOREM
--- `Opens`.
+-- Used by: many crates from mw_plain on, laws.rt, opening.rt. docs/PROMISES cites `IsOpened`, docs/THEOREM `Opens`.
 use Rattle.std.specs.Prelude.{◌≡◌, ◌≤◌, ◌<◌, ◌==◌, ℕ, zero, suc, ◌+◌, Bool, true, false, Some, None, is_none, List, [], length, take, min, if◌then◌else◌, Vec, Result, Ok, Err, IsTrue}
 use Rattle.std.specs.declared.alloc.Global.{Global}
 use Rattle.mw_disk.specs.Facts.{Facts, IsSynced}

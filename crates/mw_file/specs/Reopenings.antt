@@ -1,5 +1,5 @@
 -- Defines what an opening of a file finds after a crash.
--- Used by: mw_plain, the contracts of laws.rt. A change here changes the laws of a file that is opened again after a crash.
+-- Used by: mw_plain, mw_law_threads, laws.rt. A change here changes the laws of a file that is opened again after a crash.
 use Rattle.std.specs.Prelude.{◌⊎◌, ℕ, List, [], Vec, Result, Ok, Err}
 use Rattle.std.specs.declared.alloc.Global.{Global}
 use Rattle.mw_disk.specs.Facts.{Facts}

@@ -1,6 +1,5 @@
 -- Defines when the bytes of a file match the states of its places in memory.
--- Used by: RecoveryInvariant, NewChanges, mw_engine, the contracts of opening.rt. It ties memory and bytes: a new field of PlaceState needs
--- a clause here if the bytes have it.
+-- Used by: mw_engine, opening.rt. A new field of PlaceState needs a clause here if the bytes have it.
 use Rattle.std.specs.Prelude.{◌≡◌, ◌<◌, ℕ, true, Some, None, List, length, drop}
 use Rattle.mw_disk.specs.Facts.{Facts, MayLeave, IsSynced}
 use Rattle.mw_record.specs.declared.layout.Layout.TheVariants.{Second}

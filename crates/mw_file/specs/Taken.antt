@@ -1,6 +1,5 @@
 -- Defines how many places of a file have a change.
--- Used by: mw_plain, the contracts of laws.rt. A change here changes the law places_are_counted, by which mw_plain knows that
--- there is room.
+-- Used by: mw_plain, laws.rt. A change here changes the law places_are_counted, by which mw_plain knows that there is room.
 use Rattle.std.specs.Prelude.{ℕ, ◌+◌, List, [], ◌∷◌}
 use Rattle.mw_file.specs.declared.place_states.PlaceState.{PlaceState}
 use Rattle.mw_file.specs.declared.place_states.Stage.{Stage}

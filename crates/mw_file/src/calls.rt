@@ -1,12 +1,10 @@
 //! The calls that take changes through a file: prepare, seal, settle and cancel of one change, the settle of all, and
 //! the calls that also prepare changes ahead.
 //!
-//! What they say of crashes holds on a disk that keeps the model of [`mw_disk::Disk`].
-//!
-//! mw_book makes these calls for the server, mw_plain and mw_world_file for tests and simulated worlds.
-//! `specs/PlaceStates` says which calls may be made, `specs/File` and `specs/RecoveryInvariant` how they end.
-//! docs/FILES tells the order of the device calls: change them together. docs/PROMISES cites `prepare_at`, `seal` and
-//! `settle_all`.
+//! What they say of crashes holds on a disk that keeps the model of [`mw_disk::Disk`]. Used by: mw_book, mw_plain,
+//! mw_world_file. Change it with `specs/PlaceStates` (which calls may be made), `specs/File` and
+//! `specs/RecoveryInvariant` (how they end), and docs/FILES (the order of the device calls). docs/PROMISES cites
+//! `prepare_all`, `seal_with` and `settle_all`.
 ghost use Rattle.std.specs.Prelude.{◌≡◌, ◌+◌, ◌≤◌, ◌<◌, ◌^◌, Some, length, IsTrue, IsSome, IfSome, is_some, is_ok, ℕ, [], ◌∷◌, ◌++◌, IfOk, OnOk, OnErr};
 ghost use Rattle.mw_disk.specs.DeviceCalls.{WriteAt, Sync, Makes};
 ghost use Rattle.mw_disk.specs.Facts.{IsSynced, patched};

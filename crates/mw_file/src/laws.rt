@@ -1,8 +1,8 @@
 //! Laws of a file: what an opening finds after a crash, how places are counted, which device calls a settle of all
 //! changes makes for one, and at which call a device fails. Each is the contract of an empty function.
 //!
-//! Nothing that runs calls them. The law `a_restart_goes_on` of mw_plain calls `crash_of_a_file`, and proofs of
-//! mw_plain cite `proofs/TakenCounts`: a statement may change with mw_plain. docs/PROMISES cites the laws of a crash.
+//! The law `a_restart_goes_on` of mw_plain calls `crash_of_a_file`; proofs of mw_plain cite `proofs/TakenCounts`.
+//! docs/PROMISES cites the laws of a crash.
 ghost use Rattle.std.specs.Prelude.{◌≡◌, ◌⊎◌, ◌+◌, ◌<◌, ◌≤◌, ℕ, min, List, length, is_some, nat_lt, Vec, Result, IsTrue, []};
 ghost use Rattle.std.specs.declared.alloc.Global.{Global};
 ghost use Rattle.mw_disk.specs.Facts.{IsSynced, MayLeave, MayHaveLeft, most_counted};

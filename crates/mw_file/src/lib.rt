@@ -12,20 +12,17 @@
 //! - `open` reads a file and finishes the changes that were sealed and not settled.
 //! - `copy_bytes` gives the bytes of an open file, as a backup of it. It changes nothing.
 //!
-//! In the field's terms: the places are a redo log, and a home word is the data in place. `seal` commits,
-//! `settle` is a checkpoint of one change, `settle_all` of all, and `open` recovers by redoing what was
-//! committed.
+//! In the field's terms: the places are a redo log, and a home word is the data in place. `seal` commits, `settle` is
+//! a checkpoint, and `open` recovers by redoing what was committed.
 //!
-//! A new file has its first layout only. Its first opening adds a second layout after the first, with the
-//! file's words and twice as many places, and sets the switch byte. From then on all changes go into the
-//! second layout, and no call writes to the first.
+//! A new file has its first layout only. Its first opening adds a second layout, with the file's words and twice as
+//! many places, and sets the switch byte. From then on no call writes to the first.
 //!
-//! A crash may come at any moment of a call, of an opening, or of the opening after it. If the device keeps
-//! the model of [`mw_disk::Disk`], the crash leaves the words with every sealed change. A change that was
-//! being sealed is there wholly or not at all.
+//! A crash may come at any moment of a call, of an opening, or of the opening after it. If the device keeps the model
+//! of [`mw_disk::Disk`], the crash leaves the words with every sealed change. A change that was being sealed is there
+//! wholly or not at all.
 //!
-//! mw_book keeps such a file for the server's threads, and mw_opening opens it. mw_world_file simulates files by it,
-//! and tests use it over a disk in memory. A change of a contract reaches mw_book, mw_plain and mw_world_file.
+//! Used by: mw_book, mw_opening, mw_world_file, mw_plain. A change of a contract changes what these promise.
 #![tactic(auto)]
 
 mod calls;

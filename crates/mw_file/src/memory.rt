@@ -1,7 +1,6 @@
 //! Lets tests copy a file on a disk in memory, make its device calls fail, and crash it.
 //!
-//! Used by tests and by mw_world_file. The server has no such file. Its contracts may change with mw_world_file and
-//! the tests.
+//! Used by: tests, mw_world_file. Its contracts may change with them.
 ghost use Rattle.std.specs.Prelude.{◌≡◌, ℕ, List, length, IfOk, OnOk, OnErr};
 ghost use Rattle.mw_disk.specs.Crash.{Tears, unsynced};
 ghost use Rattle.mw_disk.specs.Facts.{MayLeave};

@@ -1,9 +1,9 @@
 //! The states in which an open file keeps its record places in memory: free, prepared or sealed, with the values to
 //! write.
 //!
-//! A `TenantFile` has one state for each place, which `opening.rt` makes; `calls.rt` and `new_changes.rt` change them, and
-//! `roll.rt` reads them. Contracts of mw_book and mw_plain read them. A new [`Stage`] needs a case in `specs/PlaceStates`,
-//! `specs/Stores`, `specs/RollForward` and `specs/Taken`.
+//! `opening.rt` makes them, `calls.rt` and `new_changes.rt` change them, `roll.rt` reads them, and contracts of
+//! mw_book and mw_plain. A new [`Stage`] needs a case in `specs/PlaceStates`, `specs/Stores`, `specs/RollForward` and
+//! `specs/Taken`.
 ghost use Rattle.std.specs.Prelude.{◌≡◌, IfOk};
 ghost use Rattle.mw_record.specs.Layout.{pairs_of};
 

@@ -1,8 +1,7 @@
 //! Reads the command line of a program that takes one file and may be given one switch, and tells what is wrong with
 //! it.
 //!
-//! Used by: mw_show, mw_player. docs/OPERATING and docs/SCHEDULES tell their users what it accepts: change them
-//! together.
+//! Used by: mw_show, mw_player. Change it with docs/OPERATING and docs/SCHEDULES.
 ghost use Rattle.std.specs.Prelude.{◌≡◌, IfOk};
 
 use clap::error::ErrorKind;

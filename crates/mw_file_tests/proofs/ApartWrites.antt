@@ -1,5 +1,4 @@
--- If a change passes the test against each place, it shares no address with a sealed one.
--- Used by: the proof of may_seal. It may change freely as long as this crate checks.
+-- If a change passes the test against each place, it shares no address with a sealed one. Used by: may_seal.
 use Rattle.std.proofs.Common.{◌≡◌, ◌==◌, ◌||◌, ℕ, zero, suc, Bool, true, false, not, List, [], ◌∷◌, refl, sym, ap, ◌∙◌, inl, inr}
 use Rattle.std.specs.List.{list_all}
 use Rattle.std.proofs.lemmas.Bool.{and_parts, eqb-true, cases_Bool}

@@ -1,5 +1,4 @@
--- If changes pass the tests, they may be prepared together.
--- Used by: the proof of may_prepare. It may change freely as long as this crate checks.
+-- If changes pass the tests, they may be prepared together. Used by: may_prepare.
 use Rattle.std.proofs.Common.{◌≡◌, ◌≢◌, ◌<◌, ◌≤◌, ◌+◌, ℕ, zero, suc, Bool, true, List, [], ◌∷◌, length, refl, arith, All, IsTrue, Option, Some, None, slice_get}
 use Rattle.std.specs.List.{AllPairs, list_all}
 use Rattle.std.proofs.lemmas.Bool.{and_parts, leb-true}

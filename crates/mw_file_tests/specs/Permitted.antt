@@ -1,5 +1,4 @@
--- Defines the tests by which these tests know that a call on a file may be made.
--- Used by: the contracts of src/calls.rt. A change here changes what these contracts say.
+-- Defines the tests by which these tests know that a call on a file may be made. Used by: src/calls.rt.
 use Rattle.std.specs.Prelude.{ℕ, ◌+◌, ◌&&◌, Bool, true, false, not, List, [], ◌∷◌, Option, Some, None, slice_get, nat_le}
 use Rattle.std.specs.List.{list_all}
 use Rattle.mw_words.specs.Change.{is_change}

@@ -1,6 +1,4 @@
 //! Tests the book of a tenant's file, few places of which are used, on a device that fails.
-//!
-//! Nothing else uses it: it may change with what it tests.
 use crate::calls::change;
 use crate::files::{disk_with, new_bytes};
 use crate::same::{MEMORY, same};

@@ -1,5 +1,5 @@
-//! Tests every byte that the calls on a file write: those of a change, of several changes that share syncs, of a cancel, of
-//! an opening that finishes open records, and of a migration. What must be written is laid out by hand, by the tables of docs/FILES.md.
+//! Tests every byte that the calls on a file, an opening and a migration write. It is laid out by hand, by the tables
+//! of docs/FILES.md.
 //!
 //! All files here have 300 words, and their bytes are at these offsets:
 //!
@@ -13,8 +13,6 @@
 //! | 5000 | its place 0, of 264 bytes |
 //! | 5264 | its place 1 |
 //! | 5528 | bytes that nobody looks at, up to 5568 |
-//!
-//! Nothing else uses it: it may change with what it tests.
 use crate::calls::{Ahead, Step, Writes, tell};
 use crate::files::{byte_at, disk_with, opened, opening, set_byte};
 use crate::same::{MEMORY, same};

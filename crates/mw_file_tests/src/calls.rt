@@ -1,6 +1,6 @@
 //! Makes the calls on a tenant's file that may be made, and no others.
 //!
-//! Used by: the tests of files. It may change freely as long as this crate checks and its tests pass.
+//! Used by: the tests of files.
 ghost use Rattle.std.specs.Prelude.{◌≡◌, ◌<◌, true, length, slice_get};
 ghost use Rattle.std.specs.List.{list_all};
 ghost use Rattle.mw_record.specs.Records.{holds};

@@ -1,7 +1,5 @@
 //! Tests how a file's bytes are read: the damage that is told of a file with changed bytes, and the records of
 //! others.
-//!
-//! Nothing else uses it: it may change with what it tests.
 use crate::files::{WRITTEN, disk_with, left_on, new_bytes, opening, set_bytes};
 use crate::opening_tests::migrated;
 use crate::same::{MEMORY, holds, same};

@@ -1,6 +1,4 @@
 //! Tests disks in memory, and disks over files.
-//!
-//! Nothing else uses it: it may change with what it tests.
 use crate::files::disk_with;
 use crate::same::{MEMORY, holds, same};
 use mw_disk::*;

@@ -1,6 +1,6 @@
 //! Tests the calls on a tenant's file: a crash in each, a copy of its disk, and memory that is refused.
 //!
-//! Used by: `opening_tests` and `power_tests`. It may change freely as long as this crate checks and its tests pass.
+//! Used by: `opening_tests`, `power_tests`.
 use crate::calls::{Step, Told, tell};
 use crate::files::{
     OFTEN, TORN, Trouble, WRITTEN, bring_trouble, disk_with, faults, leaves, left, new_bytes,

@@ -1,6 +1,6 @@
 //! Makes files on disks in memory that have trouble, and looks at what crashes leave of them.
 //!
-//! Used by: the tests of files. It may change freely as long as this crate checks and its tests pass.
+//! Used by: the tests of files.
 ghost use Rattle.std.specs.Prelude.{◌≤◌};
 ghost use Rattle.mw_words.specs.declared.limits.TheConstants.{MAX_WORDS};
 ghost use Rattle.mw_record.specs.declared.layout.TheConstants.{FIRST_PLACES};

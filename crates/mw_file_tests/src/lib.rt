@@ -1,7 +1,5 @@
-//! Tests the disks, the file's layout, a tenant's file and its book (the open file as threads keep it under a lock).
-//! The tests are apart from the crates that they test, so that those are proved once.
-//!
-//! No crate uses it. It may change freely as long as it checks and its tests pass.
+//! Tests the disks, the file's layout, a tenant's file and its book. The tests are apart from the crates that they
+//! test, so that those are proved once.
 #![tactic(auto)]
 
 #[cfg(test)]

@@ -1,7 +1,7 @@
 //! Tests the opening of a file: what it finds, and what crashes of it leave. It gives a file in its first layout
 //! the second one.
 //!
-//! Used by: `power_tests` and `damage_tests`. It may change freely as long as this crate checks and its tests pass.
+//! Used by: `power_tests`, `damage_tests`.
 use crate::file_tests::{answers, answers_to, troubled_file};
 use crate::files::{
     SET_FIRST, TORN, Trouble, WRITTEN, disk_leaves, disk_with, left, left_on, new_bytes, opened,

@@ -1,6 +1,6 @@
 //! Tests power failures: a file keeps any part of a write that wasn't synced, torn at any byte.
 //!
-//! Used by: `shared_tests`. It may change freely as long as this crate checks and its tests pass.
+//! Used by: `shared_tests`.
 use crate::file_tests::{answers, troubled_file};
 use crate::files::{
     ONES, Trouble, WRITTEN, ZEROS, byte_at, left, left_on, opening, opens_with, set_byte, troubled,

@@ -1,6 +1,4 @@
-//! Compares what a test found with what it wanted. Used by: the other modules of this crate.
-//!
-//! It may change freely as long as this crate checks and its tests pass.
+//! Compares what a test found with what it wanted. Used by: other modules of this crate.
 use std::fmt::Debug;
 use std::process::Abort;
 

@@ -1,9 +1,7 @@
-//! Tests calls that several changes of a file share, with one to four changes under way: the power fails in each, each
-//! device call fails, and the opening after a crash is cut off by another one.
+//! Tests calls that several changes of a file share, with one to four under way: the power fails in each, each device
+//! call fails, and a crash cuts off the opening after a crash.
 //!
 //! All files here have eight words and four places. The change in place p writes the words 2p and 2p + 1.
-//!
-//! Nothing else uses it: it may change with what it tests.
 use crate::calls::{Told, change, prepare_all, prepare_at, seal, seal_with, settle_all};
 use crate::files::{
     ONES, SET_FIRST, Trouble, WRITTEN, bring_trouble, disk_leaves, faults, leaves, left, new_file,

@@ -1,7 +1,7 @@
 //! Tests calls on a file one after the other: which place a change gets, changes that are prepared ahead, and copies of
 //! a file that is in use, also on a device that fails.
 //!
-//! Used by: `opening_tests` and `file_tests`. It may change freely as long as this crate checks and its tests pass.
+//! Used by: `opening_tests`, `file_tests`.
 use crate::calls::{Step, Told, tell};
 use crate::files::{ONES, disk_with, left, new_file, opening, opens_with};
 use crate::same::{MEMORY, holds, same};

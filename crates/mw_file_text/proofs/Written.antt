@@ -1,5 +1,4 @@
--- The pieces of the text, written one after the other, make the whole text.
--- Used by: the proofs of show_image, show_records and show_words. It may change freely as long as this crate checks.
+-- The pieces of the text, written one after the other, make the whole text. Used by: show_image, show_records, show_words.
 use Rattle.std.proofs.Common.{◌≡◌, ℕ, zero, suc, ◌+◌, ◌≤◌, List, [], ◌∷◌, ◌++◌, Option, Some, Result, Ok, Err, OnOk, length, take, slice_get, sym, ap, ◌∙◌, subst, arith, add-one, append-nil}
 use Rattle.std.proofs.lemmas.List.{take_all}
 use Rattle.std.proofs.lemmas.Grind.{flat_map-append}

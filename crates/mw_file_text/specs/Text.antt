@@ -1,6 +1,6 @@
 -- Defines the text that tells what the bytes of a file without damage say, with a line for each fact.
--- Used by: the contracts of src/lines.rt, mw_show, mw_server_pages. A change here changes what `mwshow` prints and the page of a
--- tenant's words: docs/OPERATING and docs/HTTP change with it.
+-- Used by: src/lines.rt, mw_server_pages, mw_show. Change it with docs/OPERATING (`mwshow`) and docs/HTTP (the page of a
+-- tenant's words).
 use Rattle.std.specs.Prelude.{ℕ, ◌==◌, ◌||◌, ◌++◌, not, if◌then◌else◌, Bool, List, [], codes, decimal}
 use Rattle.std.specs.List.{flat_map, range_with_len}
 use Rattle.mw_record.specs.declared.layout.Layout.{Layout}

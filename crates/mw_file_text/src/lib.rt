@@ -1,5 +1,4 @@
-//! Writes what the bytes of a tenant's file say, in lines, if the file has no damage: as `mwshow` prints it, and as the page of a
-//! tenant's words has it.
+//! Writes what the bytes of a file without damage say, in lines.
 //!
 //! There is a line for each fact, in this order. The first line is there only if the second layout is valid:
 //!

@@ -1,5 +1,5 @@
 -- The lines of some bytes are the texts between their line feeds. The first text that is too long ends them.
--- Used by: GivenLines, Ends, the proofs of texts_are_lines and lines_stay. It may change freely as long as this crate checks.
+-- Used by: texts_are_lines, lines_stay.
 use Rattle.std.specs.Prelude.{ℕ, ◌≡◌, ◌+◌, ◌<◌, ◌≤◌, ◌++◌, List, [], ◌∷◌, length, take, drop, map, flat_map}
 use Rattle.std.specs.List.{AllByRecursion, list_all, prefix_len}
 use Rattle.std.proofs.Common.{Bool, true, false, eqb, ltb, get_or, refl, sym, ap, subst, ◌∙◌, inl, inr, arith, append_assoc, append-nil, length-append, one-add}

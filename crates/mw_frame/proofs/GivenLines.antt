@@ -1,6 +1,6 @@
 -- However a client's bytes are cut into pieces, a feed gives the same lines: those given and those left are the lines of all
 -- bytes.
--- Used by: Ends, the proofs of however_cut and call_by_call. It may change freely as long as this crate checks.
+-- Used by: however_cut, call_by_call.
 use Rattle.std.specs.Prelude.{ℕ, ◌≡◌, ◌<◌, ◌≤◌, ◌++◌, List, [], ◌∷◌, length, take, Option, Some, None, slice_get}
 use Rattle.std.specs.Option.{option_to_list}
 use Rattle.std.proofs.Common.{refl, sym, ap, ◌∙◌, inl, inr, arith, append_assoc, append-nil}

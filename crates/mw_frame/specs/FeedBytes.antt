@@ -1,5 +1,5 @@
 -- Defines which stream of lines the bytes in a feed represent, and what the feed keeps true of them.
--- Used by: the contracts of feed.rt and lines.rt. Callers see Stream alone: it may change with feed.rt and lines.rt.
+-- Used by: feed.rt, lines.rt. Callers see Stream alone: it may change with feed.rt and lines.rt.
 use Rattle.std.specs.Prelude.{◌≡◌, ℕ, ◌≤◌, Bool, true, false, List, []}
 use Rattle.std.specs.List.{prefix_len}
 use Rattle.mw_frame.specs.Lines.{is_text_byte}

@@ -1,6 +1,5 @@
--- Claims that a feed gives the lines of all the bytes that it was fed, however they were cut into pieces. A feed is the buffer
--- that takes a connection's bytes in pieces and gives them back as lines.
--- Used by: the contracts of laws.rt. A change here changes these laws, which no other crate cites. docs/PROMISES cites one.
+-- Claims that a feed gives the lines of all the bytes that it was fed, however they were cut into pieces.
+-- Used by: laws.rt. docs/PROMISES cites one.
 use Rattle.std.specs.Prelude.{ℕ, ◌≡◌, ◌++◌, List, [], ◌∷◌, Option, slice_get}
 use Rattle.std.specs.Option.{option_to_list}
 use Rattle.mw_frame.specs.declared.lines.Line.{Line}

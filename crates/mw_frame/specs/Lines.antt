@@ -1,7 +1,5 @@
--- Defines the lines of some bytes: the text before each line feed. A text that is too long is given as such, and ends the
--- lines.
--- Used by: FeedBytes, Given, Stream, Texts, mw_session, the contracts of lines.rt. A change here changes what a line is, for
--- every session.
+-- Defines the lines of some bytes: the text before each line feed. A text that is too long ends the lines.
+-- Used by: mw_session, mw_connections, lines.rt. A change here changes what a line is, for every session.
 use Rattle.std.specs.Prelude.{ℕ, ◌==◌, ◌≤◌, ◌++◌, Bool, not, List, [], ◌∷◌, length, nat_lt, IsTrue, if◌then◌else◌}
 use Rattle.std.specs.List.{list_all}
 use Rattle.mw_words.specs.declared.limits.TheConstants.{MAX_LINE}

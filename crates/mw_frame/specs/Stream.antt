@@ -1,6 +1,5 @@
--- Defines what a caller knows of a feed: a stream of bytes, some of whose lines are left to be given. A feed is the buffer that
--- takes a connection's bytes in pieces and gives them back as lines.
--- Used by: FeedBytes, Given, mw_session, the contracts of feed.rt. A change here changes what a feed promises to a session.
+-- Defines what a caller knows of a feed: a stream of bytes, some of whose lines are left to be given.
+-- Used by: mw_session, feed.rt. A change here changes what a feed promises to a session.
 use Rattle.std.specs.Prelude.{ℕ, ◌+◌, ◌++◌, List, [], length, drop, Option, Some, None}
 use Rattle.mw_frame.specs.declared.lines.Line.{Line}
 use Rattle.mw_frame.specs.declared.lines.Line.TheVariants.{Text, TooLong}

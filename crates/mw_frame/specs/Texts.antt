@@ -1,6 +1,5 @@
 -- Claims that the lines of some bytes are the texts between their line feeds, up to a text that is too long.
--- Used by: the contracts of laws.rt. It says in another way what Lines says, and a law ties both. No other crate cites it. It
--- may change with these laws.
+-- Used by: laws.rt. It says in another way what Lines says. Change it with these laws.
 use Rattle.std.specs.Prelude.{ℕ, ◌≡◌, ◌<◌, ◌++◌, All, List, [], ◌∷◌, length, map, flat_map, ◌⊎◌, IsTrue}
 use Rattle.std.specs.List.{list_all}
 use Rattle.mw_words.specs.declared.limits.TheConstants.{MAX_LINE}

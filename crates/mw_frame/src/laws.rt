@@ -1,8 +1,7 @@
-//! Laws of a feed's lines, as contracts of empty functions: however the bytes are cut, the same lines are given. A feed
-//! is the buffer that takes a connection's bytes in pieces and gives them back as lines.
+//! Laws of a feed's lines (contracts of empty functions): however the bytes of a connection are cut into pieces, the
+//! same lines are given.
 //!
-//! No code calls them, and no other crate cites them: they say for readers what the contracts of a feed come to. They
-//! may change with `specs/Given` and `specs/Texts`. docs/PROMISES cites `however_cut`.
+//! No other crate cites them. Change them with `specs/Given` and `specs/Texts`. docs/PROMISES cites `however_cut`.
 ghost use Rattle.mw_frame.specs.Given.{GivenAtFirst, GivenThenFed, GivenThenMore, HoweverCut, NoneLeft, SameLines};
 ghost use Rattle.mw_frame.specs.Texts.{EachIsCut, LinesStay, TextsAreLines, TooLongIsLast};
 

@@ -1,8 +1,7 @@
 //! Cuts the bytes of a connection into lines, in whatever pieces they come.
 //!
-//! A connection gives its bytes in pieces that are cut anywhere: in the middle of a line, or with many lines in one
-//! piece. A [`Feed`] takes the pieces as they come and gives the lines. They are the lines of all the bytes that were
-//! fed, however these were cut.
+//! A [`Feed`] takes the pieces as they come and gives the lines of all the bytes that were fed, however these were
+//! cut.
 //!
 //! A line is the bytes before a line feed, at most [`MAX_LINE`](mw_words::MAX_LINE) of them. If one byte more comes
 //! without a line feed, [`Line::TooLong`] is given, once, and nothing follows it. Bytes after the last line feed stay
@@ -17,7 +16,7 @@
 //! feed.next();    // the text GET 1
 //! ```
 //!
-//! Sessions alone use it (mw_session). They see the stream of `specs/Stream`; how a feed keeps its bytes may change.
+//! Used by: mw_session, which sees the stream of `specs/Stream`; how a feed keeps its bytes may change.
 #![tactic(auto)]
 
 mod feed;

@@ -1,7 +1,7 @@
 //! Defines a line (a text, or one that is too long), finds where the first text of some bytes ends, and copies it.
 //!
-//! `feed.rt` calls [`text_end`] and [`first_text`], and sessions are given each [`Line`]. A new kind of line needs a case
-//! in `specs/Lines` and `specs/Stream`, and in mw_session.
+//! Used by: `feed.rt`, mw_session. A new kind of line needs a case in `specs/Lines` and `specs/Stream`, and in
+//! mw_session.
 ghost use Rattle.std.specs.Prelude.{◌≡◌, ◌≤◌, ◌<◌, length, Some, slice_get, take};
 ghost use Rattle.mw_frame.specs.Lines.{lines, text_line};
 ghost use Rattle.mw_frame.specs.FeedBytes.{text_len};

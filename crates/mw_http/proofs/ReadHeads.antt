@@ -1,5 +1,5 @@
 -- A fresh server of http1 reads a head: what it takes is the one head at the front of the bytes, and what it refuses is none.
--- Used by: the proof of hear. It may change freely as long as this crate checks.
+-- Used by: hear.
 use Rattle.std.proofs.Common.{◌≡◌, ℕ, ◌<◌, ◌≤◌, List, [], length, map, take, ap, subst, sym, ◌∙◌, arith, append-nil}
 use Rattle.httparse.specs.Grammar.{RequestHead}
 use Rattle.httparse.specs.Spans.{header_bytes, span_bytes}

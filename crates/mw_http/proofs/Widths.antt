@@ -1,5 +1,4 @@
--- Numbers are printed in so many digits: three for a status, twenty in 64 bits.
--- Used by: the proofs of heads.rt. It may change freely as long as this crate checks.
+-- Numbers are printed in so many digits: three for a status, twenty in 64 bits. Used by: heads.rt.
 use Rattle.std.proofs.Common.{ℕ, ◌≤◌, ◌<◌, ◌^◌, length, decimal, arith}
 use Rattle.std.proofs.lemmas.Fmt.{length-decimal-le}
 

@@ -1,6 +1,6 @@
--- Defines the value of a field Host: a host and maybe a port; and which hosts a server is called by. Source: RFC 9112, section 3.2, and RFC 3986, section 3.2.2.
--- Used by: specs/Hearing, the contracts of hosts.rt. A change of the second part changes which web pages can read the server's
--- pages, and docs/HTTP with it.
+-- Defines the value of a field Host: a host and maybe a port; and which hosts a server is called by. Source: RFC 9112,
+-- section 3.2, and RFC 3986, section 3.2.2.
+-- Used by: hosts.rt. The second part decides which web pages can read the server's pages: docs/HTTP changes with it.
 use Rattle.std.specs.Prelude.{ℕ, ◌+◌, ◌==◌, Bool, not, ◌&&◌, ◌||◌, List, length, take, drop, nat_lt, slice_index, codes, if◌then◌else◌}
 use Rattle.std.specs.List.{list_all, list_any, prefix_len}
 use Rattle.std.specs.Char.{is_ascii_alphanumeric, is_ascii_digit, is_ascii_hexdigit}

@@ -1,5 +1,5 @@
 -- Defines the statuses of answers: their numbers and their words. Source: RFC 9110, section 15, and RFC 6585 for 431.
--- Used by: specs/Hearing, specs/Heads, the contracts of status.rt.
+-- Used by: status.rt.
 use Rattle.std.specs.Prelude.{ℕ, List, codes}
 use Rattle.mw_http.specs.declared.status.Status.{Status}
 use Rattle.mw_http.specs.declared.status.Status.TheVariants.{Ok, BadRequest, NotFound, MethodNotAllowed, RequestTimeout, UriTooLong, Misdirected, FieldsTooLarge, InternalError, NotImplemented, Unavailable}

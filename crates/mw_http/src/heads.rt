@@ -1,4 +1,6 @@
 //! Writes the head of an answer: its status, what its content is and how long, and that the connection is closed.
+//!
+//! Used by: mw_server_pages. Change it with `specs/Heads`.
 ghost use Rattle.std.specs.Prelude.{◌≡◌, ◌+◌, ◌≤◌, ◌++◌, length, codes, decimal};
 ghost use Rattle.mw_http.specs.Heads as spec;
 

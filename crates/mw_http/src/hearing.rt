@@ -1,4 +1,6 @@
 //! Hears a request: reads its head, and tells what it asks for or why it is refused.
+//!
+//! Used by: mw_server_pages. Change it with `specs/Hearing`.
 ghost use Rattle.std.specs.Prelude.{◌≡◌, ◌≤◌, ℕ, List, length, map, Some, All, codes};
 ghost use Rattle.httparse.specs.Grammar.{RequestHead};
 ghost use Rattle.httparse.specs.Spans.{IsHeaderWithin, IsWithin, header_bytes, span_bytes};

@@ -1,4 +1,6 @@
 //! The statuses of answers (RFC 9110, section 15).
+//!
+//! Used by: `heads`, `hearing`, mw_server_pages. Change it with `specs/Statuses`.
 ghost use Rattle.std.specs.Prelude.{◌≡◌, ◌≤◌, length};
 ghost use Rattle.mw_http.specs.Statuses as spec;
 

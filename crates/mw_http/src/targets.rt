@@ -1,4 +1,6 @@
 //! What a request's method and target ask for.
+//!
+//! Used by: `hearing`, mw_server_pages. Change it with `specs/Targets`.
 ghost use Rattle.std.specs.Prelude.{◌≡◌, ◌≤◌, length, IsTrue};
 ghost use Rattle.std.specs.Option.{option_map};
 ghost use Rattle.mw_http.specs.Targets as spec;

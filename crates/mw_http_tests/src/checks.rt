@@ -1,6 +1,4 @@
-//! Checks what a test found. Used by: the other modules of this crate.
-//!
-//! It may change freely as long as this crate checks and its tests pass.
+//! Checks what a test found. Used by: other modules of this crate.
 use std::process::Abort;
 
 /// What a test says if memory is refused.

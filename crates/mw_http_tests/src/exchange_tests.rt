@@ -1,6 +1,4 @@
 //! Tests exchanges with HTTP clients: what a client says and is told, also cut into pieces, and with a peer that fails.
-//!
-//! Nothing else uses it: it may change with what it tests.
 use crate::checks::{MEMORY, holds};
 use crate::http_peers::CountedPages;
 use mw_server_pages::{Exchanged, exchange};

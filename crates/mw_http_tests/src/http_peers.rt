@@ -1,6 +1,4 @@
 //! Pages and peers for tests of exchanges.
-//!
-//! Nothing else uses it: it may change with what it tests.
 
 use mw_http::{ContentType, Route, Status};
 use mw_server_pages::{Date, FileCopies, NoCopy, Page, Pages};

@@ -1,6 +1,5 @@
-//! Tests figures, and how HTTP clients are served: what is heard of them, the head of an answer, exchanges, and the pages
-//! of a server. Examples come from outside, and each public function is called once. The tests are apart from the crates
-//! that they test, so that those are proved once.
+//! Tests figures, and how HTTP clients are served, by examples from outside; each public function is called once. The
+//! tests are apart from the crates that they test, so that those are proved once.
 #![tactic(auto)]
 
 #[cfg(test)]

@@ -1,6 +1,4 @@
 //! Tests what is heard from an HTTP client, and the head of an answer.
-//!
-//! Nothing else uses it: it may change with what it tests.
 use crate::checks::{MEMORY, holds};
 use mw_http::{Content, ContentType, Heard, Request, Route, Status, answer_head, hear};
 use std::process::Abort;

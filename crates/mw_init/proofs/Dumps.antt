@@ -1,5 +1,4 @@
--- The lines of a dump, read one after the other, make the dump.
--- Used by: the proofs of after_entry, after_entries, read_words and read_dump. It may change freely as long as this crate checks.
+-- The lines of a dump, read one after the other, make the dump. Used by: after_entry, after_entries, read_words, read_dump.
 use Rattle.std.proofs.Common.{◌≡◌, ℕ, ◌+◌, ◌==◌, Bool, true, List, [], ◌∷◌, ◌++◌, length, Bor, Option, None, Some, MatchOption, ◌≢◌, refl, sym, ap, ◌∙◌, subst, arith, append_assoc, append-nil, eqb-true, codes, decimal}
 use Rattle.std.specs.Prelude.{IfSome}
 use Rattle.std.specs.List.{flat_map}

@@ -1,6 +1,5 @@
 -- A request that arrives, a reply that is handed out, and a start keep a world sound (`IsSound`, this crate's invariant).
--- Used by: the laws comes_keep_sound, hands_keep_sound and starts_are_sound, RunsAreSound, ShortRuns, Places/PlaceInvariant. It
--- may change freely as long as this crate checks.
+-- Used by: comes_keep_sound, hands_keep_sound, starts_are_sound.
 use Rattle.std.specs.Prelude.{ℕ, ◌≡◌, ◌≢◌, ◌<◌, ◌≤◌, ◌⊎◌, ◌&&◌, ◌==◌, Bool, true, false, is_none, nat_lt, List, [], length, slice_index_or, All, Option, Some, None}
 use Rattle.std.proofs.Common.{refl, sym, ap, subst, ◌∙◌, inl, inr, arith}
 use Rattle.std.proofs.lemmas.Bool.Decides.{nat_tests}

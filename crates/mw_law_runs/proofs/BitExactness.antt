@@ -1,7 +1,6 @@
--- In every run, steps on words of 64 bits do what the definition says of values. What a request's next step expects and leaves
--- is in range.
--- Used by: the law runs_are_bit_exact, mw_rule, mw_table. Its statements may change with mw_rule and mw_table; its proofs may
--- change freely.
+-- In every run, steps on words of 64 bits do what the definition says of values. What a request's next step expects and
+-- leaves is in range.
+-- Used by: runs_are_bit_exact, mw_rule.
 use Rattle.std.specs.Prelude.{ℕ, ◌≡◌, ◌≤◌, ◌<◌, ◌+◌, ◌-◌, ◌*◌, ◌%◌, ◌^◌, Bool, true, false, All, Some}
 use Rattle.std.proofs.Common.{refl, sym, ap, subst, ◌∙◌, arith}
 use Rattle.mw_words.specs.declared.doors.Door.{Door}

@@ -1,5 +1,4 @@
--- The value that a request's next exchange expects is in range.
--- Used by: StepEnds, BitExactness, mw_law_store. Its statements may change with mw_law_store; its proofs may change freely.
+-- The value that a request's next exchange expects is in range. Used by: mw_law_store.
 use Rattle.std.specs.Prelude.{ℕ, ◌≡◌, ◌<◌, ◌≤◌, true, false, Bool, cond, All, List, length}
 use Rattle.std.proofs.Common.{arith}
 use Rattle.mw_words.specs.declared.jobs.Entry.{Entry}

@@ -1,6 +1,5 @@
 -- A call on a tenant's file keeps a world sound (`IsSound`, this crate's invariant), however the call ends.
--- Used by: the law calls_keep_sound, RunsAreSound, Pinned, Places/PlaceInvariant, ShortRuns, mw_law_store. Its statements may
--- change with mw_law_store; its proofs may change freely.
+-- Used by: calls_keep_sound, mw_law_store.
 use Rattle.std.specs.Prelude.{ℕ, ◌≡◌, Bool, true, false, if◌then◌else◌, ◌++◌, [], ◌∷◌, Option, Some, None}
 use Rattle.std.proofs.Common.{refl, sym, ap, subst, ◌∙◌}
 use Rattle.mw_words.specs.declared.statuses.Status.{Status}

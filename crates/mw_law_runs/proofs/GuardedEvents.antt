@@ -1,7 +1,5 @@
--- Small lemmas: if a test lets an event happen, all parts of the test are true, and the next world is the one that the
--- definition gives then.
--- Used by: RunsAreSound, FileCalls, ArrivalsAndStarts, Files, Places/PlaceInvariant, other pages, mw_law_store, mw_rule. Its
--- statements may change with mw_law_store and mw_rule; its proofs may change freely.
+-- If a test lets an event happen, all parts of the test are true, and the next world is the one that the definition gives.
+-- Used by: mw_law_store, mw_rule, mw_law_threads.
 use Rattle.std.specs.Prelude.{◌≡◌, ◌&&◌, Bool, true, false, if◌then◌else◌, Option, Some, None}
 use Rattle.std.proofs.Common.{refl, subst, arith}
 use Rattle.mw_world.specs.Definition.State.{State}

@@ -1,5 +1,4 @@
--- The proofs about what a request knows at its point (program counter): facts about changes and words that others' steps leave
--- true. This page only lists its modules.
+-- The proofs about what a request knows at its point. This page only lists its modules.
 pub mod Calls
 pub mod Updates
 pub mod LiveSlotsOverSteps

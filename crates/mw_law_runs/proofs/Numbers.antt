@@ -1,6 +1,5 @@
 -- Two lemmas of arithmetic: two numbers are equal or not, and a number is 0 or at least 1.
--- Used by: Others, ShortRuns, ArrivalsAndStarts, Places/PlaceInvariant, Statuses, mw_law_store, mw_rule. Its statements may
--- change with mw_law_store and mw_rule; its proofs may change freely.
+-- Used by: mw_law_store, mw_rule, mw_law_threads.
 use Rattle.std.specs.Prelude.{ℕ, zero, suc, ◌≡◌, ◌≢◌, ◌≤◌, ◌⊎◌, ◌==◌, Bool, true, false}
 use Rattle.std.proofs.Common.{refl, inl, inr, arith}
 use Rattle.std.proofs.lemmas.Bool.Decides.{nat_tests}

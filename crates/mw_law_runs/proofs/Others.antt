@@ -1,6 +1,5 @@
 -- A step of one request leaves each other request sound (`IsSoundRequest`): in range, its slots live, the facts of its point
 -- true.
--- Used by: StepsKeepInvariant, FileCalls. It may change freely as long as this crate checks.
 use Rattle.std.specs.Prelude.{ℕ, ◌≡◌, ◌≢◌, ◌≤◌, ◌+◌, ◌⊎◌, Some}
 use Rattle.std.proofs.Common.{sym, ap, subst, ◌∙◌, inl, inr, arith}
 use Rattle.mw_actor.specs.ActorState.{ActorState}

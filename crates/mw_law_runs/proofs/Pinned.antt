@@ -1,6 +1,6 @@
--- While somebody holds a pin of a slot, no event but a start changes the number of the slot's gate. The holder is a request, or
--- a change that was given up.
--- Used by: pinned_gates_keep_their_numbers. It may change freely as long as this crate checks.
+-- While somebody holds a pin of a slot, no event but a start changes the number of the slot's gate. The holder is a request,
+-- or a change that was given up.
+-- Used by: pinned_gates_keep_their_numbers.
 use Rattle.std.specs.Prelude.{ℕ, ◌≡◌, ◌<◌, ◌≤◌, ◌⊎◌, ◌+◌, ◌==◌, ◌&&◌, Bool, true, false, if◌then◌else◌, List, Option, Some, None}
 use Rattle.std.proofs.Common.{refl, sym, ap, subst, ◌∙◌, inl, inr, arith}
 use Rattle.std.proofs.lemmas.Bool.Decides.{nat_tests}

@@ -1,6 +1,5 @@
 -- A request keeps its values in range, and stays at points that fit its job, because each step finds values in range.
--- Used by: StepsKeepInvariant, FileCalls, mw_law_store. Its statements may change with mw_law_store; its proofs may change
--- freely.
+-- Used by: mw_law_store.
 use Rattle.std.specs.Prelude.{ℕ, List}
 use Rattle.std.proofs.Common.{sym, subst, inl, inr}
 use Rattle.mw_words.specs.declared.jobs.Entry.{Entry}

@@ -1,7 +1,6 @@
--- In a sound world (`IsSound`) each request belongs to its worker and is informed (`IsInformed`), and the counts have what they
--- rest on (`CountsRestOn`).
--- Used by: the law counts_have_rest, StepsKeepInvariant, ArrivalsAndStarts, BitExactness, Callers, FileCalls, other pages,
--- mw_law_store. Its statements may change with mw_law_store; its proofs may change freely.
+-- In a sound world (`IsSound`) each request belongs to its worker and is informed (`IsInformed`), and the counts have what
+-- they rest on.
+-- Used by: counts_have_rest, mw_law_store.
 use Rattle.std.specs.Prelude.{ℕ, ◌≡◌}
 use Rattle.std.proofs.Common.{refl, sym, ap, subst, ◌∙◌, arith}
 use Rattle.std.proofs.lemmas.Bool.Decides.{nat_tests}

@@ -1,8 +1,5 @@
--- After every run the world is sound (`IsSound`): the invariants of shared words and counts hold, and each request knows its
--- point's facts.
--- Used by: the laws runs_are_sound and events_keep_sound, BitExactness, Pinned, Places/PlaceInvariant, ShortRuns, Statuses,
--- mw_law_store, mw_rule, mw_table, mw_core, mw_engine. Its statements may change with mw_law_store, mw_rule, mw_table, mw_core
--- and mw_engine; its proofs may change freely.
+-- After every run the world is sound (`IsSound`).
+-- Used by: runs_are_sound, events_keep_sound, mw_law_store, mw_rule, mw_law_threads.
 use Rattle.std.specs.Prelude.{ℕ, ◌≡◌, true, List, [], ◌∷◌, Option, Some, None}
 use Rattle.std.specs.Option.{option_and_then}
 use Rattle.std.proofs.Common.{refl, sym, subst}

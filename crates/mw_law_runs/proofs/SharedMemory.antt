@@ -1,5 +1,4 @@
 -- The facts that a request knows at its point hold in every world with the same shared words, history and attempt numbers.
--- Used by: StepsKeepInvariant, FileCalls, ArrivalsAndStarts. It may change freely as long as this crate checks.
 use Rattle.std.specs.Prelude.{[]}
 use Rattle.std.proofs.Common.{ap}
 use Rattle.mw_actor.specs.ActorState.{ActorState}

@@ -1,6 +1,6 @@
 -- A run with fewer events than there are numbers uses up no number. Each event raises a slot's or an attempt's number by at
 -- most one.
--- Used by: short_runs_have_numbers. It may change freely as long as this crate checks.
+-- Used by: short_runs_have_numbers.
 use Rattle.std.specs.Prelude.{ℕ, ◌≡◌, ◌<◌, ◌≤◌, ◌⊎◌, ◌+◌, ◌==◌, ◌&&◌, ◌++◌, Bool, true, false, not, cond, is_some, List, [], ◌∷◌, length, if◌then◌else◌, Option, Some, None}
 use Rattle.std.specs.Option.{option_and_then}
 use Rattle.std.proofs.Common.{refl, sym, ap, subst, ◌∙◌, inl, inr, arith}

@@ -1,6 +1,6 @@
--- A request is at a call on its file, and its change has the status from which the call starts. Then no other worker changes
--- that status, except by a call on the same file.
--- Used by: callers_status_stays, mw_rule. Its statements may change with mw_rule; its proofs may change freely.
+-- While a request is at a call on its file, no other worker changes the status from which the call starts, except by a call
+-- on the same file.
+-- Used by: callers_status_stays, mw_rule.
 use Rattle.std.specs.Prelude.{ℕ, ◌≡◌, ◌≢◌, ◌⊎◌, ◌==◌, ◌++◌, Bool, true, false, not, cond, ◌&&◌, is_some, if◌then◌else◌, [], ◌∷◌, Option, Some, None}
 use Rattle.std.proofs.Common.{refl, sym, ap, subst, ◌∙◌, inl, inr, arith}
 use Rattle.std.proofs.lemmas.Bool.Decides.{nat_tests}

@@ -1,6 +1,6 @@
--- How a request's step ends: what the request learns, and which moves (elementary changes of the shared words) the step makes.
--- Used by: StepsKeepInvariant, RunsAreSound, Places/PlaceInvariant, RequestRanges, mw_law_store. Its statements may change with
--- mw_law_store; its proofs may change freely.
+-- How a request's step ends: what the request learns, and which moves (elementary changes of the shared words) the step
+-- makes.
+-- Used by: mw_law_store.
 use Rattle.std.specs.Prelude.{ℕ, ◌≡◌, ◌⊎◌, ◌&&◌, ◌==◌, not, Bool, true, false, cond, is_some, if◌then◌else◌, List, Some, None}
 use Rattle.std.proofs.Common.{refl, sym, ap, subst, inl, inr, arith}
 use Rattle.std.proofs.lemmas.Bool.Decides.{nat_tests}

@@ -1,6 +1,5 @@
 -- A step of a request that is no call on a file keeps a world sound (`IsSound`, this crate's invariant).
--- Used by: the law turns_keep_sound, RunsAreSound, Pinned, Places/PlaceInvariant, ShortRuns, mw_law_store. Its statements may
--- change with mw_law_store; its proofs may change freely.
+-- Used by: turns_keep_sound, mw_law_store.
 use Rattle.std.specs.Prelude.{ℕ, ◌≡◌, ◌&&◌, not, Bool, true, false, is_some, if◌then◌else◌, Option, Some, None}
 use Rattle.std.proofs.Common.{refl, sym, ap, subst, ◌∙◌, inl, inr}
 use Rattle.mw_actor.specs.ActorState.{ActorState}

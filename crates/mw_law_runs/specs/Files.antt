@@ -1,5 +1,5 @@
 -- Defines when the values in the tenants' files are in range: words, and the entries of changes in the files.
--- Used by: specs/Laws, mw_law_store. Contracts use it through these: a change here changes what they say.
+-- Used by: mw_law_store.
 use Rattle.std.specs.Prelude.{ℕ, ◌≡◌, true, List}
 use Rattle.std.specs.List.{list_all}
 use Rattle.mw_words.specs.declared.jobs.Entry.{Entry}

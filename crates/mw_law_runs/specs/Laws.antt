@@ -1,6 +1,5 @@
--- The statements that this crate proves of runs: every event keeps a world sound (`IsSound`, this crate's invariant), so every
--- run leads to one.
--- Used by: the laws of src/laws.rt. A change here changes what these laws say.
+-- The statements that this crate proves of runs: every event keeps a world sound (`IsSound`), so every run leads to one.
+-- Used by: src/laws.rt.
 use Rattle.std.specs.Prelude.{ℕ, ◌≡◌, ◌≤◌, ◌⊎◌, true, List, Some}
 use Rattle.mw_actor.specs.ActorState.{ActorState}
 use Rattle.mw_words.specs.declared.jobs.Job.{Job}

@@ -1,5 +1,5 @@
 -- The statements that this crate proves of releasers, the requests that will release a held word or clean a written one.
--- Used by: the laws of src/laws.rt. A change here changes what these laws say.
+-- Used by: src/laws.rt.
 use Rattle.std.specs.Prelude.{ℕ, ◌≡◌, ◌⊎◌, Some}
 use Rattle.mw_look.specs.declared.observations.Observation.{Observation}
 use Rattle.mw_actor.specs.ActorState.{ActorState}

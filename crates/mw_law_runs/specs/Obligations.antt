@@ -1,6 +1,4 @@
--- Defines which request must release a held word or clean a written one, and for which change.
--- Used by: specs/ObligationLaws, specs/RunInvariant, mw_law_store. Contracts use it through these: a change here changes what
--- they say.
+-- Defines which request must release a held word or clean a written one, and for which change. Used by: mw_law_store.
 use Rattle.std.specs.Prelude.{ℕ, ◌≡◌, ◌≢◌, ◌≤◌, ◌⊎◌, true, Option, Some, None}
 use Rattle.mw_words.specs.declared.words.Word.TheVariants.{Held, Dirty}
 use Rattle.mw_actor.specs.declared.points.After.{After}

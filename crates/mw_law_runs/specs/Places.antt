@@ -1,6 +1,6 @@
--- Defines what a request may name at its point (program counter), so that its next step is at a shared word that exists: which
--- slots (descriptors of changes), which entries of a change, and which workers.
--- Used by: the law places_are_there (src/laws.rt) and its proof. A change here changes what this law says.
+-- Defines which slots, entries and workers a request may name at its point (program counter), so that its next step is at a
+-- shared word that exists.
+-- Used by: places_are_there (src/laws.rt).
 use Rattle.std.specs.Prelude.{ℕ, ◌≡◌, ◌≤◌, ◌<◌, true, List, Some, None}
 use Rattle.mw_words.specs.declared.limits.TheConstants.{MAX_ENTRIES}
 use Rattle.mw_look.specs.declared.points.Point.{Point as ReadPoint}

@@ -1,5 +1,5 @@
 -- Defines a sound world: what holds of a world at every moment of a run, except about its files and its marks.
--- Used by: specs/Laws, mw_law_store, mw_rule, mw_table. Contracts use it through these: a change here changes what they say.
+-- Used by: mw_law_store, mw_rule.
 use Rattle.std.specs.Prelude.{ℕ, ◌≡◌, Some}
 use Rattle.mw_actor.specs.ActorState.{ActorState}
 use Rattle.mw_actor.specs.Ranges.{IsInRange}

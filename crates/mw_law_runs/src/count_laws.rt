@@ -1,9 +1,8 @@
 //! States what is proved of two counts of a world: the pins of each slot, and the slots that each tenant's door
 //! counts.
 //!
-//! The functions do nothing, and nothing calls them: each contract is a fact, proved in `proofs/count_laws`. Proofs
-//! of crates above import other pages of `proofs`, by which these facts are proved. To change a fact, change
-//! its definition in `specs`, and then its proof.
+//! The functions are empty: their contracts are the facts, proved in `proofs/count_laws`. To change a fact, begin
+//! with its definition in `specs`.
 ghost use Rattle.mw_law_runs.specs.Counts.Alone.{DoorsCountTheTaken, WhoFreesIsAlone, WhoWaitsHasRoom};
 ghost use Rattle.mw_law_runs.specs.Counts.Exact.{ExchangesAreExact};
 ghost use Rattle.mw_law_runs.specs.Counts.Laws.{EventsKeepCounts, RunsKeepCounts, RunsLeaveRoom, StartsStand};

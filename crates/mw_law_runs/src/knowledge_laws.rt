@@ -1,8 +1,8 @@
 //! States what a request knows at each point of its program, and which steps leave this true.
 //!
-//! The functions do nothing, and nothing calls them: each contract is a fact, proved in `proofs/knowledge_laws`. Proofs of
-//! mw_rule and mw_law_store cite the lemmas in `proofs/Knowledge`, by which these facts are proved. To change a fact, change
-//! its definition in `specs/Knowledge`, and then its proof.
+//! The functions are empty: their contracts are the facts, proved in `proofs/knowledge_laws`. mw_rule and
+//! mw_law_store cite the lemmas in `proofs/Knowledge`. To change a fact, begin with its definition in
+//! `specs/Knowledge`.
 ghost use Rattle.mw_law_runs.specs.Knowledge.Calls.{CallsHaveGuards, CallsInform};
 ghost use Rattle.mw_law_runs.specs.Knowledge.Updates.{UpdatesInform};
 ghost use Rattle.mw_law_runs.specs.Knowledge.MoveGuards.{UpdatesHaveGuards, ReadsHaveGuards};

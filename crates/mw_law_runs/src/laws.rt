@@ -1,8 +1,7 @@
 //! States that every event keeps a world sound (what holds at every moment of a run, except of files and marks).
 //!
-//! The functions do nothing, and nothing calls them: each contract is a fact, proved in `proofs/laws`. Proofs
-//! of crates above import other pages of `proofs`, by which these facts are proved. To change a fact, change
-//! its definition in `specs`, and then its proof.
+//! The functions are empty: their contracts are the facts, proved in `proofs/laws`. To change a fact, begin with its
+//! definition in `specs`.
 ghost use Rattle.mw_world.specs.Claim.Headline.{ShortRunsHaveNumbers};
 ghost use Rattle.mw_world.specs.Claim.BitExactness.{CallersStatusStays, EveryRunIsBitExact};
 ghost use Rattle.mw_law_runs.specs.Laws.{CallsKeepSound, ComesKeepSound, CountsHaveRest, EventsKeepSound, HandsKeepSound, PinnedGatesKeepTheirNumbers, RestartsKeepSound, RoomIsLeft, RunsAreSound, SoundWorldsAreRight, StartsAreSound, TurnsKeepSound};

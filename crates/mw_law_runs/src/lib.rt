@@ -3,22 +3,19 @@
 //!
 //! It rests on three groups of laws, each in a folder of `specs` and of `proofs`:
 //!
-//! - `Requests`: what holds of every run of one request, whatever its steps find: its tenant, its pins and its slots, the
-//!   order of its steps, and the order of the words that it holds.
-//! - `Moves`: the elementary changes of which every step on the shared words is made, each with its precondition, and what
-//!   every such move keeps.
+//! - `Requests`: what holds of every run of one request, whatever its steps find: its tenant, its pins and its slots,
+//!   the order of its steps, and the order of the words that it holds.
+//! - `Moves`: the elementary changes of which every step on the shared words is made, each with its precondition, and
+//!   what every such move keeps.
 //! - `Counts`: how many pins each slot has, and how many slots each tenant's door counts. A door is a tenant's counter of
-//!   slots in use. A gate is a slot's word, with a flag that it is taken, a count of references to it (its pins) and a
-//!   sequence number. If `CountsRestOn` holds before an event, the event keeps these counts right; that it holds in every
-//!   run is proved outside of this folder.
+//!   slots in use. A gate is a slot's word, with a flag that it is taken, a count of its pins and a sequence number.
 //!
-//! One part of soundness is who releases the words of a change (`specs/Obligations`). A slot is a change's descriptor, a pin
-//! a reference to it. A word that is held for a refused change has a releaser: a request that works on the change. While
-//! a change isn't done with, its worker's request is there, or its pin was left behind. The same holds while a word
-//! that the change wrote names its slot.
+//! `specs/Obligations` says who releases the words of a change. A slot is a change's descriptor, a pin a reference to
+//! it. A word that is held for a refused change has a releaser: a request that works on the change. While a change
+//! isn't done with, its worker's request is there, or its pin was left behind.
 //!
-//! Used by: mw_law_store, mw_rule, mw_law_threads. A change of `specs` changes what they rest on. A new point of a request's
-//! program needs a case in `specs/Knowledge/Points`.
+//! Used by: mw_law_store, mw_rule, mw_law_threads. A new point of a request's program needs a case in
+//! `specs/Knowledge/Points`.
 #![tactic(auto)]
 
 mod count_laws;

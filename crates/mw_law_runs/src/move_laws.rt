@@ -1,8 +1,7 @@
 //! States what is proved of moves, the elementary changes of which every step on the shared words is made.
 //!
-//! The functions do nothing, and nothing calls them: each contract is a fact, proved in `proofs/move_laws`. Proofs
-//! of mw_law_runs and mw_law_store import other pages of `proofs`, by which these facts are proved. To change a fact,
-//! change its definition in `specs`, and then its proof.
+//! The functions are empty: their contracts are the facts, proved in `proofs/move_laws`. mw_law_store cites lemmas in
+//! `proofs/Moves`. To change a fact, begin with its definition in `specs`.
 ghost use Rattle.mw_law_runs.specs.Moves.Laws.{MoveKeepsMemory, MovesKeepMemory, StartsHaveMemory};
 ghost use Rattle.mw_law_runs.specs.Moves.Rely.{MovesKeepRely, MoveListsKeepRely, RelyIsTransitive};
 ghost use Rattle.mw_law_runs.specs.Moves.StepMoves.{CallsAreMoves, TurnsAreMoves};

@@ -1,8 +1,7 @@
 //! States what holds of every run of one request, whatever its steps find in the shared words.
 //!
-//! The functions do nothing, and nothing calls them: each contract is a fact, proved in `proofs/request_laws`. Proofs
-//! of crates above import other pages of `proofs`, by which these facts are proved. To change a fact, change
-//! its definition in `specs`, and then its proof.
+//! The functions are empty: their contracts are the facts, proved in `proofs/request_laws`. To change a fact, begin
+//! with its definition in `specs`.
 ghost use Rattle.mw_law_runs.specs.Requests.Order.{StepsComeInTurn};
 ghost use Rattle.mw_law_runs.specs.Requests.HoldOrder.{PlantsRise};
 ghost use Rattle.mw_law_runs.specs.Requests.Runs.{FileCallsAreOfPinnedSlots, GatesAreMovedByTheRules, LastPinsAreFreed, RepliesGiveBack, RequestsStayWithTheirTenant};

@@ -1,7 +1,6 @@
--- A line added at the end of a tenant's history leaves the abstract states (words and sealed changes) before it. A late mark
--- leaves all of them.
--- Used by: the law words_are_of_marks, HistoryMatchLaws, LastLines, ReplyPlaceLaws, Histories, PlacesAfterLine, other pages,
--- mw_rule. Its statements may change with mw_rule; its proofs may change freely.
+-- A line added at the end of a tenant's history, or a late mark, leaves the abstract states (words and sealed changes) before
+-- it.
+-- Used by: words_are_of_marks, mw_rule, mw_law_threads.
 use Rattle.std.specs.Prelude.{ℕ, zero, suc, ◌≡◌, ◌<◌, ◌≤◌, ◌⊎◌, List, [], ◌∷◌, length, slice_get, slice_set, Option, Some, None}
 use Rattle.std.proofs.Common.{refl, sym, ap, ◌∙◌, inl, inr}
 use Rattle.std.proofs.Math.ListN.{take}

@@ -1,6 +1,6 @@
--- When a request comes, or its reply is handed out, the tenant's part of the world still refines its store alone (the reference
--- model).
--- Used by: SimulationSteps/Come, SimulationSteps/Handed, Histories. It may change freely as long as this crate checks.
+-- When a request comes, or its reply is handed out, the tenant's part of the world still refines its store alone (the
+-- reference model).
+-- Used by: mw_law_threads.
 use Rattle.std.specs.Prelude.{ℕ, ◌+◌, ◌≡◌, ◌≢◌, ◌<◌, true, false, length, List, Option, Some, None}
 use Rattle.std.proofs.Common.{refl, sym, ap, subst, ◌∙◌, inl, inr, arith}
 use Rattle.std.proofs.lemmas.Bool.{cases_eq}

@@ -1,6 +1,5 @@
--- An event of one tenant's request keeps each other tenant's part of the world refining its store alone (the reference model).
--- Used by: SimulationSteps/Come, SimulationSteps/Handed, SimulationSteps/Turned, SimulationSteps/EndsOfCalls,
--- SimulationSteps/StepsWithoutPlace. It may change freely as long as this crate checks.
+-- An event of one tenant's request keeps each other tenant's part of the world refining its store alone (the reference
+-- model).
 use Rattle.std.specs.Prelude.{ℕ, ◌≡◌, ◌≢◌, Bool, true, false}
 use Rattle.std.proofs.Common.{refl, sym, ap, ◌∙◌, inl, inr, subst}
 use Rattle.std.proofs.lemmas.Bool.{cases_eq}

@@ -1,6 +1,5 @@
 -- After every run, no worker's next attempt has a number above the worn one (the last number), also when that was used up.
--- Used by: the law attempts_are_numbers, Numbers, mw_rule. Its statements may change with mw_rule; its proofs may change
--- freely.
+-- Used by: attempts_are_numbers, mw_rule.
 use Rattle.std.specs.Prelude.{ℕ, ◌≡◌, ◌≢◌, ◌≤◌, ◌⊎◌, ◌==◌, ◌&&◌, Bool, true, false, not, cond, is_some, List, Option, Some, None}
 use Rattle.std.proofs.Common.{refl, sym, ap, subst, ◌∙◌, inl, inr, arith}
 use Rattle.mw_words.specs.declared.jobs.Entry.{Entry}

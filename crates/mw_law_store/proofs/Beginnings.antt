@@ -1,6 +1,5 @@
 -- Induction over the events of a run, from its last one: what holds at first and is kept by each event holds after the run.
--- Used by: RunSimulation, Histories, Quotas, Attempts, MarksOfEvents, other pages. It may change freely as long as this crate
--- checks.
+-- Used by: mw_law_threads.
 use Rattle.std.specs.Prelude.{ℕ, ◌≡◌, ◌++◌, List, [], ◌∷◌, Option, Some, None}
 use Rattle.std.specs.Option.{option_and_then, option_map, option_to_list, unwrap_or}
 use Rattle.std.proofs.Common.{refl, sym, ap, subst, ◌∙◌, append_assoc, append-nil}

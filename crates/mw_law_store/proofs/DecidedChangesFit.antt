@@ -1,6 +1,5 @@
 -- A change that is decided YES and not yet sealed still has its expected values in the words of its tenant's file.
--- Used by: the law changes_fit, SimulationSteps/Started, SimulationSteps/ReadyToSeal, SimulationSteps/ReadSteps, WordValues. It
--- may change freely as long as this crate checks.
+-- Used by: changes_fit, mw_law_threads.
 use Rattle.std.specs.Prelude.{ℕ, zero, suc, ◌≡◌, ◌≢◌, ◌<◌, ◌==◌, ◌&&◌, Bool, true, List, [], ◌∷◌, length, Option}
 use Rattle.std.specs.List.{list_all}
 use Rattle.std.specs.Option.{option_map_or}

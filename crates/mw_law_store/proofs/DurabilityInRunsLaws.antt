@@ -1,6 +1,5 @@
 -- After every run with numbers left, the words of each tenant's file hold every change that was answered YES.
--- Used by: the law every_run_is_durably_linearizable, mw_simulator. Its statements may change with mw_simulator; its proofs may
--- change freely.
+-- Used by: every_run_is_durably_linearizable, mw_rule, mw_simulator.
 use Rattle.std.specs.Prelude.{slice_get}
 use Rattle.std.proofs.Common.{sym, ap, ◌∙◌}
 use Rattle.mw_world.specs.Claim.Headline.{EveryRunIsDurablyLinearizable}

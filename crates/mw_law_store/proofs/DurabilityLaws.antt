@@ -1,6 +1,5 @@
 -- In every legal list of marks, the change of each request that was handed YES is one of those put over the store's words.
--- Used by: the law seals_are_held, DurabilityInRunsLaws, ReplyPlaceLaws, SimulationSteps/Started. It may change freely as long
--- as this crate checks.
+-- Used by: seals_are_held, mw_law_threads.
 use Rattle.std.specs.Prelude.{ℕ, zero, suc, ◌≡◌, ◌≢◌, ◌&&◌, not, Bool, true, false, List, [], ◌∷◌, ◌++◌, slice_get, Option, Some, None, if◌then◌else◌}
 use Rattle.std.specs.FinMap as map
 use Rattle.std.specs.Option.{option_and_then, option_map, option_to_list}

@@ -1,6 +1,4 @@
 -- Lists the kinds of end that a step may have for its request, by the point before and the point after.
--- Used by: RequestFrames, MarkedSteps, Dues/StepEnds, CallMarks, Claims, other pages. It may change freely as long as this
--- crate checks.
 use Rattle.std.specs.Prelude.{◌≡◌, ◌≢◌, ◌⊎◌, true, false, Some, None}
 use Rattle.mw_words.specs.declared.replies.Reply.{Reply}
 use Rattle.mw_actor.specs.declared.points.Point.{Point}

@@ -1,5 +1,4 @@
 -- If the status that a read has loaded says that a change is made and finished, then it is so; every event keeps this.
--- Used by: ReadRetryLaws. It may change freely as long as this crate checks.
 use Rattle.std.specs.Prelude.{ℕ, ◌≡◌, ◌≢◌, ◌⊎◌, ◌-◌, ◌==◌, true, false, nat_lt, Option, Some, None}
 use Rattle.std.proofs.Common.{refl, sym, ap, subst, ◌∙◌, inl, inr}
 use Rattle.mw_words.specs.declared.gates.Gate.{Gate}

@@ -1,7 +1,6 @@
--- After every run, each reply has its place among its tenant's marks and sealed changes. The proof takes it from the store
--- alone that simulates the tenant.
--- Used by: the law replies_have_places, Quotas, MarksOfEvents, ReplyPlaceLaws, mw_rule. Its statements may change with mw_rule;
--- its proofs may change freely.
+-- After every run, each reply has its place among its tenant's marks and sealed changes, taken from the store alone that
+-- simulates the tenant.
+-- Used by: replies_have_places, mw_rule, mw_law_threads.
 use Rattle.std.specs.Prelude.{ℕ, ◌≡◌, ◌<◌, List, [], ◌∷◌, ◌++◌, Option, Some, None}
 use Rattle.std.proofs.Common.{refl, sym, ap, subst, ◌∙◌, append_assoc, append-nil, ◌⊎◌, inl, inr, arith}
 use Rattle.std.proofs.lemmas.List.{length-set}

@@ -1,7 +1,6 @@
--- If a tenant's history matches a store alone (`HistoryMatches`), it still does after both take the next step, for each kind of
--- step.
--- Used by: the law labels_keep_history_match, SimulationSteps/Met, SimulationSteps/Started. It may change freely as long as
--- this crate checks.
+-- If a tenant's history matches a store alone (`HistoryMatches`), it still does after both take the next step, for each kind
+-- of step.
+-- Used by: labels_keep_history_match.
 use Rattle.std.specs.Prelude.{ℕ, ◌≡◌, List, [], length, slice_get, slice_set, Option, Some, None}
 use Rattle.std.proofs.Common.{refl, sym, ap, subst, ◌∙◌, inl, inr, arith}
 use Rattle.std.proofs.lemmas.List.{length-set}

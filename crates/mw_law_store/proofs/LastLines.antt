@@ -1,6 +1,4 @@
 -- If a line is added to a tenant's history that is about one request or none, the history still matches the store alone.
--- Used by: HistoryMatchLaws, Histories, SimulationSteps/Turns, SimulationSteps/Started. It may change freely as long as this
--- crate checks.
 use Rattle.std.specs.Prelude.{ℕ, true, ◌+◌, ◌≡◌, List, [], ◌∷◌, length, Option, Some, None}
 use Rattle.std.specs.FinMap as map
 use Rattle.std.proofs.Common.{refl, sym, ap, subst, ◌∙◌, inl, inr, arith}

@@ -1,6 +1,5 @@
--- A tenant's history that is legal stays legal after a legal step, and a place reserved in it for a legal mark stays reserved.
--- Used by: ReservedPlaceLaws, ServiceLaws, SimulationSteps/Met, SimulationSteps/Started, SimulationSteps/StepsWithoutPlace,
--- SimulationSteps/Turns. It may change freely as long as this crate checks.
+-- A tenant's history that is legal stays legal after a legal step, and a place reserved in it for a legal mark stays
+-- reserved.
 use Rattle.std.specs.Prelude.{ℕ, ◌≡◌, ◌≢◌, ◌++◌, Bool, true, List, [], ◌∷◌, length, slice_get, Option, Some, None}
 use Rattle.std.specs.FinMap as map
 use Rattle.std.specs.Option.{option_and_then}

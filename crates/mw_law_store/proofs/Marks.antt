@@ -1,7 +1,5 @@
 -- Each kind of mark changes one request of the store alone, and the requests still agree with the tenant's part of the world.
--- There is one lemma for each kind.
--- Used by: MarkedSteps, UnmarkedSteps, CallMarks, Arrivals, Claims, other pages. It may change freely as long as this crate
--- checks.
+-- Used by: mw_law_threads.
 use Rattle.std.specs.Prelude.{ℕ, ◌≡◌, ◌≢◌, Bool, true, false, List, Option, Some, None}
 use Rattle.std.proofs.Common.{refl, sym, ap, subst, ◌∙◌}
 use Rattle.std.proofs.lemmas.Option.{same_Some, none-some}

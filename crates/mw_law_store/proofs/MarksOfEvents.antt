@@ -1,5 +1,5 @@
 -- Only a tenant's own events add marks to its history, and only calls on its own file add marks of failed calls.
--- Used by: the law marks_are_own, Quotas, ReplyPlaceLaws. It may change freely as long as this crate checks.
+-- Used by: marks_are_own, mw_law_threads.
 use Rattle.std.specs.Prelude.{ℕ, zero, suc, ◌+◌, ◌≡◌, ◌≢◌, ◌⊎◌, ◌&&◌, ◌==◌, ◌++◌, not, is_some, Bool, true, false, cond, if◌then◌else◌, List, [], ◌∷◌, filter, length, slice_get, slice_set, Option, Some, None}
 use Rattle.std.specs.Option.{option_map, option_to_list, unwrap_or}
 use Rattle.std.proofs.Common.{refl, sym, ap, subst, ◌∙◌, append-nil, append_assoc, inl, inr, arith}

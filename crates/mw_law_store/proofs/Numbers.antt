@@ -1,5 +1,5 @@
 -- In a run in which no number is used up, no request comes to a point from which it answers WORN.
--- Used by: RunSimulation, the law runs_are_not_worn. It may change freely as long as this crate checks.
+-- Used by: runs_are_not_worn, mw_law_threads.
 use Rattle.std.specs.Prelude.{ℕ, ◌≡◌, ◌≢◌, ◌<◌, ◌⊎◌, ◌==◌, ◌&&◌, Bool, true, false, not, is_some, [], Option, Some, None}
 use Rattle.std.proofs.Common.{refl, sym, ap, subst, ◌∙◌, append-nil, inl, inr, arith}
 use Rattle.std.proofs.lemmas.Bool.Decides.{nat_tests}

@@ -1,5 +1,5 @@
 -- Only a start changes a tenant's quota, and no event changes how many record places its file has.
--- Used by: the law quotas_are_told, mw_rule. Its statements may change with mw_rule; its proofs may change freely.
+-- Used by: quotas_are_told, mw_rule.
 use Rattle.std.specs.Prelude.{ℕ, zero, suc, ◌≡◌, ◌≢◌, ◌⊎◌, ◌++◌, List, [], ◌∷◌, Option, Some, None}
 use Rattle.std.specs.Option.{unwrap_or}
 use Rattle.std.proofs.Common.{refl, sym, ap, subst, ◌∙◌, inl, inr, arith}

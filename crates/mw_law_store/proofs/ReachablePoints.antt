@@ -1,6 +1,4 @@
 -- Defines the points that a request can reach: it gives up only with FAULT or WORN, and frees no slot if it found none.
--- Used by: Dues/Steps, ReachedPoints, SimulationSteps/Turned, Dues/Noted, Dues/Onward, other pages. It may change freely as
--- long as this crate checks.
 use Rattle.std.specs.Prelude.{Bool, true, false}
 use Rattle.mw_words.specs.declared.replies.Reply.{Reply}
 use Rattle.mw_words.specs.declared.replies.Reply.TheVariants.{Fault as SaysFault, Worn as SaysWorn}

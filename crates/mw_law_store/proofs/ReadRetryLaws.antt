@@ -1,6 +1,5 @@
 -- In every run, a read begins again only for one of the three reasons in `specs/ReadRetries`.
--- Used by: the law reads_turn_back_for_three_reasons, mw_rule. Its statements may change with mw_rule; its proofs may change
--- freely.
+-- Used by: reads_turn_back_for_three_reasons, mw_rule.
 use Rattle.std.specs.Prelude.{ℕ, zero, suc, ◌≡◌, ◌<◌, ◌≤◌, ◌⊎◌, ◌+◌, ◌-◌, ◌*◌, ◌==◌, ◌&&◌, not, Bool, true, false, cond, nat_le, nat_lt, if◌then◌else◌, List, length, Option, Some, None}
 use Rattle.std.proofs.Common.{refl, sym, ap, subst, ◌∙◌, inl, inr, arith}
 use Rattle.std.proofs.lemmas.Bool.Decides.{nat_tests}

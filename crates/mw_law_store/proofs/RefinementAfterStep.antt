@@ -1,6 +1,5 @@
 -- A tenant's part of the world still refines its store alone after a step, if the tenant's state, requests and changes each
 -- still do.
--- Used by: CallMarks, MarkedSteps, UnmarkedSteps, SimulationSteps/Turns. It may change freely as long as this crate checks.
 use Rattle.std.specs.Prelude.{ℕ, ◌≡◌, ◌≢◌, ◌==◌, Bool, true, false, if◌then◌else◌, Option, Some}
 use Rattle.std.proofs.Common.{refl, sym, subst, ◌∙◌, arith, inl, inr}
 use Rattle.std.proofs.lemmas.Bool.{cases_eq}

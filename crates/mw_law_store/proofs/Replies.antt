@@ -1,5 +1,5 @@
 -- A late mark (one put into the history before others) hands out no reply, and leaves the replies that were handed out.
--- Used by: the law late_marks_leave_replies, DurabilityLaws, ServiceLaws. It may change freely as long as this crate checks.
+-- Used by: late_marks_leave_replies, mw_law_threads.
 use Rattle.std.specs.Prelude.{ℕ, zero, suc, ◌==◌, ◌&&◌, ◌≡◌, ◌++◌, Bool, true, false, not, List, [], ◌∷◌, slice_get, slice_set, Option, Some, None}
 use Rattle.std.specs.List.{list_all}
 use Rattle.std.specs.Option.{option_and_then, option_map, option_to_list, unwrap_or}

@@ -1,7 +1,6 @@
 -- In every run, each reply is right at some place among its tenant's sealed changes, and that place isn't before the request
 -- came.
--- Used by: the laws replies_are_linearized, requests_have_begun and sealed_changes_go_on, mw_rule. Its statements may change
--- with mw_rule; its proofs may change freely.
+-- Used by: replies_are_linearized, requests_have_begun, sealed_changes_go_on, mw_rule, mw_law_threads.
 use Rattle.std.specs.Prelude.{ℕ, ◌≡◌, ◌≢◌, ◌<◌, ◌≤◌, ◌++◌, true, is_none, List, [], ◌∷◌, length, slice_get, Option, Some, None}
 use Rattle.std.proofs.Common.{refl, sym, ap, subst, ◌∙◌, inl, inr, arith}
 use Rattle.std.proofs.lemmas.Bool.{cases_eq}

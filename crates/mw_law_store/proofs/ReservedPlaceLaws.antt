@@ -1,6 +1,4 @@
 -- The places that workers have reserved in a tenant's history stay reserved while other workers make steps.
--- Used by: SimulationSteps/Met, SimulationSteps/Turned, SimulationSteps/Turns, SimulationSteps/StepsWithoutPlace. It may change
--- freely as long as this crate checks.
 use Rattle.std.specs.Prelude.{ℕ, ◌≡◌, ◌≢◌, ◌≤◌, ◌⊎◌, true, List, length, slice_get, slice_set, Option, Some, None}
 use Rattle.std.proofs.Common.{refl, sym, ap, subst, ◌∙◌, inl, inr, arith}
 use Rattle.std.specs.Option.{option_map_or}

@@ -1,7 +1,6 @@
--- In every run, a store alone simulates each tenant. In a run with numbers left, the tenant's replies and words are those of
--- that store.
--- Used by: the laws runs_are_simulated, every_run_is_durably_linearizable and replies_have_places, MarksOfEvents, Quotas,
--- ReplyPlaceLaws, mw_rule, mw_simulator. Its statements may change with mw_rule and mw_simulator; its proofs may change freely.
+-- In every run, a store alone simulates each tenant. If numbers are left, the tenant's replies and words are those of that
+-- store.
+-- Used by: runs_are_simulated, every_run_is_durably_linearizable, replies_have_places, mw_rule, mw_simulator, mw_law_threads.
 use Rattle.std.specs.Prelude.{ℕ, ◌≡◌, ◌<◌, List, Some}
 use Rattle.mw_lone.specs.Store.{Store}
 use Rattle.mw_world.specs.declared.config.Config.{Config}

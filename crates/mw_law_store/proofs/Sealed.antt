@@ -1,6 +1,5 @@
--- The changes sealed before a place of a tenant's history are a prefix of those sealed later. Put over the first words, they
--- give the words there.
--- Used by: SealedLists, the law sealed_come_in_order. It may change freely as long as this crate checks.
+-- The changes sealed before a place of a tenant's history are a prefix of those sealed later, and give the words there.
+-- Used by: sealed_come_in_order, mw_law_threads.
 use Rattle.std.specs.Prelude.{ℕ, zero, suc, ◌≡◌, List, [], ◌∷◌, ◌++◌, slice_get, Option, Some, None}
 use Rattle.std.proofs.Common.{refl, sym, ap, ◌∙◌, append_assoc, append-nil}
 use Rattle.std.proofs.lemmas.Option.{same_Some, none-some}

@@ -1,6 +1,5 @@
 -- A tenant's sealed changes as a list: at which line of its history each was sealed, and how places of the two correspond.
--- Used by: the law replies_are_linearized, ReplyPlaceLaws, mw_rule. Its statements may change with mw_rule; its proofs may
--- change freely.
+-- Used by: replies_are_linearized, mw_rule, mw_law_threads.
 use Rattle.std.specs.Prelude.{ℕ, zero, suc, ◌≡◌, ◌<◌, ◌≤◌, ◌⊎◌, ◌++◌, true, List, [], ◌∷◌, length, slice_get, Option, Some, None}
 use Rattle.std.proofs.Common.{refl, sym, ap, ◌∙◌, append_assoc, inl, inr, arith, length-append}
 use Rattle.std.proofs.Math.ListN.{take}

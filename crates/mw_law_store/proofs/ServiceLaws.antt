@@ -1,6 +1,5 @@
 -- In a run with numbers left, each tenant gets the replies and words of its store alone: from each event to the whole run.
--- Used by: RunSimulation, SimulationSteps/Started, SimulationSteps/Called, SimulationSteps/Come, SimulationSteps/EndsOfCalls,
--- other pages. It may change freely as long as this crate checks.
+-- Used by: mw_law_threads.
 use Rattle.std.specs.Prelude.{ℕ, ◌≡◌, ◌≢◌, ◌<◌, ◌++◌, ◌==◌, true, false, All, Bool, if◌then◌else◌, is_none, List, [], ◌∷◌, Option, Some, None}
 use Rattle.std.specs.Option.{option_and_then, option_map, option_to_list, unwrap_or}
 use Rattle.std.proofs.Common.{refl, sym, ap, subst, ◌∙◌, append_assoc, append-nil}

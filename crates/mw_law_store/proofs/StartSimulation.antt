@@ -1,6 +1,5 @@
--- After a start each tenant's part of the world refines its store alone. What a crash leaves of a tenant's file, and in doubt,
--- is what its store says.
--- Used by: RestartSimulation, SimulationSteps/Started. It may change freely as long as this crate checks.
+-- After a start each tenant's part of the world refines its store alone, which says what a crash leaves of the tenant's file.
+-- Used by: mw_law_threads.
 use Rattle.std.specs.Prelude.{ℕ, ◌≡◌, ◌≢◌, ◌<◌, ◌≤◌, ◌==◌, ◌&&◌, not, Bool, true, false, if◌then◌else◌, nat_le, List, [], Option, Some, None}
 use Rattle.std.specs.FinMap as map
 use Rattle.std.specs.Option.{option_map_or}

@@ -1,5 +1,4 @@
 -- What a request's step leaves of gates and doors, and so which slots are taken and how many each door counts.
--- Used by: TakenSlots, SimulationSteps/Turned. It may change freely as long as this crate checks.
 use Rattle.std.specs.Prelude.{ℕ, ◌≡◌, ◌⊎◌, ◌==◌, ◌&&◌, not, true, is_some, Some}
 use Rattle.std.proofs.Common.{refl, sym, ap, ◌∙◌, inl, inr}
 use Rattle.std.proofs.lemmas.Bool.{cases_eq}

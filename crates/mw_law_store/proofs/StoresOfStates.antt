@@ -1,7 +1,6 @@
--- A store alone and an abstract state (words, sealed changes) of one history agree in words, change in doubt and requests. Each
--- mark keeps that.
--- Used by: the law words_are_of_marks, HistoryMatchLaws, LastLines, DurabilityLaws, SimulationSteps/Started. It may change
--- freely as long as this crate checks.
+-- A store alone and an abstract state (words, sealed changes) of one history agree in words, change in doubt and requests.
+-- Each mark keeps that.
+-- Used by: words_are_of_marks.
 use Rattle.std.specs.Prelude.{ℕ, ◌≡◌, ◌≢◌, ◌==◌, Bool, true, false, List, [], ◌∷◌, Option, Some, None, if◌then◌else◌}
 use Rattle.std.specs.FinMap as map
 use Rattle.std.specs.Option.{option_map_or}

@@ -1,6 +1,4 @@
--- What a request sees in a word is the word's value in its tenant's file at that time. So a refusal, or a read of a held word,
--- may take place then.
--- Used by: SimulationSteps/ChangeSteps, SimulationSteps/ReadSteps. It may change freely as long as this crate checks.
+-- What a request sees in a word is the word's value in its tenant's file at that time.
 use Rattle.std.specs.Prelude.{ℕ, ◌≡◌, ◌<◌, ◌+◌, ◌==◌, ◌&&◌, not, Bool, true, false, cond, nat_lt, List, length, Some}
 use Rattle.std.proofs.Common.{refl, sym, ap, subst, ◌∙◌, arith}
 use Rattle.std.proofs.lemmas.Bool.Decides.{nat_tests}

@@ -1,6 +1,6 @@
 -- Every event keeps the world facts (`specs/WorldFacts`: faults, down tenants, requests that give up, reads), so they hold
 -- after every run.
--- Used by: the law runs_have_world_facts, RunSimulation, ReadRetryLaws. It may change freely as long as this crate checks.
+-- Used by: runs_have_world_facts, mw_law_threads.
 pub mod Calls
 pub mod Histories
 pub mod Inside

@@ -1,6 +1,6 @@
--- Defines a tenant's abstract state at each place of its history: its words, with each sealed change put over them. No mark
--- must be legal here, so it is defined for every run, also when a number was used up.
--- Used by: many specs of this crate, mw_rule, mw_table, mw_simulator. A change here changes what contracts there say.
+-- Defines a tenant's abstract state at each place of its history: its words, with each sealed change put over them. It is
+-- defined for every run, also when a number was used up.
+-- Used by: mw_rule, mw_simulator, mw_law_threads.
 use Rattle.std.specs.Prelude.{ℕ, ◌≡◌, ◌≢◌, ◌<◌, ◌==◌, if◌then◌else◌, List, [], ◌∷◌, ◌++◌, slice_get, Option, Some, None}
 use Rattle.std.proofs.Math.ListN.{take}
 use Rattle.mw_words.specs.declared.jobs.Entry.{Entry}

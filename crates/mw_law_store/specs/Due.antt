@@ -1,6 +1,6 @@
--- Defines what is due of a request: what the store alone (the reference model) must have of it. The request's point (program
--- counter) and its change's status decide this.
--- Used by: specs/Refinement. Contracts use it through that: a change here changes what they say.
+-- Defines what the store alone (the reference model) must have of a request, by the request's point (program counter) and its
+-- change's status.
+-- Used by: specs/Refinement, mw_law_threads.
 use Rattle.std.specs.Prelude.{Bool, true, false, List, Option, Some, None}
 use Rattle.mw_words.specs.declared.jobs.Entry.{Entry}
 use Rattle.mw_words.specs.declared.replies.Reply.{Reply}

@@ -1,7 +1,6 @@
--- Defines durability of a store alone (the reference model of one tenant). Its words are those at the beginning with changes
--- put over them, and each change that was answered YES is among these.
--- Used by: the laws of src/laws.rt, specs/DurabilityInRuns, specs/Laws, mw_simulator. A change here changes what these laws
--- say.
+-- Defines durability of a store alone (the reference model of one tenant): its words are the first ones with changes put over
+-- them, and each change that was answered YES is among these.
+-- Used by: src/laws.rt, mw_rule, mw_simulator.
 use Rattle.std.specs.Prelude.{ℕ, ◌≡◌, ◌&&◌, not, Bool, true, false, List, [], ◌∷◌, ◌++◌, slice_get, Some, if◌then◌else◌}
 use Rattle.mw_words.specs.declared.jobs.Entry.{Entry}
 use Rattle.mw_words.specs.declared.jobs.Job.{Job}

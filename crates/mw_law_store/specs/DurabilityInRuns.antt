@@ -1,6 +1,6 @@
--- States durability of a world's runs with numbers left: the words of a tenant's file hold each change that was answered YES.
--- It is part of the theorem (docs/THEOREM.md).
--- Used by: the laws of src/laws.rt. A change here changes what these laws say.
+-- States durability of a world's runs with numbers left, a part of the theorem (docs/THEOREM.md): the words of a tenant's
+-- file hold each change that was answered YES.
+-- Used by: src/laws.rt.
 use Rattle.std.specs.Prelude.{ℕ, ◌<◌, ◌≡◌, List, slice_get, Some}
 use Rattle.mw_words.specs.declared.replies.Reply.TheVariants.{Yes as SaysYes}
 use Rattle.mw_world.specs.declared.config.Config.{Config}

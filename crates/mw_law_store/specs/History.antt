@@ -1,6 +1,5 @@
--- Defines the place of each reply among its tenant's marks and sealed changes. It holds of every run, also when a number was
--- used up. The history of the running server is built on it.
--- Used by: the laws of src/laws.rt, specs/Laws, specs/ReplyPlaces, mw_rule. A change here changes what these laws say.
+-- Defines the place of each reply among its tenant's marks and sealed changes, in every run, also when a number was used up.
+-- Used by: src/laws.rt, mw_rule, mw_law_threads.
 use Rattle.std.specs.Prelude.{ℕ, ◌≡◌, ◌<◌, ◌≤◌, ◌⊎◌, ◌++◌, Bool, List, [], ◌∷◌, length, slice_get, Option, Some}
 use Rattle.mw_words.specs.declared.replies.Reply.{Reply}
 use Rattle.mw_words.specs.Change.{put}

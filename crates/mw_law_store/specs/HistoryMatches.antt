@@ -1,6 +1,5 @@
--- Defines when a tenant's history matches its store alone: in the words, in the requests, and in the place of each reply. This
--- says nothing of the world.
--- Used by: specs/History, specs/Laws, specs/Simulation. Contracts use it through these: a change here changes what they say.
+-- Defines when a tenant's history matches its store alone: in the words, in the requests, and in the place of each reply.
+-- Used by: specs/History, specs/Laws, specs/Simulation, mw_law_threads.
 use Rattle.std.specs.Prelude.{ℕ, ◌≡◌, ◌<◌, Bool, true, List, length, slice_get, Option, Some, None}
 use Rattle.mw_words.specs.declared.jobs.Job.{Job}
 use Rattle.mw_words.specs.declared.replies.Reply.{Reply}

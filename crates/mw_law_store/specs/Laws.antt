@@ -1,5 +1,5 @@
 -- The main facts that this crate proves of tenants and their stores alone: a store simulates each tenant in every run.
--- Used by: the laws of src/laws.rt. A change here changes what these laws say.
+-- Used by: src/laws.rt.
 use Rattle.std.specs.Prelude.{ℕ, ◌≡◌, ◌<◌, Bool, true, List, slice_set, Option, Some}
 use Rattle.mw_words.specs.Change.{fits}
 use Rattle.mw_words.specs.declared.replies.Reply.{Reply}

@@ -1,6 +1,6 @@
--- States which events add marks to a tenant's history: its own requests' events, and starts. Marks of a failure of its file are
--- added by calls on its own file.
--- Used by: the laws of src/laws.rt. A change here changes what these laws say.
+-- States which events add marks to a tenant's history: its own requests' events, and starts. Only calls on its own file add
+-- marks of its failure.
+-- Used by: src/laws.rt.
 use Rattle.std.specs.Prelude.{ℕ, ◌+◌, ◌≡◌, ◌≢◌, ◌<◌, ◌==◌, ◌⊎◌, ◌++◌, Bool, true, false, List, [], ◌∷◌, filter, length, if◌then◌else◌, Option, Some, None}
 use Rattle.std.specs.Option.{option_map, unwrap_or}
 use Rattle.mw_lone.specs.declared.marks.Mark.{Mark}

@@ -1,5 +1,5 @@
 -- States that only starts set a tenant's quota, and that its file keeps its number of record places.
--- Used by: the laws of src/laws.rt, mw_rule. A change here changes what these laws say.
+-- Used by: src/laws.rt, mw_rule.
 use Rattle.std.specs.Prelude.{ℕ, ◌≡◌, ◌<◌, ◌≤◌, List, Some, None}
 use Rattle.mw_words.specs.declared.limits.TheConstants.{MAX_QUOTA}
 use Rattle.mw_lone.specs.Laws.{quota_after}

@@ -1,7 +1,7 @@
--- Lists the three reasons for which a read begins again. The word was another one when the read loaded it again. Or the gate of
--- its slot was not as the word, or the row of its attempt, implies. Or the gate changed between its load and the exchange that
--- should pin it.
--- Used by: the laws of src/laws.rt, mw_rule, mw_table, mw_core. A change here changes what these laws say.
+-- Lists the three reasons for which a read begins again. The word was another one when it was loaded again. Or the gate of
+-- its slot was not as the word, or the row of its attempt, implies. Or the gate changed before the exchange that should pin
+-- it.
+-- Used by: src/laws.rt, mw_rule.
 use Rattle.std.specs.Prelude.{ℕ, ◌≡◌, ◌<◌, ◌≤◌, ◌-◌, ◌==◌, ◌&&◌, Bool, true, false, nat_le, List, Some}
 use Rattle.mw_words.specs.declared.gates.Gate.{Gate}
 use Rattle.mw_words.specs.declared.limits.TheConstants.{MAX_ENTRIES, MAX_PINS, WORN_NUMBER}

@@ -1,6 +1,6 @@
--- Defines the refinement relation between a tenant's part of a world and its store alone (the reference model). It names no
--- mark and no line, and it also holds when numbers are used up.
--- Used by: specs/Simulation, mw_rule. Contracts use it through these: a change here changes what they say.
+-- Defines the refinement relation between a tenant's part of a world and its store alone (the reference model), also when
+-- numbers are used up.
+-- Used by: mw_rule, mw_law_threads.
 use Rattle.std.specs.Prelude.{ℕ, ◌≡◌, ◌≢◌, true, false, List, Option, Some, None}
 use Rattle.mw_words.specs.declared.jobs.Entry.{Entry}
 use Rattle.mw_words.specs.declared.jobs.Job.{Job}

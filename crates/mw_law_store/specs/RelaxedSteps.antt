@@ -1,7 +1,6 @@
--- Defines a store alone's relaxed step, which is possible also when a number was used up. Defines the label: what a step adds
--- to a tenant's history.
--- Used by: specs/HistoryMatches, specs/Laws, specs/Simulation. Contracts use it through these: a change here changes what they
--- say.
+-- Defines a store alone's relaxed step, which is possible also when a number was used up, and the label: what a step adds to
+-- a tenant's history.
+-- Used by: specs/HistoryMatches, specs/Laws, specs/Simulation, mw_law_threads.
 use Rattle.std.specs.Prelude.{ℕ, ◌-◌, ◌≡◌, true, false, List, slice_set, Option, Some, None}
 use Rattle.mw_words.specs.declared.replies.Reply.{Reply}
 use Rattle.mw_lone.specs.declared.marks.Mark.{Mark}

@@ -1,6 +1,6 @@
 -- Defines at which place among its tenant's sealed changes a reply is right, counted from the time at which its request came.
--- It holds of every run, also when a number was used up. The history that running threads keep of a tenant is built on it.
--- Used by: the laws of src/laws.rt, mw_rule. A change here changes what these laws say.
+-- It holds of every run, also when a number was used up.
+-- Used by: src/laws.rt, mw_rule, mw_law_threads.
 use Rattle.std.specs.Prelude.{ℕ, ◌≡◌, ◌≢◌, ◌<◌, ◌≤◌, ◌⊎◌, ◌++◌, true, List, [], ◌∷◌, length, slice_get, Some}
 use Rattle.std.proofs.Math.ListN.{take}
 use Rattle.mw_words.specs.declared.jobs.Entry.{Entry}

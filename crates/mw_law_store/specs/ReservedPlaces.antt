@@ -1,7 +1,6 @@
 -- Defines what holds of a reserved place: an empty place in a tenant's history, which a worker fills later with a late mark
--- (event). In every run, the tenant's words at that place allow the mark. The mark is legal there (`IsReservedFor` of
--- mw_law_store) in runs that exhaust no version counter.
--- Used by: specs/Simulation. The laws cite it through specs/Simulation: a change here changes what they say.
+-- (event). In every run the tenant's words there allow the mark; it is legal there if numbers are left (`IsReservedFor`).
+-- Used by: specs/Simulation.
 use Rattle.std.specs.Prelude.{ℕ, ◌≡◌, ◌≢◌, Bool, true, false, List, slice_get, Option, Some, None}
 use Rattle.mw_words.specs.declared.jobs.Entry.{Entry}
 use Rattle.mw_words.specs.declared.replies.Reply.TheVariants.{Val, No as SaysNo}

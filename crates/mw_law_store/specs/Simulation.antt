@@ -1,7 +1,6 @@
 -- Defines that a store alone simulates a tenant's part of a world: by relaxed steps (`RelaxedSteps`) in every run, legally if
 -- numbers are left.
--- Used by: specs/History, specs/Laws, specs/ReplyPlaces, mw_rule. Contracts use it through these: a change here changes what
--- they say.
+-- Used by: mw_rule, mw_law_threads.
 use Rattle.std.specs.Prelude.{ℕ, ◌≡◌, Some}
 use Rattle.mw_lone.specs.Store.{Store, run as run_of_store}
 use Rattle.mw_law_store.specs.Late.LateMarks.{IsNumbered}

@@ -1,6 +1,5 @@
--- Facts about decided faults, tenants that are down, requests that give up, and reads. The proofs about marks need them. They
--- name no store and no line.
--- Used by: specs/Laws. Contracts use it through these: a change here changes what they say.
+-- Facts about decided faults, tenants that are down, requests that give up, and reads, which the proofs about marks need.
+-- Used by: specs/Laws.
 use Rattle.std.specs.Prelude.{ℕ, ◌≡◌, ◌≢◌, ◌<◌, ◌⊎◌, Bool, true, false, length, Some}
 use Rattle.mw_words.specs.declared.replies.Reply.TheVariants.{Fault as SaysFault}
 use Rattle.mw_words.specs.declared.statuses.Status.TheVariants.{YesDirty}

@@ -1,5 +1,5 @@
 -- States that no request answers WORN in a run with numbers left, and what holds of numbers also when they are used up.
--- Used by: the laws of src/laws.rt, specs/Simulation. A change here changes what these laws say.
+-- Used by: src/laws.rt, mw_law_threads.
 use Rattle.std.specs.Prelude.{ℕ, ◌≡◌, ◌≤◌, Bool, true, false, List, Some}
 use Rattle.mw_words.specs.declared.limits.TheConstants.{WORN_NUMBER}
 use Rattle.mw_words.specs.declared.replies.Reply.{Reply}

@@ -1,10 +1,9 @@
 //! Laws about `HasFiles`: the shared words agree with each tenant's file, and each change that is in its file has a
 //! place of its own there.
 //!
-//! The functions do nothing, and nothing calls them: each contract is a fact, proved in `proofs/file_laws`. Proofs of crates
-//! above import other pages of `proofs`, by which these facts are proved. To change a fact, change its definition in `specs`,
-//! and then its proof. docs/PROMISES and docs/THEOREM cite `every_run_holds`. mw_rule and mw_simulator import the proofs behind
-//! these laws.
+//! The functions are empty: their contracts are the facts, proved in `proofs/file_laws`. To change a fact, begin with
+//! its definition in `specs`. docs/PROMISES and docs/THEOREM cite `every_run_holds`. mw_rule and mw_simulator import
+//! the proofs.
 ghost use Rattle.mw_world.specs.Claim.Headline.{EveryRunHolds};
 ghost use Rattle.mw_law_store.specs.Files.Enabled.{CallsCanBeMade, RunsAreEnabled, StartsFindWords};
 ghost use Rattle.mw_law_store.specs.Files.Laws.{CallsKeepFiles, ComesKeepFiles, EventsKeepFiles, FirstStartsHaveFiles, HandsKeepFiles, RestartsKeepFiles, RunsGoOn, RunsHaveFiles, SoundWorldsWithFilesAreRight, StartsHaveFiles, TurnsKeepFiles};

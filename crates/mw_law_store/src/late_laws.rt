@@ -1,8 +1,7 @@
 //! States what is proved of marks: what each does to a store alone, and that a mark may be put into a history late.
 //!
-//! The functions do nothing, and nothing calls them: each contract is a fact, proved in `proofs/late_laws`. Proofs
-//! of crates above import other pages of `proofs`, by which these facts are proved. To change a fact, change
-//! its definition in `specs`, and then its proof.
+//! The functions are empty: their contracts are the facts, proved in `proofs/late_laws`. To change a fact, begin with
+//! its definition in `specs`.
 ghost use Rattle.mw_law_store.specs.Late.Examples.{LateMarkComesOut};
 ghost use Rattle.mw_law_store.specs.Late.Laws.{MarksDo, DoingIsMarked, LinesAreRun, LinesExtend, EmptyPlaceAddsNothing, RepliesCommute, OthersAreLeft, RunsNumber, LateMark, LateMarkOfAll, NothingBetween, PlaceIsReserved, ReservedBesideALine, ReservedBesideALateMark};
 

@@ -1,8 +1,8 @@
-//! States what is proved of each tenant and its store alone (the sequential reference model). The functions do
-//! nothing; their contracts are the facts.
+//! States what is proved of each tenant and its store alone (the sequential reference model). The functions are
+//! empty: their contracts are the facts.
 //!
-//! No code calls them. Proofs of mw_rule and mw_simulator cite the lemmas behind them. A change of a contract here changes a
-//! theorem: the last one is the theorem of docs/THEOREM.md.
+//! mw_rule and mw_simulator cite the lemmas behind them. A change of a contract changes a theorem: the last is the
+//! theorem of docs/THEOREM.md.
 ghost use Rattle.mw_world.specs.Claim.Headline.{EqualMarksHaveEqualReplies, EveryRunIsDurablyLinearizable};
 ghost use Rattle.mw_law_store.specs.Durability.{SealsAreDurable};
 ghost use Rattle.mw_law_store.specs.DurabilityInRuns.{RunsKeepAcknowledged};

@@ -1,11 +1,11 @@
-//! The proof that a store alone simulates each tenant's part of a world. In every run each event but a start
-//! makes at most one relaxed step of the store. If there are numbers left it is a legal step.
+//! The proof that a store alone (mw_lone, the sequential specification of one tenant) simulates each tenant's part of
+//! a world. In every run each event but a start makes at most one relaxed step of the store. If there are numbers
+//! left it is a legal step.
 //!
-//! `specs/Late` has what each mark does to a store alone (mw_lone, the sequential specification of one tenant), and that a
-//! mark may be put in late, at a place reserved for it. A mark is one atomic step in a tenant's serial history. A place is
-//! a position of that history. It stays empty until it is known whether the step that belongs there took place. A new
-//! mark needs a case in `specs/Late/MarkEffects` and `specs/Late/LateMarks`, and in the proofs; CONTRIBUTING lists the
-//! rest under *A mark*.
+//! `specs/Late` has what each mark (one atomic step in a tenant's serial history) does to a store alone, and that a
+//! mark may be put in late, at a place reserved for it. Such a position of the history stays empty until it is known
+//! whether its step took place. A new mark needs a case in `specs/Late/MarkEffects` and `specs/Late/LateMarks`, and
+//! in the proofs; CONTRIBUTING lists the rest under *A mark*.
 //!
 //! Used by: mw_rule, mw_simulator, mw_law_threads.
 #![tactic(auto)]

@@ -1,7 +1,5 @@
-//! States which files a crash may leave after a change was answered YES, FAULT or nothing. The functions do nothing; their contracts are
-//! the facts.
-//!
-//! No code calls them. A change of a contract here changes a theorem.
+//! States which files a crash may leave after a change was answered YES, FAULT or nothing. The functions are empty:
+//! their contracts are the facts, and a change of one changes a theorem.
 ghost use Rattle.mw_law_threads.specs.Durable.Durable.{CallsKeepChanges, CallsLeaveWholeChanges, CallsLeaveWhollyOrNot, MomentsKeepChanges, MomentsLeaveWholeChanges, MomentsLeaveWhollyOrNot};
 ghost use Rattle.mw_law_threads.specs.Durable.Starts.{EnginesStartWithChanges, StartsFindChanges};
 

@@ -1,7 +1,5 @@
-//! States that the replies of all passes are right in one history, and when each of them was. The functions do nothing; their contracts
-//! are the facts.
-//!
-//! No code calls them. A change of a contract here changes a theorem.
+//! States that the replies of all passes are right in one history, and when each of them was. The functions are
+//! empty: their contracts are the facts, and a change of one changes a theorem.
 ghost use Rattle.mw_law_threads.specs.History.AnswerMoments.{AnswersHaveMoments, AnswersHaveMomentsInOneRun, AnswersKeepTheOrderOfTime};
 ghost use Rattle.mw_law_threads.specs.History.AnswersInOneRun.{AnswersAreInOneRun, AnswersComeAfterEarlierOnes};
 ghost use Rattle.mw_law_threads.specs.History.OneHistory.{MomentsHaveOneHistory};

@@ -1,6 +1,5 @@
-//! States that each reply has a moment. The function does nothing; its contract is the fact.
-//!
-//! No code calls it. mw_law_threads cites its proof. A change of the contract here changes a theorem.
+//! States that each reply has a moment. The function is empty: its contract is the fact, and a change of it changes a
+//! theorem.
 ghost use Rattle.mw_law_threads.specs.Moments.Moments.{RepliesHaveMoments, SharedWordsAreTheFiles};
 
 /// Each reply but WORN was true at a moment of its call, in every run, also when a number was used up. The call is what

@@ -1,7 +1,5 @@
-//! States that one store alone takes what a server did before a start, the start, and what the next server does after it. The functions
-//! do nothing; their contracts are the facts.
-//!
-//! No code calls them. A change of a contract here changes a theorem.
+//! States that one store alone takes what a server did before a start, the start, and what the next server does. The
+//! functions are empty: their contracts are the facts, and a change of one changes a theorem.
 ghost use Rattle.mw_law_threads.specs.NextRuns.LaterStores.{StoresGoOn};
 ghost use Rattle.mw_law_threads.specs.NextRuns.OneStore.{NextRunsAreOfOneStore};
 ghost use Rattle.mw_law_threads.specs.NextRuns.ServersInTurn.{ServersInTurnAreOfOneStore};

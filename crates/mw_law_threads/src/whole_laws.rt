@@ -1,6 +1,5 @@
-//! States which changes are in a tenant's file. The functions do nothing; their contracts are the facts.
-//!
-//! No code calls them. Proofs of mw_law_threads cite the lemmas behind it. A change of a contract here changes a theorem.
+//! States which changes are in a tenant's file. The functions are empty: their contracts are the facts, and a change
+//! of one changes a theorem.
 ghost use Rattle.mw_law_threads.specs.Whole.Refusals.{RefusedRequestsMakeNoChange};
 ghost use Rattle.mw_law_threads.specs.Whole.WholeChanges.{DoubtIsWhole, PlacesHoldWholeChanges, RequestsAskForOneChange, RequestsStayAsked, SealedChangesAreWhole};
 

@@ -1,7 +1,6 @@
--- The loop that reads the entries of a `CAS` line keeps what `specs/EntryList` says, and what it read tells the change's first
--- fault.
--- Used by: Faults, the proofs of listing_of, Listing::change, Listing::note and cas. It may change freely as long as this crate
--- checks.
+-- The loop that reads the entries of a `CAS` line keeps what `specs/EntryList` says, and what it read tells the change's
+-- first fault.
+-- Used by: listing_of, Listing::change, Listing::note, cas.
 use Rattle.std.proofs.Common.{◌≡◌, ℕ, zero, suc, ◌<◌, ◌≤◌, Bool, true, false, cond, eqb, ltb, leb, ◌&&◌, List, [], ◌∷◌, ◌++◌, length, take_all, Option, Some, None, refl, sym, ap, ◌∙◌, arith, append_assoc, append-nil, ne_eqb, le-leb, ltb-false, lt-ltb, length-append, nat_lt, take}
 use Rattle.std.specs.Prelude.{codes, flat_map, map}
 use Rattle.std.specs.List.{list_all}

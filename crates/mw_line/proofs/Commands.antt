@@ -1,5 +1,5 @@
 -- A command's text is read as that command, and what is read as a command is its text. So a line says one command.
--- Used by: Faults, the proof of one_spelling. It may change freely as long as this crate checks.
+-- Used by: one_spelling.
 use Rattle.std.proofs.Common.{◌≡◌, ℕ, ◌<◌, eqb, List, [], ◌∷◌, ◌++◌, length, map, Option, Some, None, ◌⊎◌, inl, inr, refl, sym, ap, ◌∙◌, arith, append-nil, eqb-true, ne_eqb, map-id}
 use Rattle.std.specs.Prelude.{codes, flat_map, bytes_eq}
 use Rattle.std.proofs.lemmas.Bool.{eqb-false}

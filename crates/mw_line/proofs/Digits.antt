@@ -1,6 +1,6 @@
--- A reader takes the digits at the front of a text one at a time. It may keep a number of 2^64 or more as 2^64 - 1, and still
--- finds the right bytes after the digits.
--- Used by: Numerals, Entries, the proof of digits_at. It may change freely as long as this crate checks.
+-- A reader that takes digits one at a time may keep a number of 2^64 or more as 2^64 - 1, and still finds the right bytes
+-- after the digits.
+-- Used by: digits_at.
 use Rattle.std.proofs.Common.{◌≡◌, ℕ, ◌+◌, ◌-◌, ◌*◌, ◌<◌, ◌≤◌, min, true, false, List, [], ◌∷◌, length, get_or, take, drop, take_all, ◌⊎◌, inl, inr, refl, sym, ap, ◌∙◌, arith, le-leb}
 use Rattle.std.proofs.lemmas.Bool.Decides.{nat_tests}
 use Rattle.mw_words.specs.Name.{is_digit}

@@ -1,6 +1,5 @@
 -- The text of a change's entries is read as those entries, and what is read as entries is their text.
--- Used by: ChangeReader, Commands, Faults, and in mw_client and mw_config. Its statements may change with mw_client and
--- mw_config; its proofs may change freely.
+-- Used by: mw_config, mw_client.
 use Rattle.std.proofs.Common.{◌≡◌, ℕ, zero, suc, ◌≤◌, Bool, true, false, cond, eqb, List, [], ◌∷◌, ◌++◌, length, map, Option, Some, None, ◌⊎◌, inl, inr, refl, sym, ap, subst, ◌∙◌, arith, append_assoc, eqb-true, ne_eqb, ap₂}
 use Rattle.std.specs.Prelude.{codes, flat_map}
 use Rattle.std.proofs.lemmas.List.{length-append}

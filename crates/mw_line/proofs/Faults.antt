@@ -1,6 +1,6 @@
--- A reader that sees a large number as a smaller one finds the same first fault in a line as the grammar does. If there is no
--- fault, it has read the same command. So `read_line` answers as it promises.
--- Used by: the proof of read_line. It may change freely as long as this crate checks.
+-- A reader that sees a large number as a smaller one finds the same first fault in a line as the grammar does or, without a
+-- fault, the same command.
+-- Used by: read_line.
 use Rattle.std.proofs.Common.{◌≡◌, ℕ, ◌+◌, Bool, true, false, cond, ltb, leb, ◌&&◌, List, [], ◌∷◌, length, map, Option, Some, None, Result, Ok, Err, ◌⊎◌, inl, inr, refl, sym, ap, ap₂, subst, ◌∙◌, arith}
 use Rattle.std.specs.List.{list_all}
 use Rattle.std.specs.Prelude.{IfOk, ◌↔◌}

@@ -1,7 +1,6 @@
 -- `behind` gives the rest exactly if the bytes begin with the text. `field_at` gives the field before its first end byte, and
 -- the rest.
--- Used by: Commands, Entries, the proofs of `behind` and `field`, among others. Its statements may change with mw_client and
--- mw_config; its proofs may change freely.
+-- Used by: `behind`, `field`, mw_config, mw_client.
 use Rattle.std.proofs.Common.{◌≡◌, ℕ, suc, Bool, true, false, cond, eqb, ltb, List, [], ◌∷◌, ◌++◌, length, take, drop, Option, Some, None, MatchOption, refl, sym, ap, ◌⊎◌, inl, inr, arith, ◌&&◌, ◌+◌, Bor, eqb-true, eq-eqb, lt-ltb, le-ltb}
 use Rattle.std.specs.Prelude.{option_map, position}
 use Rattle.std.specs.List.{position_or_len}

@@ -1,6 +1,5 @@
 -- A number's digits are read as that number, and what is read as a number is its digits.
--- Used by: Commands, Entries, the proofs of number_texts and numbers_as_printed, among others. Its statements may change with
--- mw_client and mw_config; its proofs may change freely.
+-- Used by: number_texts, numbers_as_printed, mw_config, mw_client.
 use Rattle.std.proofs.Common.{◌≡◌, ℕ, zero, suc, ◌+◌, ◌-◌, ◌*◌, ◌/◌, ◌%◌, ◌^◌, ◌<◌, ◌≤◌, min, Bool, true, false, cond, eqb, List, [], ◌∷◌, ◌++◌, length, Some, None, ◌&&◌, ◌⊎◌, inl, inr, refl, sym, ap, ◌∙◌, arith, append_assoc, lt-ltb, le-ltb, eqb-true, ne_eqb, decimal, leb, leb-true, not, ap₂, append-nil}
 use Rattle.std.specs.Prelude.{OkIff, Result, Ok, Err, IsTrue, ◌↔◌}
 use Rattle.std.specs.List.{list_all}

@@ -1,6 +1,6 @@
--- A number of 64 bits is printed with at most 20 digits, one of 16 bits with at most 5. What is before the value in a `NO` has
--- at most 9 bytes.
--- Used by: the proofs of Say::text and put_reply. It may change freely as long as this crate checks.
+-- A number of 64 bits is printed with at most 20 digits, one of 16 bits with at most 5. What is before the value in a `NO`
+-- has at most 9 bytes.
+-- Used by: put_reply.
 use Rattle.std.proofs.Common.{◌≡◌, ℕ, ◌^◌, ◌<◌, ◌≤◌, ◌++◌, List, [], ◌∷◌, length, decimal, ap, arith, length-append}
 use Rattle.std.proofs.lemmas.Fmt.{length-decimal-le}
 

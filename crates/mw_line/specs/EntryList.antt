@@ -1,5 +1,5 @@
 -- Defines what the reader of a `CAS` line keeps of the entries that it has read: the first ones, and whether there are more.
--- Used by: the contracts of changes.rt. It may change with src/changes.rt, as long as read_line keeps its contract.
+-- Used by: changes.rt. It may change with that file, as long as read_line keeps its contract.
 use Rattle.std.specs.Prelude.{◌≡◌, List, [], ◌∷◌, ◌++◌, length, nat_lt, take, Option, Some, None}
 use Rattle.mw_words.specs.declared.limits.TheConstants.{MAX_ENTRIES}
 use Rattle.mw_words.specs.declared.jobs.Entry.{Entry}

@@ -1,7 +1,7 @@
--- Defines the protocol's grammar: which bytes are a line of a client, and which command each line says. Its limits are in
--- Limits.
--- Used by: Limits, LineReader, mw_session, mw_client, the contracts of changes.rt, laws.rt and requests.rt. A change here is a
--- change of the protocol: docs/PROTOCOL, mw_session and both clients change with it.
+-- Defines the protocol's grammar: which bytes are a line of a client, and which command each line says. Limits has its
+-- limits.
+-- Used by: mw_session, mw_client, mw_client_c, changes.rt, laws.rt, requests.rt. A change here changes the protocol:
+-- docs/PROTOCOL, mw_session and the clients.
 use Rattle.std.specs.Prelude.{◌≡◌, ℕ, ◌<◌, List, ◌++◌, length, codes, flat_map, IsTrue}
 use Rattle.mw_words.specs.declared.jobs.Entry.{Entry}
 use Rattle.mw_words.specs.Name.{is_name}

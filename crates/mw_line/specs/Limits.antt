@@ -1,6 +1,6 @@
 -- Defines which commands keep the protocol's limits, and the request or the fault with which a line is answered.
--- Used by: LineReader, mw_session, mw_client, the contracts of changes.rt and requests.rt. A change here changes which fault
--- answers a line: docs/PROTOCOL, which has the faults in their order, changes with it.
+-- Used by: mw_session, mw_client, mw_client_c, changes.rt, requests.rt. Change it with docs/PROTOCOL, which has the faults in
+-- their order.
 use Rattle.std.specs.Prelude.{◌≡◌, ◌&&◌, Bool, length, nat_le, nat_lt, if◌then◌else◌, Option, Some, None, Result, Ok, Err, IsTrue}
 use Rattle.std.specs.List.{list_all}
 use Rattle.mw_words.specs.declared.limits.TheConstants.{MAX_ENTRIES, MAX_VALUE, MAX_WORDS}

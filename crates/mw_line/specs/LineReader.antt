@@ -1,7 +1,6 @@
--- Defines how a client's line is read from left to right, by a reader that may see a large number as a smaller one. What
--- `read_line` promises is in Grammar and Limits; this page is for the contracts of the reader's steps.
--- Used by: mw_config, mw_schedule, mw_client, the contracts of changes.rt, numbers.rt and requests.rt. It may change with the
--- readers that cite it, as long as read_line proves the same contract.
+-- Defines how a client's line is read from left to right, by a reader that may see a large number as a smaller one.
+-- Used by: mw_config, mw_schedule, mw_client, changes.rt, numbers.rt, requests.rt. It may change with the readers that cite
+-- it, as long as read_line keeps its contract (Grammar, Limits).
 use Rattle.std.specs.Prelude.{◌≡◌, ℕ, zero, suc, ◌+◌, ◌-◌, ◌*◌, ◌^◌, ◌==◌, min, List, [], ◌∷◌, length, if◌then◌else◌, codes, Option, Some, None, Result, Err, bytes_eq}
 use Rattle.mw_words.specs.declared.jobs.Entry.{Entry}
 use Rattle.mw_words.specs.Name.{is_name, is_digit}

@@ -1,6 +1,6 @@
--- Defines the decimal text of a number in the protocol, of any length. (The library's `decimal` has at most 64 digits.)
--- Used by: Grammar, mw_config (for tenants files), mw_client, the contracts of laws.rt. A change here changes what a number is
--- in the protocol and in a tenants file.
+-- Defines the decimal text of a number in the protocol and in a tenants file, of any length. (The library's `decimal` has at
+-- most 64 digits.)
+-- Used by: mw_config, mw_client, laws.rt. A change here changes what a number is there.
 use Rattle.std.specs.Prelude.{ℕ, zero, suc, ◌+◌, ◌/◌, ◌%◌, ◌==◌, ◌&&◌, Bool, false, List, [], ◌∷◌, ◌++◌, length, nat_lt, if◌then◌else◌}
 use Rattle.std.specs.List.{list_all}
 use Rattle.mw_words.specs.Name.{is_digit}

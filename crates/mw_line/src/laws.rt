@@ -1,9 +1,7 @@
-//! Laws of the protocol's grammar, as contracts of empty functions: a line says one command, and a number has one
-//! text.
+//! Laws of the protocol's grammar (contracts of empty functions): a line says one command, and a number has one text.
 //!
-//! No code calls them. They follow from `specs/Grammar` and `specs/Number` alone: after a change there, they must be
-//! proved again. The lemmas behind them are in `proofs/Commands` and `proofs/Numerals`; proofs of mw_config and
-//! mw_client cite the latter.
+//! Change them with `specs/Grammar` and `specs/Number`. The proofs are in `proofs/Commands` and `proofs/Numerals`;
+//! mw_config and mw_client cite the latter.
 ghost use Rattle.std.specs.Prelude.{◌≡◌, ◌↔◌, ℕ, ◌<◌, ◌^◌, IsTrue, List, decimal};
 ghost use Rattle.mw_line.specs.Grammar.{Command, Spells};
 ghost use Rattle.mw_line.specs.Number.{numeral, is_number_text};

@@ -1,7 +1,7 @@
 //! The lines of the protocol: reads what a client's line asks for, and writes each line of an answer.
 //!
-//! mw_session reads requests by it and writes replies; mw_client does the reverse. mw_config, mw_client and
-//! mw_schedule also use its readers of numbers. A change of a line is a change of the protocol: docs/PROTOCOL.
+//! Used by: mw_session; mw_client, in reverse; mw_config and mw_schedule, for numbers. A change of a line is a change
+//! of the protocol: docs/PROTOCOL.
 #![tactic(auto)]
 
 mod changes;

@@ -1,9 +1,8 @@
 //! Reads the front of a text: a fixed text, a field up to its end byte, or a number. Each reader gives the bytes
 //! after what it read.
 //!
-//! Used by `requests.rt` and `changes.rt`, and by the readers of tenants files (mw_config), of replies (mw_client)
-//! and of schedules (mw_schedule). Their proofs rest on these contracts: a contract may change with them and with
-//! `specs/LineReader`.
+//! Used by: `requests.rt`, `changes.rt`, mw_config, mw_client, mw_schedule. A contract may change with their proofs
+//! and `specs/LineReader`.
 ghost use Rattle.std.specs.Prelude.{◌≡◌, ◌+◌, ◌==◌, length, position, IfSome};
 ghost use Rattle.mw_line.specs.LineReader as spec;
 ghost use Rattle.mw_line.specs.LineReader.{Gives, narrow};

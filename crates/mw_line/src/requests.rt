@@ -1,9 +1,8 @@
 //! Reads a client's line as a request, or finds its first fault.
 //!
-//! mw_session calls [`read_line`] for each line of a client, and mw_schedule (`commands.rt`) for the jobs of a
-//! schedule; mw_client writes these lines. `specs/Limits` and `specs/LineReader` say which fault comes first: change
-//! them together. CONTRIBUTING lists under *A command* what a new request needs. README and docs/PROMISES cite
-//! `read_line`.
+//! Used by: mw_session, and mw_schedule for the jobs of a schedule. Change it with `specs/Limits` and
+//! `specs/LineReader`, which say which fault comes first. CONTRIBUTING lists under *A command* what a new request
+//! needs. docs/PROMISES cites `read_line`.
 ghost use Rattle.std.specs.Prelude.{◌≡◌, ◌↔◌, IfOk};
 ghost use Rattle.mw_line.specs.Grammar.{Command, Spells};
 ghost use Rattle.mw_line.specs.Limits.{first_fault, command_of, Answers, FitsLargestTenant};

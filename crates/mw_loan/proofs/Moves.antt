@@ -1,5 +1,4 @@
--- Proves that each step on a box keeps the rule, and that the rule holds of a new box.
--- Used by: the answers of the calls in src/loan_box.rt.
+-- Each step on a box keeps the rule, and the rule holds of a new box. Used by: calls of src/loan_box.rt.
 use Rattle.std.proofs.Common.{◌≡◌, ◌≢◌, ◌⊎◌, ℕ, zero, suc, ◌<◌, List, [], ◌∷◌, ◌++◌, length, set, Some, None, Option, Bool, true, false, true≢false, refl, sym, ap, ◌∙◌, subst, ⊎_elim, eqb}
 use Rattle.std.specs.Prelude.{slice_index}
 use mathlib.Core.Option.{some, none, some-ne-none, some-injective}

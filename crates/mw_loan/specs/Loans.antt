@@ -1,5 +1,4 @@
--- Defines what a receipt of a box is.
--- Used by: the contracts of src/loan_box.rt. A change here changes what these contracts say.
+-- Defines what a receipt of a box is. Used by: src/loan_box.rt, mw_engine.
 use Rattle.std.specs.Prelude.{◌≡◌}
 use Rattle.atomic_table.specs.Seated.{TableId}
 use Rattle.mw_loan.specs.declared.loan_box.Receipt.{Receipt}

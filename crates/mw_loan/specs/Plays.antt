@@ -1,5 +1,5 @@
 -- Defines what each step on a box tells: of the step, the seat before, the number found and the seat after.
--- Used by: the ghost types of src/rule.rt, specs/Loans, the contracts of src/loan_box.rt. A change here changes what these contracts say.
+-- Used by: src/rule.rt, src/loan_box.rt.
 use Rattle.std.specs.Prelude.{ℕ, ◌≡◌, ◌≢◌, [], ◌∷◌, Option, Some, None}
 use Rattle.atomic_table.specs.Table.{Me, Step}
 use Rattle.mw_loan.specs.declared.views.Role.TheVariants.{Owner, Borrower, Opener}

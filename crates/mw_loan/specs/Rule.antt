@@ -1,6 +1,6 @@
--- Defines the rule (invariant) of a box: where its value is, by the box's number, and what each thread is to it. A value in the box goes on
--- from what its owner left.
--- Used by: the ghost types of src/rule.rt, specs/Plays, the contracts of src/loan_box.rt. A change here changes what these contracts say.
+-- Defines the rule (invariant) of a box: where its value is, by the box's number, and what each thread is to it. A value in
+-- the box goes on from what its owner left.
+-- Used by: src/rule.rt, src/loan_box.rt.
 use Rattle.std.specs.Prelude.{ℕ, zero, suc, ◌≡◌, Bool, true, false, [], ◌∷◌, Option, Some, None}
 use mathlib.Core.Option.{some, none}
 use lib.ListN.{get_elem?}

@@ -1,6 +1,4 @@
 //! Tests what no contract says: when a call gives something.
-//!
-//! Nothing else uses it: it may change with what it tests.
 ghost use Rattle.std.specs.Prelude.{◌≤◌};
 
 use crate::{Kept, Lasting, LoanBox};

@@ -1,7 +1,6 @@
 -- In every run of the store alone (the sequential specification), its words and jobs stay well formed, and no more slots are
 -- used than the quota.
--- Used by: the proofs of words_stay_words and used_stays_within, mw_law_store, among others. Its statements may change with
--- mw_law_store and mw_world; its proofs may change freely.
+-- Used by: words_stay_words, used_stays_within, mw_world, mw_law_store, among others.
 use Rattle.std.specs.Prelude.{ℕ, ◌≡◌, ◌≤◌, ◌+◌, ◌-◌, ◌&&◌, not, Bool, true, false, List, [], ◌∷◌, ◌++◌, length, Option, Some, None, IsTrue, nat_lt, if◌then◌else◌}
 use Rattle.std.specs.Option.{option_and_then, option_map, option_map_or, option_to_list, unwrap_or}
 use Rattle.std.proofs.Common.{refl, sym, ap, subst, ◌∙◌, arith, append_assoc, append-nil}

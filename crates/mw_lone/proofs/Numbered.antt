@@ -1,5 +1,5 @@
 -- A change of the list of requests that `Requests` keeps is the same change of the map from request numbers in `specs/Store`.
--- Used by: the proofs of the calls of Requests. It may change freely as long as this crate checks.
+-- Used by: calls of Requests.
 use Rattle.std.proofs.Common.{◌≡◌, ◌≢◌, ℕ, zero, suc, ◌+◌, ◌-◌, ◌<◌, ◌≤◌, Bool, true, false, cond, ◌&&◌, List, [], ◌∷◌, ◌++◌, length, refl, sym, ap, ◌∙◌, arith, Option, Some, None, inl, inr, length-append, get_or, IsSome, IsSomeAnd, IfSome, subst}
 use Rattle.std.proofs.lemmas.Option.{none-some, same_Some, slice_get_within, slice_get_past, slice_get_read, get_or_from_slice_get}
 use Rattle.std.proofs.lemmas.Bool.{cases_lt, cases_eq}

@@ -1,5 +1,4 @@
--- A store's quota is the one that the last start gave: no other mark (event) changes it.
--- Used by: the proof of quotas_are_of_starts. It may change freely as long as this crate checks.
+-- A store's quota is the one that the last start gave: no other mark (event) changes it. Used by: quotas_are_of_starts.
 use Rattle.std.specs.Prelude.{ℕ, ◌≡◌, ◌&&◌, Bool, true, false, List, [], ◌∷◌, Option, Some, None, if◌then◌else◌}
 use Rattle.std.specs.Option.{option_and_then}
 use Rattle.std.specs.List.{slice_get}

@@ -1,5 +1,5 @@
 -- Two small facts for the calls of the store alone: about an element that was found, and about a list that is written back.
--- Used by: the proofs of Lone's calls. It may change freely as long as this crate checks.
+-- Used by: calls of Lone.
 use Rattle.std.proofs.Common.{◌≡◌, ℕ, List, ◌++◌, length, sym, subst, arith, Option, Some, IfSome, take, drop, length-append, length-drop, length-take}
 
 -- a fact of the value that is there

@@ -1,5 +1,5 @@
 -- Defines when the list of requests in code represents the map from request numbers in Store.
--- Used by: the contracts of asked.rt. It may change with src/asked.rt.
+-- Used by: asked.rt. It may change with src/asked.rt.
 use Rattle.std.specs.Prelude.{ℕ, ◌+◌, ◌≤◌, ◌&&◌, ◌^◌, ◌<◌, not, Bool, List, [], ◌∷◌, length}
 use Rattle.std.specs.List.{count_by}
 use Rattle.std.specs.Ordering.{nat_cmp}

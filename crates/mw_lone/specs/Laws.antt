@@ -1,5 +1,5 @@
 -- Claims what holds after every run of the store alone: of its words, its slots, its quota and its replies.
--- Used by: mw_law_store, the contracts of laws.rt. A change here changes these laws, which the laws of histories rest on.
+-- Used by: mw_law_store, laws.rt. A change here changes these laws, which the laws of histories rest on.
 use Rattle.std.specs.Prelude.{ℕ, ◌≡◌, ◌≤◌, Bool, true, List, [], ◌∷◌, ◌++◌, length, Some}
 use Rattle.std.specs.Option.{option_and_then, option_to_list}
 use Rattle.mw_words.specs.Change.{AreWords}

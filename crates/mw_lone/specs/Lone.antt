@@ -1,5 +1,5 @@
 -- Defines the store that a `Lone` in code represents, and how its calls answer a legal or an illegal mark.
--- Used by: the contracts of store.rt. It may change with src/store.rt. Store says what is legal.
+-- Used by: store.rt. It may change with src/store.rt. Store says what is legal.
 use Rattle.std.specs.Prelude.{◌-◌, ◌^◌, ◌≡◌, ◌==◌, ◌||◌, Bool, true, false, Option, Some, None, Result, Ok, Err, is_none}
 use Rattle.std.specs.Option.{option_map}
 use Rattle.mw_words.specs.declared.replies.Reply.{Reply}

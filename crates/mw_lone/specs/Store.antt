@@ -1,8 +1,7 @@
 -- Defines the store alone, the sequential specification of one tenant: which mark (event) is legal when, and what it does to
 -- words and requests.
--- Used by: Asked, Laws, Lone, Sound, 7 crates from mw_plain on, the contracts of asked.rt and store.rt. Every part of the
--- server is measured by it: a change here changes what every reply means. CONTRIBUTING lists what a new mark needs.
--- docs/HOW-IT-IS-PROVED and docs/THEOREM refer to it.
+-- Used by: many crates from mw_plain on, asked.rt, store.rt. A change here changes what every reply means
+-- (docs/HOW-IT-IS-PROVED, docs/THEOREM). CONTRIBUTING lists what a new mark needs.
 use Rattle.std.specs.Prelude.{ℕ, ◌+◌, ◌-◌, ◌==◌, ◌&&◌, ◌||◌, not, Bool, true, false, List, [], ◌∷◌, ◌++◌, length, nat_le, nat_lt, is_some, is_none, Option, Some, None, IsSome, slice_get, if◌then◌else◌}
 use Rattle.std.specs.Option.{option_and_then, option_map, option_map_or, option_to_list, unwrap_or}
 use Rattle.std.specs.Ordering.{nat_cmp}

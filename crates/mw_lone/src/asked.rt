@@ -1,6 +1,6 @@
 //! The list of the requests that a store alone was asked since its last start, in the order of their numbers.
 //!
-//! Only `store.rt` uses it. It may change with `specs/Asked`, as long as `Lone` keeps its contracts.
+//! Only `store.rt` uses it. Change it with `specs/Asked`.
 ghost use Rattle.std.specs.Prelude.{◌≡◌, ◌+◌, ◌-◌, ◌<◌, ◌&&◌, OnOk, OnErr, IsSome, IsSomeAnd, IfSome, IsTrue, true, not, length, slice_get};
 ghost use Rattle.std.specs.Option.{option_map};
 ghost use Rattle.std.specs.FinMap as map;

@@ -1,7 +1,6 @@
-//! Laws of every run of the store alone, as contracts of empty functions: of its words, its slots and its quota.
+//! Laws of every run of the store alone (contracts of empty functions): of its words, its slots and its quota.
 //!
-//! Proofs of mw_world, mw_law_store and mw_plain, among others, cite the lemmas behind them. No code calls them. They may
-//! change with `specs/Laws` and these proofs.
+//! mw_world, mw_law_store and mw_plain, among others, cite the lemmas behind them. Change them with `specs/Laws`.
 ghost use Rattle.mw_lone.specs.Laws.{RunExtends, RepliesExtend, WordsStayWords, UsedStaysWithin, QuotasAreOfStarts};
 
 /// One more mark at the end of a list: the store is the one after that mark, and the replies are those of the list

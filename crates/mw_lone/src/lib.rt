@@ -1,9 +1,8 @@
 //! The store alone, the sequential specification of one tenant: its words and requests, slow and plain. Every other
 //! part of the server is measured by it.
 //!
-//! No server runs a [`Lone`]: tests do. Other crates cite `specs/Store`, which the code is proved to follow, and use
-//! [`Mark`]. A change of `specs/Store` changes what every reply means; CONTRIBUTING lists under *A mark* what a new
-//! mark needs.
+//! Only tests run a [`Lone`]. Other crates cite `specs/Store`, which the code is proved to follow, and use [`Mark`].
+//! A change of `specs/Store` changes what every reply means; CONTRIBUTING lists under *A mark* what a new mark needs.
 #![tactic(auto)]
 
 mod asked;

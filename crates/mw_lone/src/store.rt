@@ -1,7 +1,7 @@
 //! The store alone (the sequential specification of one tenant) as a program that tests can run, mark by mark.
 //!
-//! Only tests run it (mw_store_tests, mw_world_trials). It may change as long as each call does what `specs/Store`
-//! says. docs/PROMISES cites `Lone::mark`.
+//! Used by: mw_store_tests, mw_world_trials. Each call must do what `specs/Store` says. docs/PROMISES cites
+//! `Lone::mark`.
 ghost use Rattle.std.specs.Prelude.{◌≡◌, ◌↔◌, length, IsTrue, IfOk, OnOk, OnErr, IfSome, IsErrOf, Some, None, if◌then◌else◌};
 ghost use Rattle.std.specs.Option.{option_map};
 ghost use Rattle.std.specs.List.{list_all};

@@ -1,6 +1,6 @@
 //! Reads and writes a tenant's words, one at a time, for the store alone (the reference model of a tenant's store).
 //!
-//! Used by `asked.rt` and `store.rt` alone: it may change freely as long as both check.
+//! Used by `asked.rt` and `store.rt` alone.
 ghost use Rattle.std.specs.Prelude.{◌≡◌, ◌<◌, length, IsTrue};
 ghost use Rattle.std.specs.List.{list_all};
 ghost use Rattle.mw_words.specs.Change as change;

@@ -1,7 +1,5 @@
--- A value of a shared place and its 64 bits determine each other, and a request that loads the bits is told the value. A read
--- whose numbers are in range asks for steps in range.
--- Used by: the law places_have_patterns, mw_rule, mw_law_runs, among others. Its statements may change with mw_actor, mw_core,
--- mw_rule, mw_law_runs, mw_table and mw_world_memory; its proofs may change freely.
+-- A value of a shared place and its 64 bits determine each other, and a request that loads the bits is told the value.
+-- Used by: places_have_patterns, many crates from mw_actor on, among others.
 use Rattle.std.specs.Prelude.{ℕ, ◌≡◌}
 use Rattle.std.specs.Option.{option_map_or}
 use Rattle.std.proofs.Common.{refl, ap, arith}

@@ -1,6 +1,6 @@
--- The numbers that a read keeps (slot, sequence number, entry, value) stay in range from each point of its program to the next.
--- Used by: the proof of Look::tell_observation, RunLaws, mw_actor, among others. Its statements may change with mw_actor,
--- mw_core, mw_engine, mw_law_runs, mw_law_store and mw_rule; its proofs may change freely.
+-- The numbers that a read keeps (slot, sequence number, entry, value) stay in range from each point of its program to the
+-- next.
+-- Used by: Look::tell_observation, many crates from mw_actor on.
 use Rattle.std.specs.Prelude.{◌≡◌, ℕ, ◌<◌, ◌-◌, ◌==◌, Bool, true, false, cond, nat_lt, Some, None, IfSome}
 use Rattle.std.specs.declared.option.Option.{Option}
 use Rattle.std.proofs.Common.{refl, sym, subst, arith}

@@ -1,6 +1,6 @@
 -- Every run of a read changes only pins and what frees a slot, and stays at its word. It reads under its pin, and gives all
 -- back before it replies.
--- Used by: the laws about reads, ValueLaws, mw_core. Its statements may change with mw_core; its proofs may change freely.
+-- Used by: the laws about reads, mw_core.
 use Rattle.std.specs.Prelude.{◌≡◌, ℕ, ◌+◌, ◌-◌, ◌==◌, ◌&&◌, ◌⊎◌, Bool, true, false, cond, nat_lt, nat_le, List, [], ◌∷◌, Some, None, IfSome}
 use Rattle.std.specs.declared.option.Option.{Option}
 use Rattle.std.proofs.Common.{refl, sym, ap, subst, inl, inr, arith}

@@ -1,5 +1,5 @@
 -- A read's reply is the value that it just loaded from the word, or that other loads told before it saw the same word again.
--- Used by: the law replies_are_of_the_word. It may change freely as long as this crate checks.
+-- Used by: replies_are_of_the_word.
 use Rattle.std.specs.Prelude.{◌≡◌, ◌≢◌, ℕ, ◌+◌, ◌-◌, ◌==◌, ◌&&◌, ◌⊎◌, not, Bool, true, false, cond, nat_lt, List, [], ◌∷◌, Some, None}
 use Rattle.std.specs.declared.option.Option.{Option}
 use Rattle.std.proofs.Common.{refl, sym, ap, ◌∙◌, subst, inl, inr, arith}

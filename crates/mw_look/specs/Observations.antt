@@ -1,6 +1,5 @@
 -- Defines what a request is told of its step: the value that the step found at its place.
--- Used by: PlacePatterns, 13 crates from mw_actor on, the contracts of look.rt and observations.rt. A change here changes every
--- request's program.
+-- Used by: many crates from mw_actor on, look.rt, observations.rt. A change here changes every request's program.
 use Rattle.std.specs.Prelude.{ℕ, ◌^◌, ◌<◌}
 use Rattle.std.specs.Option.{option_map_or}
 use Rattle.mw_words.specs.declared.places.At.{At}

@@ -1,5 +1,6 @@
--- Claims that a value of a shared place and its 64 bits determine each other. A request that loads the bits is told the value.
--- Used by: the contracts of laws.rt. A change here changes this law alone. The patterns are in mw_words.
+-- Claims that a value of a shared place and its 64 bits (mw_words) determine each other, and that a request that loads the
+-- bits is told the value.
+-- Used by: laws.rt.
 use Rattle.std.specs.Prelude.{◌≡◌, ◌^◌, ◌<◌, Some}
 use Rattle.mw_words.specs.declared.places.At.{At}
 use Rattle.mw_look.specs.Places.{Val, Fits, pack, unpack, nil}

@@ -1,6 +1,6 @@
 -- Defines which values each place of 64 bits that workers share may have, and their bits.
--- Used by: Observations, PlacePatterns, Steps, 11 crates from mw_world on. A new place of a shared word needs a case here, its
--- bits in mw_words, and an index in mw_rule (index_of).
+-- Used by: many crates from mw_world on. A new place of a shared word needs a case here, its bits in mw_words, and an index
+-- in mw_rule (index_of).
 use Rattle.std.specs.Prelude.{ℕ, ◌^◌, ◌<◌, false, Some}
 use Rattle.std.specs.declared.option.Option.{Option}
 use Rattle.mw_words.specs.declared.places.At.{At}

@@ -1,6 +1,6 @@
--- Defines the program of a read (a state machine): its step at each point, and where it goes from there.
--- Used by: Runs, 11 crates from mw_actor on, the contracts of look.rt and points.rt. It is the algorithm of a read: src/look.rt
--- is proved to follow it, and laws in the crates above are about it.
+-- Defines the program of a read (a state machine), its algorithm: its step at each point, and where it goes from there.
+-- Used by: many crates from mw_actor on, look.rt, points.rt. src/look.rt and laws in the crates above must be proved again
+-- after a change.
 use Rattle.std.specs.Prelude.{ℕ, ◌+◌, ◌-◌, ◌<◌, ◌==◌, ◌&&◌, not, Bool, true, false, cond, nat_lt, Some, None}
 use Rattle.std.specs.declared.option.Option.{Option}
 use Rattle.mw_words.specs.declared.limits.TheConstants.{MAX_ENTRIES, WORN_NUMBER}

@@ -1,6 +1,5 @@
 -- Defines whole runs of a read, and claims what holds of every run, whatever its steps find.
--- Used by: 8 crates from mw_actor on, the contracts of laws.rt. A change here changes what holds of every read, on which laws
--- in the crates above rest.
+-- Used by: many crates from mw_actor on, laws.rt. Laws in the crates above rest on it.
 use Rattle.std.specs.Prelude.{ℕ, ◌≡◌, ◌+◌, ◌==◌, ◌≤◌, Bool, true, false, cond, List, [], ◌∷◌, ◌⊎◌, Some, None}
 use Rattle.std.specs.declared.option.Option.{Option}
 use Rattle.mw_words.specs.declared.places.At.{At}

@@ -1,5 +1,5 @@
 -- Defines how each kind of step changes its word: as an exchange, a store or a fetch.
--- Used by: 9 crates from mw_world on, the contracts of steps.rt. A new Kind is an exchange if no case here says otherwise.
+-- Used by: many crates from mw_world on, steps.rt. A new Kind is an exchange if no case here says otherwise.
 use Rattle.mw_look.specs.declared.steps.Kind.{Kind}
 use Rattle.mw_look.specs.declared.steps.Kind.TheVariants.{Fill as FillKind, Unpin as UnpinKind, Free as FreeKind, Drop as DropKind, Row as RowKind, Fault as FaultKind}
 use Rattle.mw_look.specs.declared.steps.Shape.{Shape}

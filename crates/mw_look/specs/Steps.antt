@@ -1,6 +1,6 @@
 -- Defines the steps that a request's program asks for, with values in place of their 64 bits.
--- Used by: Program, Runs, 15 crates from mw_actor on, the contracts of look.rt and steps.rt. A new kind of step needs a case
--- here, in src/steps.rt, and wherever the world makes steps (mw_world).
+-- Used by: many crates from mw_actor on, look.rt, steps.rt. A new kind of step needs a case here, in src/steps.rt, and
+-- wherever the world makes steps (mw_world).
 use Rattle.std.specs.Prelude.{ℕ}
 use Rattle.mw_words.specs.declared.places.At.{At}
 use Rattle.mw_words.specs.declared.places.At.TheVariants.{Status as AtStatus}

@@ -1,9 +1,8 @@
-//! Laws (theorems, as contracts of empty functions) of the bits in shared words, and of every run of a read, whatever
-//! its steps find.
+//! Laws (contracts of empty functions) of the bits in shared words, and of every run of a read, whatever its steps
+//! find.
 //!
-//! No code calls them. Proofs of mw_law_runs, mw_rule and others cite the lemmas behind `places_have_patterns`, and mw_core
-//! lemmas behind `reads_stay_at_their_word`. A statement may change with its definition in `specs/PlacePatterns` or
-//! `specs/Runs`, and with these proofs. docs/STEPS refers to the laws.
+//! mw_law_runs, mw_rule and others cite the lemmas behind `places_have_patterns`, mw_core those behind
+//! `reads_stay_at_their_word`. Change them with `specs/PlacePatterns` or `specs/Runs`. docs/STEPS refers to the laws.
 ghost use Rattle.mw_look.specs.PlacePatterns.{PacksFit, PacksAreUnpacked, PacksAreApart, PacksAreSeen, NilIsZero};
 ghost use Rattle.mw_look.specs.Runs.{ReadsChangeOnlyPins, ReadsStayAtTheirWord, ReadsAreUnderPin, PinsAreHeldUntilTakenBack, RepliesGiveBack, RepliesStay, RepliesAreOfTheWord};
 

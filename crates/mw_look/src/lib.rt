@@ -1,14 +1,14 @@
 //! The program of a read as a state machine, and the types of all requests' steps on shared words.
 //!
-//! Many requests work on the shared words at once. A request is a machine: it asks for its next step, a worker
-//! makes that step on the shared words, and tells the machine what the step found.
+//! A request is a machine: it asks for its next step, a worker makes that step on the shared words, and tells the
+//! machine what it found.
 //!
-//! The definitions, in the order of reading: `specs/Places` and `specs/Observations` (the value at a place, its
-//! bits, and what a machine is told of them), `specs/Steps` (what a machine asks for), `specs/Program` (a
-//! read). The claims: `specs/PlacePatterns` about places, `specs/Runs` about the runs of a read.
+//! Read `specs/Places` and `specs/Observations` (the value at a place, its bits, and what a machine is told of them),
+//! `specs/Steps` (what a machine asks for) and `specs/Program` (a read). `specs/PlacePatterns` claims facts about
+//! places, `specs/Runs` about the runs of a read.
 //!
-//! mw_actor has a read in each request, and all crates of the core speak of steps in these types. A change of
-//! `specs/Program` changes the algorithm of a read, and the laws of the world about it.
+//! Used by: mw_actor, which has a read in each request, and all crates of the core. A change of `specs/Program`
+//! changes the algorithm of a read, and its laws.
 #![tactic(auto)]
 
 mod laws;

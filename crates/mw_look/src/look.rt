@@ -1,8 +1,7 @@
-//! Finds the value of one word for a read, whatever others do to the word meanwhile. It is a state machine that asks
-//! for one step at a time.
+//! Finds the value of one word for a read, whatever others do to the word meanwhile: a state machine that asks for
+//! one step at a time.
 //!
-//! An `Actor` (mw_actor) has one while its job is a read. It may change as long as it asks and goes on as
-//! `specs/Program` says.
+//! Used by: mw_actor (`Actor`). It must ask and go on as `specs/Program` says.
 ghost use Rattle.std.specs.Prelude.{◌≡◌, ◌<◌};
 ghost use Rattle.mw_look.specs.Steps.{StepFits, op_of, place};
 ghost use Rattle.mw_look.specs.Observations.{IsObservationInRange, observation_of};

@@ -1,8 +1,7 @@
 //! Begins every program: holds the standard streams open, reads the command line as texts, and gives the exit status.
-//! The version that all programs tell is here too.
+//! It has the version that all programs tell.
 //!
-//! Used by: the five programs; mw_config, mw_file_command, mwbench and mw_init, for the version. A change here changes all five
-//! programs.
+//! Used by: the five programs; mw_config, mw_file_command, mwbench and mw_init, for the version.
 #![tactic(auto)]
 
 mod program;

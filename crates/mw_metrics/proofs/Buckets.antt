@@ -1,5 +1,5 @@
 -- The buckets of a histogram one at a time: the line of the next one, and how many durations are in those before it.
--- Used by: the proof of put_buckets. It may change freely as long as this crate checks.
+-- Used by: put_buckets.
 use Rattle.std.proofs.Common.{◌≡◌, ℕ, ◌+◌, ◌-◌, ◌^◌, ◌<◌, ◌≤◌, List, [], ◌∷◌, ◌++◌, length, get_or, take, drop, min, sum, decimal, codes, refl, ap, sym, ◌∙◌, arith, append_assoc, append-nil}
 use Rattle.std.proofs.lemmas.List.{drop_more}
 use Rattle.std.proofs.lemmas.List.Sums.{sum_by_more}

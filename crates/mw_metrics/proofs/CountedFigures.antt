@@ -1,6 +1,6 @@
 -- When a loop puts what was counted for a tenant beside its figures, all figures stay in their order: those of the tenants so
 -- far, and those that are left.
--- Used by: the proof of Meters::counted. It may change freely as long as this crate checks.
+-- Used by: Meters::counted.
 use Rattle.std.proofs.Common.{◌≡◌, refl, ap, sym, ◌∙◌, List, [], ◌∷◌, ◌++◌, map, Result, Ok, Err, is_ok, is_err, false, if◌then◌else◌}
 use Rattle.mw_report.specs.declared.figures.TenantFigures.{TenantFigures}
 use Rattle.mw_metrics.specs.declared.figures.TenantMetrics.{TenantMetrics}

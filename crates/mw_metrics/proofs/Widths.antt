@@ -1,5 +1,5 @@
 -- Numbers are printed in so many digits: nine below a second's nanoseconds, twenty in 64 bits.
--- Used by: the proofs of samples.rt and families.rt. It may change freely as long as this crate checks.
+-- Used by: samples.rt, families.rt.
 use Rattle.std.proofs.Common.{ℕ, ◌≤◌, ◌<◌, ◌^◌, length, decimal, arith}
 use Rattle.std.proofs.lemmas.Fmt.{length-decimal-le}
 

@@ -1,5 +1,5 @@
 -- Defines under which kind a request and its reply are counted, and what the text of a server's figures is of.
--- Used by: the contracts of src/counted.rt and src/meters.rt. A change here changes what a scraper reads.
+-- Used by: src/counted.rt, src/meters.rt, mw_server_pages. A change here changes what a scraper reads.
 use Rattle.std.specs.Prelude.{◌≡◌, ℕ, List, map}
 use Rattle.mw_words.specs.declared.jobs.Job.{Job}
 use Rattle.mw_words.specs.declared.jobs.Job.TheVariants as job

@@ -1,4 +1,6 @@
 //! Writes all figures in the text format of Prometheus.
+//!
+//! Used by: `meters`. Change it with `specs/Figures`.
 ghost use Rattle.std.specs.Prelude.{◌≡◌, ◌+◌, ◌≤◌, length, IfOk};
 ghost use Rattle.mw_words.specs.declared.limits.TheConstants.{MAX_TENANTS};
 ghost use Rattle.mw_metrics.specs.Figures as spec;

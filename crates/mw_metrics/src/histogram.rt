@@ -1,4 +1,6 @@
 //! A histogram of durations: how many were in each bucket, and their sum.
+//!
+//! Used by: `counters`, `figures`, `histogram_lines`.
 ghost use Rattle.std.specs.Prelude.{ℕ, ◌≡◌, ◌<◌, ◌≤◌, length, slice_index};
 
 /// How many buckets have a bound.

@@ -1,4 +1,6 @@
 //! Writes the samples of a histogram: its buckets, the sum of its durations and their number.
+//!
+//! Used by: `tenant_lines`. Change it with `specs/Figures`.
 ghost use Rattle.std.specs.Prelude.{◌≡◌, ◌+◌, ◌*◌, ◌<◌, ◌≤◌, [], ◌∷◌, ◌++◌, length, codes, decimal};
 ghost use Rattle.mw_metrics.specs.Exposition.{label, sample, seconds};
 ghost use Rattle.mw_metrics.specs.Figures as spec;

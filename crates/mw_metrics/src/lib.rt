@@ -1,16 +1,15 @@
 //! Counts what a server does, and writes the figures in the text format of Prometheus.
 //!
-//! A program makes one [`Meters`] before it opens a file, and lends it to all that counts: mw_opening counts the calls of
-//! the devices, mw_service the requests and the passes, and mw_connections the connections and their bytes. Nothing below
-//! them counts. A [`Stopwatch`] tells how long something took. [`Meters::text`] writes all figures for a scraper.
+//! A program makes one [`Meters`] before it opens a file, and lends it to all that counts. mw_opening counts the
+//! calls of the devices, mw_service the requests and the passes, and mw_connections the connections and their bytes.
+//! A [`Stopwatch`] tells how long something took.
 //!
-//! Threads share the [`TenantCounters`] and the [`ServerCounters`] of the meters, and record what happens by calls on a `&`.
-//! Each call is one or a few additions to a shared number: no lock, no memory, no wait. [`metrics_text`] writes what they
-//! have counted, with the figures of the moment, of which mw_report has those of a tenant.
+//! Threads record what happens by calls on a `&` of [`TenantCounters`] and [`ServerCounters`]: one or a few additions
+//! each, with no lock, no memory, no wait. [`metrics_text`] writes what they have counted, with the figures of the
+//! moment.
 //!
-//! `specs/Exposition` defines the format, `specs/Names` the names, and `specs/Figures` the text. `specs/Counted` says under
-//! which kind a request and a reply are counted. No proof says what a shared number holds: that each record is counted
-//! where it belongs is tested.
+//! `specs/Exposition` defines the format, `specs/Names` the names, `specs/Figures` the text, and `specs/Counted`
+//! under which kind a request and a reply are counted. That each record is counted where it belongs is tested.
 #![tactic(auto)]
 
 mod counted;

@@ -1,4 +1,6 @@
 //! Writes one sample of a metric: its name, its labels and its value, in a line.
+//!
+//! Used by: what writes lines. Change it with `specs/Exposition`.
 ghost use Rattle.std.specs.Prelude.{◌≡◌, ◌+◌, ◌*◌, ◌≤◌, [], ◌∷◌, ◌++◌, length, codes, ◌<◌, replicate, decimal};
 ghost use Rattle.mw_metrics.specs.Exposition.{escape, escaped, label, label_text};
 ghost use Rattle.mw_metrics.specs.Exposition as spec;

@@ -1,5 +1,5 @@
 -- What an opening after a sync gave is of its tenant's line, and one file more is of the next line.
--- Used by: the proofs of open_synced, open_fitting and open_files. It may change freely as long as this crate checks.
+-- Used by: open_synced, open_fitting, open_files.
 use Rattle.std.proofs.Common.{◌≡◌, ◌<◌, ℕ, zero, suc, ◌+◌, ◌++◌, ◌∷◌, [], Bool, true, false, IsTrue, List, length, take, slice_get, get_or, Option, Some, Vec, Result, Ok, Err, OnOk, IfOk, is_err, is_ok, ◌∙◌, ap, subst, sym, refl, arith}
 use Rattle.std.proofs.lemmas.Option.{none-some, same_Some, slice_get-get_or}
 use Rattle.std.specs.declared.alloc.Global.{Global}

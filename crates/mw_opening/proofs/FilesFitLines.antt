@@ -1,5 +1,5 @@
 -- An opened file that has its tenant's words and places fits the tenant's line, and one for each line fit all lines.
--- Used by: the proofs of open_files, open_synced and open_parts. It may change freely as long as this crate checks.
+-- Used by: open_files, open_synced, open_parts.
 use Rattle.std.proofs.Common.{◌≡◌, ◌≤◌, ℕ, zero, suc, ◌+◌, List, [], ◌∷◌, ◌++◌, Option, Some, Result, Ok, Err, OnOk, is_err, false, Vec, take, slice_get, get_or, length, ◌<◌, ◌∙◌, ap, subst, sym, refl, arith, IsTrue}
 use Rattle.std.specs.declared.alloc.Global.{Global}
 use Rattle.std.proofs.lemmas.Option.{none-some, same_Some, slice_get-get_or}

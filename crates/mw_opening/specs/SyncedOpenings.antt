@@ -1,8 +1,8 @@
--- Defines what a tenant's opened file was made of: of a disk over the file at the path of the tenant's line, by a sync and then an
--- opening.
--- Used by: the contracts of opening.rt, MadeOfOpened. A change here changes which files a server may hand to its engine.
--- docs/PROMISES cites `AreOfLines`. What `is_over` means is told by whoever opens the disks (`OpensDisks`). Of a file of the system
--- nothing is told: the library's contracts tie no file to a path.
+-- Defines what a tenant's opened file was made of: of a disk over the file at the path of the tenant's line, by a sync and
+-- then an opening.
+-- Used by: opening.rt. A change here changes which files a server may hand to its engine. docs/PROMISES cites `AreOfLines`.
+-- `OpensDisks` tells what `is_over` means; of a file of the system nothing is told, because the library's contracts tie no
+-- file to a path.
 use Rattle.std.specs.Prelude.{◌≡◌, ℕ, Bool, true, IsTrue, List, [], ◌∷◌, Option, Some, None, Ok, Vec}
 use Rattle.std.specs.declared.alloc.Global.{Global}
 use Rattle.mw_disk.specs.DeviceCalls.{DeviceCall, Sync}

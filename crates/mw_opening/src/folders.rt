@@ -1,6 +1,6 @@
 //! Syncs the folders of the tenants' files at a start, so that no crash from then on loses a file's name.
 //!
-//! Used by: mw_programs, once the files are open. It has no contracts. docs/OPERATING tells its note: change both together.
+//! Used by: mw_programs, once the files are open. It has no contracts. Change it with docs/OPERATING.
 use crate::notes::note_cause;
 use arrayvec::ArrayString;
 use log::{Log, warn};

@@ -1,6 +1,6 @@
 //! Writes notes for whoever runs the server, each on a line of its own.
 //!
-//! Used by: `opening`; mw_programs. It has no contracts, and may change freely. docs/OPERATING tells the limits at the top.
+//! Used by: `opening`; mw_programs. It has no contracts. docs/OPERATING tells the limits at the top.
 
 use arrayvec::ArrayVec;
 use jiff::Timestamp;

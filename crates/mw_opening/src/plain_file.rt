@@ -1,6 +1,6 @@
 //! Opens a file only if it is a plain one: the tenants file and the script.
 //!
-//! Used by: `opening`; mw_programs. It has no contracts, and may change freely.
+//! Used by: `opening`; mw_programs. It has no contracts.
 use std::fs::{self, File};
 use std::io;
 use std::rt::Files;

@@ -1,8 +1,8 @@
 //! Opens the disks of the tenants' files: what [`open_parts`](crate::open_parts) needs of whoever opens them, and the
 //! system's files, each under a lock.
 //!
-//! Used by: `opening`, `opened_parts`; mw_programs makes the [`LockedFiles`] of a server. A change of what [`OpensDisks`]
-//! promises changes what is known of the files that a server opens.
+//! Used by: `opening`, `opened_parts`; mw_programs makes the [`LockedFiles`]. [`OpensDisks`] says what is known of
+//! the files that a server opens.
 ghost use Rattle.std.specs.Prelude.{◌<◌, ℕ, List, IfOk};
 ghost use Rattle.mw_words.specs.declared.limits.TheConstants.{MAX_TENANTS};
 

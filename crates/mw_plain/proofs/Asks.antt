@@ -1,5 +1,4 @@
--- An ask of the plain store is answered as a start and then a finish of the store alone.
--- Used by: the proof of Plain::ask. It may change freely as long as this crate checks.
+-- An ask of the plain store is answered as a start and then a finish of the store alone. Used by: Plain::ask.
 use Rattle.std.proofs.Common.{◌≡◌, ℕ, false, List, [], length, Option, Some, None, IsTrue, refl, sym, subst, ◌∙◌, inl, inr}
 use Rattle.mw_disk.specs.Facts.{Facts}
 use Rattle.mw_disk.specs.Runs.{LeavesOnly}

@@ -1,5 +1,5 @@
 -- If the first entries of a change have their expected values, and the next one has, then one more has.
--- Used by: the proof of `first_miss`. It may change freely as long as this crate checks.
+-- Used by: `first_miss`.
 use Rattle.std.proofs.Common.{◌≡◌, ℕ, zero, suc, ◌+◌, ◌<◌, ◌==◌, true, List, [], ◌∷◌, length, take, get_or, refl, sym, subst, add-one, arith}
 use Rattle.std.proofs.lemmas.Bool.{and_parts, and_from}
 use Rattle.std.proofs.lemmas.Bool.Decides.{nat_tests}

@@ -1,5 +1,5 @@
 -- Proves `CallEnds.FinishEnds`, how the finish of a prepared change ends, for a tenant that has not faulted since the start.
--- Used by: the proofs of LoadedFile::change and LoadedFile::refuse. It may change freely as long as this crate checks.
+-- Used by: LoadedFile::change, LoadedFile::refuse.
 use Rattle.std.proofs.Common.{◌≡◌, ◌≢◌, ℕ, ◌+◌, ◌-◌, true, false, List, [], ◌∷◌, ◌++◌, suc, take, drop, length, Option, Some, None, Result, Ok, Err, is_err, IsTrue, IsSomeAnd, refl, sym, ap, subst, ◌∙◌, inl, inr, arith}
 use Rattle.std.specs.List.{slice_get}
 use Rattle.std.proofs.lemmas.List.{take_at}

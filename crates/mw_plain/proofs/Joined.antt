@@ -1,5 +1,4 @@
--- Two lists of marks, one after the other, do to a store alone what the joined list does.
--- Used by: Runs, the proof of marks_of_a_call. It may change freely as long as this crate checks.
+-- Two lists of marks, one after the other, do to a store alone what the joined list does. Used by: marks_of_a_call.
 use Rattle.std.specs.Prelude.{ℕ, ◌≡◌, List, [], ◌∷◌, ◌++◌, Option, Some, None}
 use Rattle.std.specs.Option.{option_and_then, option_map, option_to_list, unwrap_or}
 use Rattle.std.proofs.Common.{refl, sym, ap, ◌∙◌, append_assoc}

@@ -1,5 +1,5 @@
 -- Each tenant of a new plain store is made of its line and its opened file, and a store alone represents it.
--- Used by: the proof of Plain::new. It may change freely as long as this crate checks.
+-- Used by: Plain::new.
 use Rattle.std.proofs.Common.{◌≡◌, ℕ, zero, suc, ◌+◌, ◌<◌, ◌≤◌, List, [], ◌∷◌, ◌++◌, length, drop, get_or, slice_get, Option, Some, None, IsTrue, refl, sym, ap, subst, ◌∙◌, add-one, append_assoc, inl, inr, arith}
 use Rattle.std.specs.Prelude.{Vec}
 use Rattle.std.proofs.Math.Seq.{drop-cons}

@@ -1,7 +1,6 @@
 -- While fewer slots are in use than the quota, a file that has not failed has room for a change. No change is sealed between
 -- calls.
--- Used by: the proofs of Part::new, LoadedFile::admit, LoadedFile::change and LoadedFile::refuse. It may change freely as long
--- as this crate checks.
+-- Used by: Part::new, LoadedFile::admit, LoadedFile::change, LoadedFile::refuse.
 use Rattle.std.proofs.Common.{◌≡◌, ◌≢◌, ℕ, ◌+◌, ◌<◌, ◌≤◌, List, [], ◌∷◌, length, true, Some, IsSome, refl, sym, ap, ◌∙◌, inl, inr, arith}
 use Rattle.std.proofs.lemmas.Bool.{cases_eq, cases_lt, lt-ltb, and_parts}
 use Rattle.std.proofs.lemmas.Option.{slice_get_past}

@@ -1,5 +1,4 @@
--- After a crash, the store alone may start with the words that the tenant's file then has.
--- Used by: the proof of a_restart_goes_on. It may change freely as long as this crate checks.
+-- After a crash, the store alone may start with the words that the tenant's file then has. Used by: a_restart_goes_on.
 use Rattle.std.proofs.Common.{◌≡◌, ℕ, true, false, not, arith, List, [], ◌∷◌, Option, Some, None, Result, Ok, Err, IsTrue, refl, sym, ap, subst, ◌∙◌, inl, inr}
 use Rattle.std.specs.Prelude.{◌&&◌, Vec}
 use Rattle.std.proofs.lemmas.Bool.{cases_Bool}

@@ -1,6 +1,6 @@
 -- In each case in which a call may end, its marks are legal for the store alone, hand out its reply, and lead to the case's
 -- store.
--- Used by: Serves, Asks, TaskLaws, RestartedStores, the law marks_of_a_call. It may change freely as long as this crate checks.
+-- Used by: marks_of_a_call.
 use Rattle.std.proofs.Common.{◌≡◌, ◌≢◌, ℕ, ◌+◌, ◌-◌, ◌<◌, Bool, true, false, ◌&&◌, ◌==◌, not, List, [], ◌∷◌, ◌++◌, length, refl, sym, ap, subst, ◌∙◌, arith, Option, Some, None, inl, inr, IsSomeAnd, IsTrue, is_some, is_none}
 use Rattle.std.specs.Prelude.{if◌then◌else◌, nat_lt}
 use Rattle.std.proofs.lemmas.Bool.{cases_eq}

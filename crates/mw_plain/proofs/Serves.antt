@@ -1,5 +1,5 @@
 -- A call on the plain store does to one tenant what the call of that tenant does, and leaves all others as they were.
--- Used by: the proofs of Plain::start and Plain::finish. It may change freely as long as this crate checks.
+-- Used by: Plain::start, Plain::finish.
 use Rattle.std.proofs.Common.{◌≡◌, ◌≢◌, ℕ, ◌<◌, ◌≤◌, get_or, slice_get, List, length, Option, Some, is_some, IsTrue, refl, sym, ap, subst, ◌∙◌, inl, inr}
 use Rattle.std.proofs.Math.ListN.{set, length-set}
 use Rattle.std.proofs.lemmas.Bool.{cases_lt}

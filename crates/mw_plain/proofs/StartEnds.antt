@@ -1,6 +1,6 @@
 -- Proves `CallEnds.StartEnds` for the two starts that get a slot: `Prepared`, and `Unprepared` (the file failed; the reply is
 -- FAULT).
--- Used by: FinishEnds, the proof of LoadedFile::admit. It may change freely as long as this crate checks.
+-- Used by: LoadedFile::admit.
 use Rattle.std.proofs.Common.{◌≡◌, ℕ, ◌+◌, ◌<◌, true, false, length, Some, Result, Ok, Err, is_err, refl, sym, ap, ◌∙◌, inl, inr, arith}
 use Rattle.std.proofs.lemmas.Bool.{cases_eq}
 use Rattle.arrayvec.specs.ArrayVec.{ArrayVec}

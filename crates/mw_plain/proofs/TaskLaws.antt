@@ -1,5 +1,5 @@
 -- If tasks (jobs, each with its tenant) are asked one after the other, each tenant is served as its store alone serves.
--- Used by: the proof of Plain::run. It may change freely as long as this crate checks.
+-- Used by: Plain::run.
 use Rattle.std.proofs.Common.{◌≡◌, ◌≢◌, ℕ, suc, ◌+◌, ◌<◌, ◌==◌, true, false, List, [], ◌∷◌, ◌++◌, length, drop, get_or, Option, IsTrue, refl, sym, ap, subst, ◌∙◌, add-one, append_assoc, append-nil, inl, inr, arith}
 use Rattle.std.specs.Prelude.{if◌then◌else◌}
 use Rattle.std.proofs.Math.Seq.{drop-cons}

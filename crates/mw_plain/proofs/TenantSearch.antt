@@ -1,5 +1,4 @@
--- The search for a name finds the first tenant that has it.
--- Used by: the proof of Plain::find. It may change freely as long as this crate checks.
+-- The search for a name finds the first tenant that has it. Used by: Plain::find.
 use Rattle.std.proofs.Common.{◌≡◌, ℕ, ◌+◌, ◌<◌, ◌≤◌, List, length, slice_get, Option, Some, get_or, sym, ap, ◌∙◌, inl, inr, arith}
 use Rattle.std.proofs.lemmas.Bool.{cases_eq}
 use Rattle.std.specs.Option.{option_map, option_map_or}

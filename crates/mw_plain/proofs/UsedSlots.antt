@@ -1,5 +1,5 @@
 -- The tenants of a plain store use no more slots than the sum of their quotas, and the figures of its report keep the limits.
--- Used by: the proofs of Plain::figures and Plain::used. It may change freely as long as this crate checks.
+-- Used by: Plain::figures, Plain::used.
 use Rattle.std.proofs.Common.{◌≡◌, ℕ, zero, suc, ◌-◌, ◌≤◌, List, [], ◌∷◌, take, map, length, arith, sym, ap, subst, ◌∙◌}
 use Rattle.std.specs.Prelude.{All, Option, Some, None}
 use Rattle.std.proofs.lemmas.List.{length-map}

@@ -1,6 +1,5 @@
 -- Defines what the calls on a plain store promise: each tenant is answered, and left, as its store alone does it.
--- Used by: Made, Tasks, the contracts of restarts.rt and tenants.rt. The server does not use this crate: a change here changes
--- only what tests compare the engine with.
+-- Used by: restarts.rt, tenants.rt. A change here changes what tests compare the engine with.
 use Rattle.std.specs.Prelude.{◌≡◌, ◌≢◌, ℕ, false, List, length, Option, Some, None, is_some}
 use Rattle.mw_disk.specs.Facts.{Facts}
 use Rattle.mw_words.specs.declared.jobs.Entry.{Entry}

@@ -1,7 +1,5 @@
--- Names the parts of a tenant's loaded file (its open file, with its words in memory), also if there is none because the file
--- didn't open.
--- Used by: Answers, CallEnds, Quotas, Report, Tickets, the contracts of calls.rt, part.rt and serving.rt. It may change with
--- LoadedFile, in src/book.rt.
+-- Names the parts of a tenant's loaded file (its open file, with its words in memory), also if the file didn't open.
+-- Used by: calls.rt, part.rt, serving.rt. It may change with LoadedFile, in src/book.rt.
 use Rattle.std.specs.Prelude.{◌≡◌, ℕ, Bool, true, false, List, length, Option, Some, None}
 use Rattle.mw_words.specs.declared.jobs.Entry.{Entry}
 use Rattle.mw_file.specs.declared.place_states.Stage.TheVariants.{Prepared}

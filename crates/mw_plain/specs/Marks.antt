@@ -1,7 +1,6 @@
--- A call of the plain store (the store without threads) ends in one of several cases. This file claims of each case: its marks
--- (events) are legal for the store alone (the reference model), hand out the call's reply, and lead to the case's store.
--- Used by: Answers, Tasks, the contracts of laws.rt. A change here changes the law marks_of_a_call, by which the cases are tied
--- to mw_lone.
+-- Claims of each case in which a call of the plain store may end that its marks (events) are legal for the store alone, hand
+-- out the call's reply, and lead to the case's store.
+-- Used by: laws.rt. A change here changes the law marks_of_a_call.
 use Rattle.std.specs.Prelude.{ℕ, ◌≡◌, ◌≢◌, Bool, if◌then◌else◌, List, [], ◌∷◌, ◌++◌, length, Option, Some, IsTrue}
 use Rattle.std.specs.Option.{option_and_then, option_map, option_to_list}
 use Rattle.mw_words.specs.declared.jobs.Job.{Job}

@@ -1,7 +1,6 @@
--- Names the parts of a plain store, the store without threads with which tests compare the engine. The parts are its tenants by
--- number, and the words, quota (limit of changes under way) and loaded file of each.
--- Used by: Answers, Search, Tasks, Tickets, mw_store_tests, the contracts of restarts.rt, serving.rt and tenants.rt. They are
--- names for the fields of a tenant, for shorter contracts: a change here changes the contracts that cite them.
+-- Names the parts of a plain store: its tenants by number, and the words, quota (limit of changes under way) and loaded file
+-- of each.
+-- Used by: mw_store_tests, restarts.rt, serving.rt, tenants.rt.
 use Rattle.std.specs.Prelude.{List, ◌≡◌, ◌≢◌, ℕ, length, slice_get, Option}
 use Rattle.std.specs.Option.{option_and_then, option_map, option_map_or}
 use Rattle.mw_plain.specs.declared.book.LoadedFile.{LoadedFile}

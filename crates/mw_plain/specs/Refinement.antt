@@ -1,6 +1,6 @@
--- Defines when a store alone (the reference model) represents a tenant's loaded file, and what a crash during a call may leave
--- of that file.
--- Used by: Answers, CallEnds. Every call keeps this relation. A clause added here must also hold after a start (`Plain::new`).
+-- Defines when a store alone (the reference model) represents a tenant's loaded file, and what a crash during a call may
+-- leave of that file.
+-- Used by: Answers, CallEnds. Every call keeps this relation; a new clause must also hold after a start (`Plain::new`).
 use Rattle.std.specs.Prelude.{◌≡◌, ℕ, true, List, length, Option, Some, None, IsTrue}
 use Rattle.mw_disk.specs.Facts.{Facts}
 use Rattle.mw_disk.specs.Runs.{LeavesOnly}

@@ -1,5 +1,5 @@
 -- Defines with which words and quota a tenant's store alone may start after a crash.
--- Used by: the contracts of restarts.rt. A change here changes the law a_restart_goes_on.
+-- Used by: restarts.rt. A change here changes the law a_restart_goes_on.
 use Rattle.std.specs.Prelude.{◌≡◌, ◌≤◌, ℕ, Bool, List, [], length, Option, Some, Vec, Result, Ok, Err, IsTrue}
 use Rattle.std.specs.declared.alloc.Global.{Global}
 use Rattle.mw_disk.specs.Facts.{Facts, MayLeave}

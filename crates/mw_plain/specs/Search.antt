@@ -1,6 +1,5 @@
--- Defines which tenant of a plain store a name finds: the first tenant that has it. A plain store is the store without threads
--- with which tests compare the engine.
--- Used by: the contract of Plain::find. mw_engine has the same definition of its own tenants: change both together.
+-- Defines which tenant of a plain store a name finds: the first tenant that has it.
+-- Used by: Plain::find. mw_engine has the same definition of its own tenants: change both together.
 use Rattle.std.specs.Prelude.{◌≡◌, ◌≢◌, ◌<◌, ℕ, List, Some}
 use Rattle.mw_plain.specs.declared.plain.Plain.{Plain}
 use Rattle.mw_plain.specs.Parts.{tenants, name_at, words_at}

@@ -1,6 +1,5 @@
--- Defines when a ticket is valid. A ticket is what `start` gives for a change, and what `finish` uses up.
--- Used by the contracts of tenants.rt, and by Answers. A change here changes what `finish` may be called with, and what `start`
--- promises.
+-- Defines when a ticket, which `start` gives for a change and `finish` uses up, is valid.
+-- Used by: tenants.rt. A change here changes what `start` promises and `finish` requires.
 use Rattle.std.specs.Prelude.{◌<◌, IsTrue}
 use Rattle.mw_words.specs.Change.{is_change}
 use Rattle.mw_plain.specs.declared.plain.Plain.{Plain}

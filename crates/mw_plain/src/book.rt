@@ -1,6 +1,6 @@
 //! A tenant's file after it has opened, with its words in memory, the slots in use, and whether it has faulted.
 //!
-//! `calls.rt` changes it, and `opening.rt` makes it. A new field needs a value there, and a clause in
+//! `opening.rt` makes it, and `calls.rt` changes it. A new field needs a value in `opening.rt`, and a clause in
 //! `specs/Refinement` if the store alone knows of it.
 ghost use Rattle.std.specs.Prelude.{◌≡◌, ℕ, false, vec_len};
 ghost use Rattle.mw_file.specs.declared.place_states.Stage.TheVariants.{Sealed};

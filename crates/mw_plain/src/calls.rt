@@ -1,7 +1,6 @@
 //! Starts and finishes a change of one tenant whose file has opened, and answers its reads.
 //!
-//! `serving.rt` makes these calls, and `tenants.rt` reads what a start leaves to do. How the calls end is in
-//! `specs/CallEnds`: change both together.
+//! Used by: `serving.rt`, `tenants.rt`. Change it with `specs/CallEnds`.
 ghost use Rattle.std.specs.Prelude.{◌≡◌, ◌≤◌, false, Some, length, IsTrue};
 ghost use Rattle.mw_words.specs.Change.{is_change, is_well_formed, fits};
 ghost use Rattle.mw_plain.specs.Misses.{IsFirstMiss};

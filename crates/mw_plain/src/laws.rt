@@ -1,7 +1,6 @@
-//! The law that ties the calls of the plain store to the store alone of mw_lone, as the contract of an empty
-//! function.
+//! The law that ties the calls of the plain store to the store alone of mw_lone: the contract of an empty function.
 //!
-//! No code calls it, and no other crate cites it. It may change with `specs/Marks` and `specs/Cases`.
+//! Nothing calls it. Change it with `specs/Marks` and `specs/Cases`.
 ghost use Rattle.mw_plain.specs.Marks.{StartGoes, FinishGoes, AskGoes, AllGo, OneMoreFits, MayStop, RunsJoin, RepliesJoin};
 
 /// What each call of a plain store is to a tenant's store alone, by the case that the call comes to: the case's

@@ -3,11 +3,10 @@
 //!
 //! Two calls serve a change. `start` counts a slot of the tenant's quota for it, and prepares it in the tenant's
 //! file. `finish` compares the words, and then writes them or gives the change up. `ask` does both, and `run` asks
-//! for one job after the other. Each call is proved to answer as the tenant's store alone does, and to leave the
-//! same words, slots and fault, whatever the devices do. It leaves every other tenant as it was.
+//! for one job after the other. Each call is proved to answer as the tenant's store alone does, and to leave the same
+//! words, slots and fault, whatever the devices do. It leaves every other tenant as it was.
 //!
-//! The server doesn't use this crate, which has no threads: tests compare mw_engine with it. A new kind of job or
-//! mark begins in `specs/Cases`.
+//! Only tests use this crate. A new kind of job or mark begins in `specs/Cases`.
 #![tactic(auto)]
 
 mod book;

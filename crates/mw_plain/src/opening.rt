@@ -1,8 +1,7 @@
 //! Makes a plain store of its tenants' opened files, and takes it apart into their disks again.
 //!
-//! Only tests call `Plain::new` and `Plain::into_disks` (mw_store_tests, mw_engine_tests): the server serves by
-//! mw_engine. A new field of `Plain`, `Part` or `LoadedFile` needs a value here; `specs/Lines` says which value those
-//! of `Part` and `LoadedFile` have.
+//! Used by: mw_store_tests, mw_engine_tests. A new field of `Plain`, `Part` or `LoadedFile` needs a value here;
+//! `specs/Lines` says which.
 ghost use Rattle.std.specs.Prelude.{◌≡◌, ◌≤◌, length, map, IfOk};
 ghost use Rattle.mw_words.specs.declared.limits.TheConstants.{MAX_POOL, MAX_TENANTS};
 

@@ -1,7 +1,6 @@
 //! One tenant of a plain store: its name, its number of words, its quota, and its file if that opened.
 //!
-//! `opening.rt` makes it, and `serving.rt` has its calls. Only this crate sees it. A new field needs a clause in
-//! `specs/Lines`.
+//! `opening.rt` makes it, and `serving.rt` has its calls. A new field needs a clause in `specs/Lines`.
 ghost use Rattle.std.specs.Prelude.{◌≡◌, ◌≤◌};
 ghost use Rattle.mw_words.specs.declared.limits.TheConstants.{MAX_QUOTA, MAX_WORDS};
 ghost use Rattle.mw_plain.specs.Books.{used_in, words_in, places_in};

@@ -1,7 +1,6 @@
 //! The plain store of all tenants, which serves one call at a time.
 //!
-//! `opening.rt` makes it, and `tenants.rt` has its calls. mw_store_tests and mw_engine_tests use it; the server
-//! serves by mw_engine. A new field needs a value in `opening.rt`.
+//! Used by: mw_store_tests, mw_engine_tests. `tenants.rt` has its calls. A new field needs a value in `opening.rt`.
 ghost use Rattle.std.specs.Prelude.{◌≡◌, ◌≤◌, length, vec_capacity, vec_len};
 ghost use Rattle.mw_words.specs.declared.limits.TheConstants.{MAX_POOL, MAX_TENANTS};
 ghost use Rattle.mw_plain.specs.Quotas.{quotas_of};

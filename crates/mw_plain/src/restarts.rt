@@ -1,6 +1,6 @@
-//! The law that a tenant's store alone may start again from what a crash left, as the contract of an empty function.
+//! The law that a tenant's store alone may start again from what a crash left: the contract of an empty function.
 //!
-//! No code calls it, and no other crate cites it. It may change with `specs/Restarts`. docs/PROMISES cites it.
+//! Nothing calls it. Change it with `specs/Restarts`. docs/PROMISES cites it.
 ghost use Rattle.std.specs.Prelude.{◌≡◌, ℕ, Some, None, length, Result, Vec, IsTrue};
 ghost use Rattle.std.specs.declared.alloc.Global.{Global};
 ghost use Rattle.mw_disk.specs.Facts.{IsSynced, MayLeave};

@@ -1,7 +1,6 @@
 //! Serves one tenant of the plain store: its calls, and its figures for the report, also if its file didn't open.
 //!
-//! Called by `tenants.rt` alone, which finds the tenant. How the calls end is in `specs/CallEnds`: change both
-//! together.
+//! Used by: `tenants.rt`. Change it with `specs/CallEnds`.
 ghost use Rattle.std.specs.Prelude.{◌≡◌, not, IsTrue};
 ghost use Rattle.mw_words.specs.Change.{is_change, is_well_formed};
 ghost use Rattle.mw_plain.specs.Books.{used_in, faulted_in, places_in, IsPrepared};

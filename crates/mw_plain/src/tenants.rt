@@ -1,8 +1,8 @@
 //! The calls on the plain store: start, finish, ask, run, and the report's figures, each for the tenant that it
-//! names, and the search for a tenant's number by its name.
+//! names, and the search for a tenant by its name.
 //!
-//! mw_store_tests and mw_engine_tests make these calls. `specs/Answers` and `specs/Tasks` say what they promise:
-//! change them together. docs/PROMISES cites `ask`.
+//! Used by: mw_store_tests, mw_engine_tests. Change it with `specs/Answers` and `specs/Tasks`. docs/PROMISES cites
+//! `ask`.
 ghost use Rattle.std.specs.Prelude.{◌≡◌, ◌<◌, ◌≤◌, ◌-◌, map, IsTrue, IfOk, MatchOption, OnErr};
 ghost use Rattle.mw_report.specs.Table.{AreWithinLimits};
 ghost use Rattle.mw_words.specs.Change.{is_well_formed};

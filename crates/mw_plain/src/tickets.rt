@@ -1,8 +1,7 @@
 //! The values that the plain store's calls take and give: tasks, tickets of started changes, and what a start
 //! answers.
 //!
-//! `tenants.rt` gives and takes them. Only it makes a [`Ticket`], so that each ticket is of a change that was
-//! started. A new field or variant needs its value in `tenants.rt`.
+//! Used by: `tenants.rt`, which alone makes a [`Ticket`]. A new field or variant needs its value there.
 
 use mw_file::Place;
 use mw_words::{Entries, Job, Reply};

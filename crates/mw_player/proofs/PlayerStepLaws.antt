@@ -1,6 +1,5 @@
 -- Each event, step and line that a player plays extends its run by its events, and writes what they print.
--- Used by: the proofs of Player::happen, go_before, go, go_to, go_to_end and other functions. It may change freely as long as
--- this crate checks.
+-- Used by: Player::happen, go_before, go, go_to, go_to_end, among others.
 use Rattle.std.specs.Prelude.{ℕ, ◌≡◌, ◌++◌, Bool, List, [], ◌∷◌, Option, Result, Ok, Err, OnOk}
 use Rattle.std.proofs.Common.{refl, sym, ap, subst, ◌∙◌, append_assoc, append-nil}
 use Rattle.mw_world.specs.declared.config.Config.{Config}

@@ -1,5 +1,5 @@
 -- What a played schedule printed is the text of its run, and the replies are those of the tenants' stores alone.
--- Used by: the proofs of play_on and replay. It may change freely as long as this crate checks.
+-- Used by: play_on, replay.
 use Rattle.std.specs.Prelude.{ℕ, ◌≡◌, ◌≢◌, ◌<◌, ◌++◌, Bool, List, [], Option, Some, None, Result, Ok, Err, OnOk}
 use Rattle.std.specs.Io.KnownBytes.{Appends, Keeps}
 use Rattle.std.proofs.Common.{inl, inr, refl, sym, ap, subst, ◌∙◌, append-nil, arith}

@@ -1,5 +1,5 @@
 -- The line that the code makes for a reply or a claim is the one that `specs/Printed` says.
--- Used by: the proofs of Player::line_of_reply and Player::line_of_gate. It may change freely as long as this crate checks.
+-- Used by: Player::line_of_reply, Player::line_of_gate.
 use Rattle.std.specs.Prelude.{ℕ, ◌≡◌, ◌<◌, ◌==◌, ◌&&◌, Bool, true, if◌then◌else◌, nat_lt, List, [], ◌∷◌, Option, Some, None, Result, Ok, Err, IfOk}
 use Rattle.std.specs.Option.{option_map, option_to_list}
 use Rattle.std.proofs.Common.{sym, ap, ◌∙◌, append-nil, arith}

@@ -1,5 +1,4 @@
--- Pieces of a text that were written one after the other are a beginning of the text.
--- Used by: PlayerStepLaws, Served, the proof of write_whole. It may change freely as long as this crate checks.
+-- Pieces of a text that were written one after the other are a beginning of the text. Used by: write_whole.
 use Rattle.std.specs.Prelude.{ℕ, ◌≡◌, ◌≤◌, ◌-◌, ◌++◌, List, [], length, take, drop, Option, Some, None, Result, Ok, Err}
 use Rattle.std.specs.Result.{result_unwrap_or}
 use Rattle.std.specs.Io.{WritesAtMost}

@@ -1,6 +1,4 @@
--- Defines what a player's world and output are after one more step.
--- Used by: the contracts of src/lines.rt, src/player.rt and src/program.rt, specs/Replayed. A change here changes what these
--- contracts say.
+-- Defines what a player's world and output are after one more step. Used by: src/lines.rt, src/player.rt, src/program.rt.
 use Rattle.std.specs.Prelude.{ℕ, ◌≡◌, ◌++◌, Bool, true, List, [], ◌∷◌, Option, Result, Ok, Err, OnOk}
 use Rattle.std.specs.Io.KnownBytes.{Appends}
 use Rattle.mw_world.specs.declared.config.Config.{Config}

@@ -1,5 +1,4 @@
--- Defines where a worker of a world is.
--- Used by: RestartReasons, Reasons, the contracts of src/reasons.rt. A change here changes what these contracts say.
+-- Defines where a worker of a world is. Used by: src/reasons.rt.
 use Rattle.std.specs.Prelude.{ℕ, nat_lt, if◌then◌else◌, Option, Some, None}
 use Rattle.mw_words.specs.declared.replies.Reply.{Reply}
 use Rattle.mw_look.specs.Steps.{op_of}

@@ -1,7 +1,6 @@
 -- Defines what a run of a simulated world prints, in the order of its events: a line for each reply that is handed out. If
--- claims are printed, also a line for each claim that is won. A claim allocates a slot, the descriptor of a change.
--- Used by: the contracts of src/lines.rt and src/player.rt, specs/PlayerSteps, specs/Replayed. A change here changes what these
--- contracts say.
+-- claims are printed, there is one for each claim (allocation of a slot) that is won.
+-- Used by: src/lines.rt, src/player.rt.
 use Rattle.std.specs.Prelude.{ℕ, ◌==◌, ◌&&◌, ◌++◌, Bool, true, false, if◌then◌else◌, List, [], ◌∷◌, codes, decimal, Option, Some, None}
 use Rattle.std.specs.List.{flat_map}
 use Rattle.std.specs.Option.{option_map, option_to_list, unwrap_or}

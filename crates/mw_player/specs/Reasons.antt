@@ -1,6 +1,5 @@
 -- Defines the reason that is told of a line which was not played to its end.
--- Used by: the contracts of src/reasons.rt, src/player.rt and src/program.rt. A change here changes what these contracts say. A new
--- Reason needs its row in docs/SCHEDULES.
+-- Used by: src/reasons.rt, src/player.rt, src/program.rt. A new Reason needs its row in docs/SCHEDULES.
 use Rattle.std.specs.Prelude.{ℕ, ◌≡◌, ◌++◌, List, ◌∷◌}
 use Rattle.mw_world.specs.declared.config.Config.{Config}
 use Rattle.mw_world.specs.Definition.State.{State}

@@ -1,6 +1,5 @@
 -- Defines what playing a schedule prints, and that the replies are those of the tenants' stores alone.
--- Used by: the contracts of src/program.rt. A change here changes what these contracts say. The statuses are those of
--- docs/SCHEDULES, *What can be wrong*: change both together.
+-- Used by: src/program.rt. Change it with docs/SCHEDULES, *What can be wrong*, which has the statuses.
 use Rattle.std.specs.Prelude.{ℕ, ◌≡◌, ◌≢◌, ◌<◌, ◌++◌, ◌⊎◌, Bool, List, [], Result, Ok, Err, Option}
 use Rattle.std.specs.Io.KnownBytes.{Appends, Keeps}
 use Rattle.mw_world.specs.declared.events.Event.{Event}

@@ -1,5 +1,4 @@
--- Defines the reason that is told of a restart which can't be.
--- Used by: Reasons, the contracts of src/restarts.rt. A change here changes what these contracts say.
+-- Defines the reason that is told of a restart which can't be. Used by: src/restarts.rt.
 use Rattle.std.specs.Prelude.{ℕ, ◌+◌, ◌==◌, ◌&&◌, nat_le, nat_lt, Bool, true, false, if◌then◌else◌, List, [], ◌∷◌, Option, Some, None}
 use Rattle.std.specs.Option.{unwrap_or}
 use Rattle.mw_words.specs.declared.limits.TheConstants.{MAX_QUOTA}

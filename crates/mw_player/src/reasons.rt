@@ -1,7 +1,6 @@
 //! Tells why a line was not played to its end: where its worker is, or which part of a restart can't be.
 //!
-//! `program` tells the reason after the line's number. It decides that text alone, and not which line is played.
-//! `specs/Reasons` says when each reason comes: change both together, and docs/SCHEDULES.
+//! Used by: `program`, for the text after the line's number alone. Change it with `specs/Reasons` and docs/SCHEDULES.
 ghost use Rattle.std.specs.Prelude.{◌≡◌};
 ghost use Rattle.mw_world.specs.Definition.State.{State};
 ghost use Rattle.mw_simulator.specs.Representation.{Represents};

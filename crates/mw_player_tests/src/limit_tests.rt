@@ -1,20 +1,18 @@
 //! Tests how many steps one line of a schedule may make: 10,000.
 //!
-//! Nothing else uses it: it may change with what it tests.
-//!
 //! Here 17 changes of a tenant wait in a chain ([`CHAIN`]). Each has 16 words, and its last word is held for the next
-//! change. The first change is worker 0's, and the others wait. Worker 0 finishes the last one, begins again at
-//! its own, finishes the last but one, and so on. With d others docs/STEPS gives it so many steps, from its first
-//! `pin` to its reply:
+//! change. The first change is worker 0's, and the others wait. Worker 0 finishes the last one, begins again at its
+//! own, finishes the last but one, and so on. With d others docs/STEPS gives it so many steps, from its first `pin`
+//! to its reply:
 //!
 //! - On the way to the change k it turns k times to another's change. Each time it reads the gate, pins it, unpins the
-//! target before, and reads the count, 16 entries, the status and 16 words: 69 steps, but 68 the first time, which
-//! unpins nothing. Before each way but the first it reads its own status and words: 17.
+//!   target before, and reads the count, 16 entries, the status and 16 words: 69 steps, but 68 the first time, which
+//!   unpins nothing. Before each way but the first it reads its own status and words: 17.
 //! - It decides, seals, sweeps, settles, sweeps and unpins the last change, with loads of the status between: 71.
 //! - For each other change it first gets its last word, by `row`, `plant`, `load` and `resolve`, and then reads the
-//! status and 16 words again: 92.
+//!   status and 16 words again: 92.
 //! - For its own change it reads the status and words too, and at the end frees the slot and lowers the door: 111.
-//! The first gate was read before the first `pin`: 1 less.
+//!   The first gate was read before the first `pin`: 1 less.
 //!
 //! The sum is 69 d (d + 1) / 2 + 108 d + 72, which is 11,184 for 16 others. The first 1,139 of these steps end with
 //! the first settle, so 10,045 are left after `to 0 settle`. The last of them is the `drop`.

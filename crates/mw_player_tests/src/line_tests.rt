@@ -1,6 +1,6 @@
 //! Plays lines that can't be played to their end, and checks what is said about them.
 //!
-//! Used by: `replay_tests`. It may change freely as long as this crate checks and its tests pass.
+//! Used by: `replay_tests`.
 
 /// The first four lines of the schedules in which the lines below are played.
 pub const HEAD: &str = "pool 3\nworkers 2\ntenant t 2 2\ntenant u 1 1\n";

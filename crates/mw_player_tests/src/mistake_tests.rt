@@ -1,6 +1,6 @@
 //! Plays schedules whose output differs if the program of a request has a certain mistake.
 //!
-//! Used by: `replay_tests`. It may change freely as long as this crate checks and its tests pass.
+//! Used by: `replay_tests`.
 
 use crate::schedule_tests::Schedule;
 

@@ -1,6 +1,6 @@
 //! Tests what playing a schedule gives. A schedule is a text of the events of a world (a model of a whole server).
 //!
-//! Used by: `limit_tests`, `restart_tests`. It may change freely as long as this crate checks and its tests pass.
+//! Used by: `limit_tests`, `restart_tests`.
 ghost use Rattle.mw_schedule.specs.Playable.{IsSchedule};
 
 use crate::checks::{MEMORY, holds};

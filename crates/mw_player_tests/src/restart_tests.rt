@@ -1,7 +1,5 @@
 //! Tests restarts that give quotas, and files that no start has opened yet. Here a schedule is one line;
 //! `/` ends each of its own lines.
-//!
-//! Nothing else uses it: it may change with what it tests.
 
 use crate::checks::MEMORY;
 use crate::replay_tests::{add, play};

@@ -1,6 +1,6 @@
 //! The schedules that tests play, and what playing them must print.
 //!
-//! Used by: `mistake_tests`, `replay_tests`. It may change freely as long as this crate checks and its tests pass.
+//! Used by: `mistake_tests`, `replay_tests`.
 
 const OWN_QUOTA_BUSY: &str = "\
 pool 2

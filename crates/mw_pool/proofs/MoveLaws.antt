@@ -1,7 +1,6 @@
 -- The functions of `specs/Moves` (admit, claim, pin, unpin, free) give exactly the doors (admission counters) and gates
 -- (reference counts with a version) that its relations allow, in range. One pin less is 2^48 less in a gate's bits.
--- Used by: mw_look, mw_actor, mw_law_runs. Its statements may change with mw_actor, mw_law_runs and mw_look; its proofs may
--- change freely.
+-- Used by: mw_look, mw_actor, mw_law_runs.
 use Rattle.std.specs.Prelude.{◌≡◌, ℕ, ◌+◌, ◌^◌, ◌<◌, ◌≤◌, ◌==◌, ◌&&◌, Bool, true, false, not, cond, nat_lt, nat_le, Some, None, IfSome}
 use Rattle.std.proofs.Common.{refl, arith}
 use Rattle.std.proofs.lemmas.Bool.Decides.{nat_tests}

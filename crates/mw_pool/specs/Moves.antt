@@ -1,8 +1,8 @@
 -- Defines what a step may make of a door or a gate: admit, claim, pin, unpin and free. Each move has a relation between the
--- value before it and the value after it, and a function that gives the value after it, if there is a move. The relations are
--- about doors and gates in range. If the result would be out of range there is no move, and the function gives nothing.
--- Used by: 9 crates from mw_look on, the contracts of doors.rt and gates.rt. A move is what an exchange at a door or a gate may
--- do: a change here changes the algorithm, and the laws in the crates above must be proved again.
+-- value before it and the value after it, of values in range, and a function that gives the value after it. If the result
+-- would be out of range there is no move, and the function gives nothing.
+-- Used by: many crates from mw_look on, doors.rt, gates.rt. A change here changes the algorithm, and the laws above must be
+-- proved again.
 use Rattle.std.specs.Prelude.{◌≡◌, ℕ, ◌+◌, ◌-◌, ◌<◌, ◌≤◌, ◌==◌, ◌&&◌, true, false, not, cond, nat_lt, nat_le, Some, None}
 use Rattle.std.specs.declared.option.Option.{Option}
 use Rattle.mw_words.specs.declared.limits.TheConstants.{WORN_NUMBER, MAX_PINS}

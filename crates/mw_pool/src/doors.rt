@@ -1,7 +1,6 @@
 //! Tells whether a tenant's door admits one change more: it does, or the answer is BUSY or FAULT.
 //!
-//! A change calls [`admit`] when it has loaded its tenant's door (mw_actor). What an admission may do is in
-//! `specs/Moves`: change both together.
+//! Used by: mw_actor. Change it with `specs/Moves`.
 ghost use Rattle.std.specs.Prelude.{◌≡◌};
 ghost use Rattle.mw_pool.specs.Moves.{Says, after_admit};
 

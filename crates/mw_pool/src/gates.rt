@@ -1,9 +1,8 @@
 //! Computes a slot's gate (its reference count with a version) after a move: claim (allocate the slot), pin and unpin
 //! (take and give back a reference), or free.
 //!
-//! mw_actor calls [`claim`] and [`pin`], and mw_look [`pin`], before they ask for the exchange. Only tests call
-//! [`unpin`] and [`free`], because these steps are made without a load. What a move may do is in `specs/Moves`:
-//! change both together.
+//! Used by: mw_actor ([`claim`], [`pin`]), mw_look ([`pin`]). Only tests call [`unpin`] and [`free`], whose steps are
+//! made without a load. Change it with `specs/Moves`.
 ghost use Rattle.std.specs.Prelude.{◌≡◌, ◌≤◌, IfSome, None};
 ghost use Rattle.mw_words.specs.declared.gates.Gate.{Gate as GateModel};
 ghost use Rattle.mw_words.specs.Patterns.{IsGateInRange};

@@ -1,8 +1,8 @@
 //! The pool of slots: which moves a door and a gate allow, and what each move makes of them.
 //!
-//! The moves are pure: each takes the value of a door or a gate and returns the value after the move. Whoever makes
-//! admit, claim or pin does so by an exchange, which fails if the value has changed since it was read. Unpin
-//! subtracts from whatever value is there. Free is a store by the only worker that is left at the slot.
+//! The moves are pure: each takes a value and returns the value after the move. Admit, claim and pin are made by an
+//! exchange, which fails if the value has changed since it was read. Unpin subtracts from whatever value is there.
+//! Free is a store by the only worker that is left at the slot.
 //!
 //! | move | from | to |
 //! |---|---|---|
@@ -14,9 +14,8 @@
 //!
 //! A move whose result doesn't fit the bits of a door or a gate is not allowed.
 //!
-//! Requests (mw_look, mw_actor) call admit, claim and pin before they ask for the exchange. Unpin and free are called
-//! by tests alone: their steps are made without a load. The laws of the world cite `specs/Moves`, so a change there
-//! changes the algorithm.
+//! Used by: mw_look and mw_actor, for admit, claim and pin; tests, for the others. A change of `specs/Moves` changes
+//! the algorithm, and the laws of the world.
 #![tactic(auto)]
 
 mod doors;

@@ -1,6 +1,5 @@
 -- Defines what a copy of a tenant's file is, by the tenant's name, of the files that an engine serves.
--- Used by: the contracts of src/copies.rt. A change here changes what a backup over HTTP is: docs/HTTP and docs/OPERATING change
--- with it.
+-- Used by: src/copies.rt. Change it with docs/HTTP and docs/OPERATING.
 use Rattle.std.specs.Prelude.{◌≡◌, ℕ, ◌⊎◌, List, length, Vec, Result, Ok, Err}
 use Rattle.std.specs.declared.alloc.Global.{Global}
 use Rattle.mw_disk.specs.Facts.{Facts}

@@ -1,5 +1,5 @@
 -- Defines when a path still leads to the file that was opened.
--- Used by: the contract of `is_replaced` in src/replaced.rt. It may change with that function.
+-- Used by: src/replaced.rt. It may change with `is_replaced` there.
 use Rattle.std.specs.Prelude.{◌≡◌, ◌≤◌, Option, MatchOption}
 use Rattle.mw_opening.specs.declared.file_state.SeenFile.{SeenFile}
 

@@ -1,7 +1,7 @@
 //! Copies the tenants' files for the server's pages, by the engine that serves them.
 //!
-//! `services` makes it, and mw_server_pages asks for a copy by a tenant's name. docs/HTTP and docs/OPERATING tell what a backup
-//! by these copies is: change both together.
+//! Used by: `services`. mw_server_pages asks for a copy by a tenant's name. Change it with docs/HTTP and
+//! docs/OPERATING.
 ghost use Rattle.std.specs.Prelude.{◌≡◌};
 ghost use Rattle.mw_programs.specs.Copies.{IsTold};
 

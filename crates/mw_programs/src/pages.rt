@@ -1,7 +1,6 @@
 //! Shows the server's pages over HTTP, beside its clients, on a thread of its own.
 //!
-//! `doors` opens their address, and `clients` serves the clients meanwhile. docs/OPERATING tells the pages and the limits: change
-//! both together.
+//! Used by: `doors`, `clients`. Change it with docs/OPERATING.
 
 use mw_connections::{BriefLimits, BriefListener, Closer};
 use mw_main::VERSION;

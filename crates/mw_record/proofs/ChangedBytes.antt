@@ -1,6 +1,5 @@
 -- Says which writes to a file's bytes keep its words, and which add one record's change to them.
--- Used by: FirstBytes, mw_file, the law first_layouts_stay. Its statements may change with mw_file; its proofs may change
--- freely.
+-- Used by: mw_file, first_layouts_stay.
 use Rattle.std.proofs.Common.{◌≡◌, ℕ, ◌+◌, ◌<◌, ◌≤◌, ◌⊎◌, List, length, get_or, refl, sym, ap, ◌∙◌, inl, inr, arith}
 use Rattle.mw_record.specs.declared.layout.Layout.{Layout}
 use Rattle.mw_record.specs.declared.layout.Layout.TheVariants.{First}

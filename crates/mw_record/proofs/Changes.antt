@@ -1,7 +1,6 @@
 -- Says which changes of home words and open records keep a file's words, and which add one record's change. No byte is
 -- mentioned.
--- Used by: ChangedBytes, mw_file, mw_world_file. Its statements may change with mw_file and mw_world_file; its proofs may
--- change freely.
+-- Used by: mw_file, mw_world_file.
 use Rattle.std.proofs.Common.{◌≡◌, ℕ, ◌<◌, ◌≤◌, ◌==◌, ◌⊎◌, if◌then◌else◌, true, false, Option, Some, None, List, [], ◌∷◌, length, get_or, set, refl, sym, ap, ◌∙◌, inl, inr, arith}
 use Rattle.std.proofs.lemmas.Bool.{cases_Bool, cases_eq, both_ways, cond-true, cond-false, eq-eqb, ne_eqb}
 use Rattle.std.proofs.lemmas.List.{length-set, get_or-set_same, get_or-set_other}

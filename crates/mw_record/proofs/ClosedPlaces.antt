@@ -1,7 +1,6 @@
 -- If all record places of a layout are closed, its words are its home words. This holds of a new file, and of a second layout
 -- that was just written.
--- Used by: mw_file, mw_world_file, the laws new_files_have_zeros and second_layouts_have_their_words. Its statements may change
--- with mw_file and mw_world_file; its proofs may change freely.
+-- Used by: mw_file, mw_world_file, new_files_have_zeros, second_layouts_have_their_words.
 use Rattle.std.proofs.Common.{◌≡◌, ℕ, zero, suc, ◌+◌, ◌-◌, ◌*◌, ◌^◌, ◌<◌, ◌≤◌, ◌||◌, false, Some, None, List, [], ◌∷◌, ◌++◌, length, get_or, replicate, refl, sym, ap, ◌∙◌, subst, arith, append_assoc}
 use Rattle.std.specs.List.{flat_map}
 use Rattle.std.proofs.lemmas.List.{length-append, length-replicate, get_or-append_right, get_or_append_left}

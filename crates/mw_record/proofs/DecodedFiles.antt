@@ -1,5 +1,4 @@
--- What `decode` found of one layout's bytes tells the file's damage, or its layout in use and its sizes.
--- Used by: the proof of decode. It may change freely as long as this crate checks.
+-- What `decode` found of one layout's bytes tells the file's damage, or its layout in use and its sizes. Used by: decode.
 use Rattle.std.proofs.Common.{◌≡◌, ℕ, true, false, Option, Some, None, List, drop, Result, Ok, Err, IsErrAnd, MatchResult, sym, ap, ◌∙◌}
 use Rattle.mw_record.specs.declared.layout.Layout.{Layout}
 use Rattle.mw_record.specs.declared.layout.Layout.TheVariants.{First, Second}

@@ -1,6 +1,5 @@
 -- The first MAX_FILE bytes of a longer file have the same words, sizes and damage as the whole file.
--- Used by: mw_file, mw_world_file, the law bytes_past_the_largest_file_do_not_matter. Its statements may change with mw_file
--- and mw_world_file; its proofs may change freely.
+-- Used by: mw_file, mw_world_file, bytes_past_the_largest_file_do_not_matter.
 use Rattle.std.proofs.Common.{◌≡◌, ℕ, ◌+◌, ◌-◌, ◌*◌, ◌<◌, ◌≤◌, ◌==◌, ◌&&◌, nat_le, if◌then◌else◌, cond, is_none, unwrap_or, Bool, true, false, Option, Some, None, List, [], length, take, drop, slice_index, refl, sym, ap, ◌∙◌, inl, inr, arith}
 use Rattle.std.proofs.lemmas.Bool.{cases_lt, cond-true, cond-false, lt-leb, le-leb}
 use Rattle.std.proofs.lemmas.List.{get_or-take, length-take, take-take, drop-take}

@@ -1,6 +1,5 @@
 -- In both layouts of a file the parts follow each other without overlap, and their sizes are within the limits.
--- Used by: ChangedBytes, ReadAgain, mw_file, among others. Its statements may change with mw_file; its proofs may change
--- freely.
+-- Used by: mw_file.
 use Rattle.std.proofs.Common.{◌≡◌, ℕ, ◌+◌, ◌*◌, ◌^◌, ◌<◌, ◌≤◌, List, length, refl, arith}
 use Rattle.mw_words.specs.declared.limits.TheConstants.{MAX_ENTRIES, MAX_WORDS}
 use Rattle.mw_record.specs.declared.layout.Layout.{Layout}

@@ -1,6 +1,6 @@
 -- If a file's open records share no address, each word is the value of the open record that has its address, or else its home
 -- word.
--- Used by: Changes, ClosedPlaces, Sound, mw_file. Its statements may change with mw_file; its proofs may change freely.
+-- Used by: mw_file.
 use Rattle.std.proofs.Common.{◌≡◌, ℕ, zero, suc, ◌+◌, ◌<◌, ◌≤◌, ◌==◌, ◌||◌, nat_le, if◌then◌else◌, true, false, Option, Some, None, [], ◌∷◌, slice_get, refl, sym, ap, ◌∙◌, subst, inl, inr, arith}
 use Rattle.std.proofs.lemmas.Bool.{cases_Bool, cases_eq, cond-true, cond-false, both_ways, and_parts, or_cases, or_parts, or_left, or_right, or_from, leb-true, eq-eqb, ne_eqb}
 use Rattle.mw_words.specs.declared.limits.TheConstants.{MAX_VALUE}

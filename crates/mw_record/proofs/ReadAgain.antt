@@ -1,6 +1,5 @@
 -- The head of a file and the body of a record are read as they were written.
--- Used by: ClosedPlaces, mw_file, mw_book, among others. Its statements may change with mw_book, mw_file, mw_plain and
--- mw_world_file; its proofs may change freely.
+-- Used by: mw_file, mw_plain, mw_world_file, mw_book.
 use Rattle.std.proofs.Common.{◌≡◌, ℕ, ◌+◌, ◌-◌, ◌*◌, ◌^◌, ◌<◌, ◌≤◌, ◌&&◌, nat_eq, nat_le, nat_lt, Bool, true, Some, List, [], ◌∷◌, ◌++◌, length, get_or, take, set, replicate, slice_index, refl, sym, ap, ◌∙◌, subst, arith, append_assoc, add-zero}
 use Rattle.std.specs.Cmp.Lexicographic.{pointwise}
 use Rattle.std.specs.List.{flat_map, list_all}

@@ -1,6 +1,5 @@
 -- A file has no damage exactly if its bytes represent its words; the same holds of one layout and its tests.
--- Used by: ClosedPlaces, FirstBytes, mw_file, among others. Its statements may change with mw_engine_tests, mw_file,
--- mw_programs, mw_simulator and mw_world_file; its proofs may change freely.
+-- Used by: mw_file, mw_world_file, mw_simulator, mw_opening, mw_engine_tests.
 use Rattle.std.proofs.Common.{◌≡◌, ℕ, suc, ◌*◌, ◌<◌, ◌≤◌, ◌==◌, ◌&&◌, ◌||◌, ◌↔◌, not, nat_le, if◌then◌else◌, is_none, Bool, true, false, Option, Some, None, List, [], ◌∷◌, length, drop, get_or, slice_get, refl, sym, ap, ◌∙◌, subst, inl, inr, arith, zero-add}
 use Rattle.std.proofs.lemmas.Bool.{cases_Bool, cases_order, both_ways, and_parts, and_from, cond-true, cond-false, or_cases, or_left, or_right, leb-true, le-leb, eqb-true, not-true}
 use Rattle.std.proofs.lemmas.List.{ext_get_or, length-drop}

@@ -1,6 +1,4 @@
--- A loop that tests each number below a bound (a place, or an address) gives the result of the whole test.
--- Used by: SameRecords, OverlaidRecords, Sound, among others. Its statements may change with mw_file; its proofs may change
--- freely.
+-- A loop that tests each number below a bound (a place, or an address) gives the result of the whole test. Used by: mw_file.
 use Rattle.std.proofs.Common.{◌≡◌, ℕ, zero, suc, ◌+◌, ◌<◌, ◌≤◌, ◌&&◌, Bool, true, false, [], ◌∷◌, slice_get, length, nat_le, Option, Some, refl, sym, ap, ◌∙◌, subst, inl, inr, arith, add-one}
 use Rattle.std.proofs.lemmas.Bool.{leb-true, ltb-true, and_parts, and_from, and_left, and_right, or_left, or_right, or_from, cases_eq}
 use Rattle.std.specs.Option.{option_map_or}

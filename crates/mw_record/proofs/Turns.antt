@@ -1,5 +1,5 @@
 -- In each turn of a loop over a list, the rest of the list is its next element and what follows.
--- Used by: the proofs of FormedFile::is_apart and of the loops of Record. It may change freely as long as this crate checks.
+-- Used by: FormedFile::is_apart, loops of Record.
 use Rattle.std.proofs.Common.{◌≡◌, ℕ, ◌+◌, ◌≤◌, List, [], ◌∷◌, length, Some, drop, ap, ◌∙◌, slice_get}
 use Rattle.std.proofs.lemmas.List.{at_drop_more, at_drop_all}
 use Rattle.std.proofs.lemmas.Option.{slice_get_within, get_or_from_slice_get}

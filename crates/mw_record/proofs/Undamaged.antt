@@ -1,5 +1,4 @@
--- If a file has no damage, the sizes, the offset and the words that `Image` reads are those of the file.
--- Used by: FirstBytes, the proofs of Image. It may change freely as long as this crate checks.
+-- If a file has no damage, the sizes, the offset and the words that `Image` reads are those of the file. Used by: Image.
 use Rattle.std.proofs.Common.{◌≡◌, ℕ, ◌<◌, ◌≤◌, Some, None, List, slice_get, sym, ap, ◌∙◌, inl, inr, arith}
 use Rattle.std.proofs.lemmas.Bool.{cases_Bool}
 use Rattle.mw_record.specs.declared.layout.Layout.{Layout}

@@ -1,6 +1,5 @@
 -- A write to one home word of a file sets that word alone, and a place whose bytes stay keeps its record.
--- Used by: ChangedBytes, FirstBytes, mw_file, mw_world_file. Its statements may change with mw_file and mw_world_file; its
--- proofs may change freely.
+-- Used by: mw_file, mw_world_file.
 use Rattle.std.proofs.Common.{◌≡◌, ℕ, ◌+◌, ◌-◌, ◌*◌, ◌^◌, [], ◌∷◌, replicate, ◌<◌, ◌≤◌, ◌==◌, if◌then◌else◌, Option, Some, None, List, length, take, drop, get_or, slice_index, refl, sym, ap, ◌∙◌, inl, inr, arith, add-zero}
 use Rattle.std.proofs.lemmas.Bool.{cases_eq, cases_lt, cond-true, cond-false, eq-eqb, ne_eqb}
 use Rattle.std.proofs.lemmas.List.{length-take-le, length-append, length-replicate}

@@ -1,5 +1,5 @@
 -- The loops that write a record's body and a second layout write exactly the bytes that `specs/Layout` defines.
--- Used by: ClosedPlaces, the proofs of body and write_second. It may change freely as long as this crate checks.
+-- Used by: body, write_second.
 use Rattle.std.proofs.Common.{◌≡◌, ℕ, ◌+◌, ◌-◌, ◌*◌, ◌<◌, ◌≤◌, List, [], ◌∷◌, ◌++◌, length, get_or, take, drop, replicate, refl, sym, ap, ◌∙◌, arith, append_assoc}
 use Rattle.std.specs.List.{flat_map}
 use Rattle.std.proofs.lemmas.List.{append-nil, length-append, take_all, take_at, drop-replicate, take_more, flat_map_more, length-take-le}

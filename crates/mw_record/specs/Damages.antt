@@ -1,8 +1,8 @@
--- Defines what can be wrong with a file, in the order of the tests, and what a file without damage says. A file begins with a
--- first layout. If the switch byte in its head is set, a second layout is in use, at the offset that the head tells. Otherwise
--- the first is in use.
--- Used by: Contents, mw_file, mw_world_file, mw_engine, mw_simulator, mw_show, the contracts of damages.rt, images.rt and
--- laws.rt. A new Damage needs a case here, in src/damages.rt and in mw_show.
+-- Defines what can be wrong with a file, in the order of the tests, and what a file without damage says. If the switch byte
+-- in the head is set, a second layout is in use, at the offset that the head tells; otherwise the first, with which a file
+-- begins.
+-- Used by: many crates from mw_file_text on, damages.rt, images.rt, laws.rt. A new Damage needs a case here, in
+-- src/damages.rt and in mw_show.
 use Rattle.std.specs.Prelude.{◌≡◌, ℕ, ◌*◌, ◌==◌, ◌&&◌, nat_le, if◌then◌else◌, Bool, Option, Some, None, List, [], ◌∷◌, drop, slice_index, is_none}
 use Rattle.mw_record.specs.declared.layout.Layout.{Layout}
 use Rattle.mw_record.specs.declared.layout.Layout.TheVariants.{First, Second}

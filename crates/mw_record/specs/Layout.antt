@@ -1,8 +1,7 @@
 -- Defines the format of a file: where each part of a layout is, and how it is written in bytes. A file is the list of its
--- bytes, and offsets here are counted from where the layout begins.
--- Used by: Contents, Damages, LayoutBytes, Records, 6 crates from mw_file on, the contracts of formed.rt, images.rt, laws.rt,
--- layout.rt, records.rt and written.rt. It is the format of a file: CONTRIBUTING says under "Limits of the file" what may
--- change.
+-- bytes; offsets are counted from where the layout begins.
+-- Used by: many crates from mw_file on, formed.rt, images.rt, laws.rt, layout.rt, records.rt, written.rt. CONTRIBUTING says
+-- under "Limits of the file" what may change.
 use Rattle.std.specs.Prelude.{◌≡◌, ℕ, ◌+◌, ◌-◌, ◌*◌, ◌^◌, ◌<◌, List, ◌∷◌, ◌++◌, length, take, drop, replicate, map, get_or}
 use Rattle.std.specs.List.{flat_map, AllByRecursion}
 use Rattle.byteorder.specs.Endian.{little_bytes, little_from}

@@ -1,6 +1,5 @@
 -- Defines the records in a layout's bytes, when they are well formed, and the value of a word that an open record covers.
--- Used by: Contents, Damages, LayoutBytes, mw_file, mw_plain, mw_world_file, mw_book, mw_engine, the contracts of formed.rt,
--- laws.rt and records.rt. A change here changes which bytes are a record, and so which words a file has.
+-- Used by: many crates from mw_file on, formed.rt, laws.rt, records.rt. A change here changes which words a file has.
 use Rattle.std.specs.Prelude.{ℕ, zero, suc, ◌+◌, ◌==◌, ◌&&◌, ◌||◌, not, if◌then◌else◌, Bool, true, false, Option, Some, None, List, [], ◌∷◌, length, nat_le, nat_lt, slice_index, slice_set}
 use Rattle.std.specs.List.{list_all, list_any}
 use Rattle.std.specs.Option.{option_map_or}

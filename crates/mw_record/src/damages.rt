@@ -1,8 +1,7 @@
 //! The kinds of damage that a file may have, each with its number.
 //!
-//! `decode` finds them, mw_file doesn't open a file that has one, and mw_show prints its number and where it is. A
-//! new damage needs a number in `specs/Damages`, a byte in mw_show (`damaged.rt`, and `byte_of` in `specs/Places`),
-//! and a row in docs/OPERATING.
+//! Used by: `decode`, which finds them; mw_file, which refuses such a file; mw_show. A new damage needs a number in
+//! `specs/Damages`, a byte in mw_show (`damaged.rt`, and `byte_of` in `specs/Places`), and a row in docs/OPERATING.
 ghost use Rattle.std.specs.Prelude.{◌≡◌};
 ghost use Rattle.mw_record.specs.Damages as spec;
 

@@ -1,6 +1,6 @@
 //! Tests whether the records of a layout are well formed and apart, and reads its words.
 //!
-//! Used by `images.rt` alone: it may change freely as long as `decode` and the calls of `Image` keep their contracts.
+//! Used by `images.rt` alone.
 ghost use Rattle.std.specs.Prelude.{◌≡◌, ◌+◌, ◌≤◌, ◌<◌, ◌&&◌, nat_le, true, length};
 ghost use Rattle.mw_record.specs.Layout.{most_entries, place_at, size};
 ghost use Rattle.mw_record.specs.Records as spec;

@@ -1,7 +1,6 @@
 //! Reads the bytes of a whole file: finds their first damage, or gives the file's sizes, words and records.
 //!
-//! mw_file calls [`decode`] when it opens a file, and mw_show when it prints one. Another rule for what is damaged
-//! needs a change in `specs/Damages` and in docs/FILES. README and docs/PROMISES cite `decode`.
+//! Used by: mw_file, mw_show. Change it with `specs/Damages` and docs/FILES. docs/PROMISES cites `decode`.
 ghost use Rattle.std.specs.Prelude.{◌≡◌, ◌<◌, ◌≤◌, ℕ, true, false, None, Some, length, drop, slice_get, MatchOption, MatchResult};
 ghost use Rattle.mw_words.specs.declared.limits.TheConstants.{MAX_WORDS, MAX_ENTRIES};
 ghost use Rattle.mw_record.specs.declared.layout.Layout.TheVariants.{Second};

@@ -1,8 +1,8 @@
-//! Laws of the file format: what was written is read again, a file without damage represents its words, and some
-//! changes of its bytes keep them. Each is the contract of an empty function.
+//! Laws of the file format (contracts of empty functions): what was written is read again, a file without damage
+//! represents its words, and some changes of its bytes keep them.
 //!
-//! No code calls them. Proofs of mw_file and mw_world_file, among others, cite the lemmas behind them. A statement
-//! may change with these. docs/PROMISES cites `words_are_what_the_bytes_represent`.
+//! Proofs of mw_file and mw_world_file, among others, cite the lemmas behind them. docs/PROMISES cites
+//! `words_are_what_the_bytes_represent`.
 ghost use Rattle.std.specs.Prelude.{◌≡◌, ◌+◌, ◌*◌, ◌<◌, ◌≤◌, ◌⊎◌, ◌↔◌, ◌++◌, ℕ, true, false, Some, None, List, length, replicate, slice_index, take};
 ghost use Rattle.mw_words.specs.declared.jobs.Entry.{Entry};
 ghost use Rattle.mw_words.specs.Change.{AreWords, is_change, put};

@@ -1,7 +1,7 @@
 //! Defines where each part of a file's layout is, and reads and writes its numbers.
 //!
-//! It is the format of files that are in use: CONTRIBUTING says under *Limits of the file* what may change. mw_file,
-//! mw_show and mw_world_file use these numbers, and docs/FILES tells them.
+//! Used by: mw_file, mw_show, mw_world_file. It is the format of files that are in use: CONTRIBUTING says under
+//! *Limits of the file* what may change. docs/FILES tells the numbers.
 ghost use Rattle.std.specs.Prelude.{◌≡◌, ◌+◌, ◌≤◌, ◌<◌, ◌^◌, length};
 ghost use Rattle.mw_record.specs.Layout as spec;
 ghost use Rattle.mw_record.specs.declared.layout.Layout.TheVariants.{First, Second};

@@ -1,7 +1,7 @@
 //! Reads one record in a file's bytes: its entries, whether they are well formed, and the value that it gives to a
 //! word.
 //!
-//! Used by `formed.rt` and `images.rt` alone: it may change freely as long as `decode` keeps its contract.
+//! Used by `formed.rt` and `images.rt` alone.
 ghost use Rattle.std.specs.Prelude.{◌≡◌, ◌+◌, ◌*◌, ◌≤◌, ◌<◌, length, Some, slice_get, slice_index};
 ghost use Rattle.std.specs.Borrow.{Bor};
 

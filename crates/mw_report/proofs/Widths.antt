@@ -1,5 +1,5 @@
 -- A report's figures are printed no wider than their columns: at most 4 digits for words, 2 for slots, 3 for the pool.
--- Used by: the proofs of report_text and put_tenant. It may change freely as long as this crate checks.
+-- Used by: report_text, put_tenant.
 use Rattle.std.proofs.Common.{ℕ, ◌≤◌, length, decimal, arith}
 use Rattle.std.proofs.lemmas.Fmt.{length-decimal-le}
 

@@ -1,8 +1,7 @@
 //! Writes the text of an administrator's report: a line for each tenant, and a last line for the pool.
 //!
-//! mw_session calls [`report_text`] to answer `REPORT`. mw_client calls it to check that it has understood a report.
-//! [`MAX_REPORT`] must have room for a line of each tenant and the last one. `specs/Table` defines the text: change
-//! both together.
+//! Used by: mw_session; mw_client, to check that it has understood a report. [`MAX_REPORT`] must have room for a line
+//! of each tenant and the last one. Change it with `specs/Table`.
 ghost use Rattle.std.specs.Prelude.{◌≡◌, ◌+◌, ◌≤◌, ◌++◌, decimal, length};
 ghost use Rattle.mw_report.specs.Table as spec;
 ghost use Rattle.mw_report.specs.Table.{AreWithinLimits, IsWithinLimits};

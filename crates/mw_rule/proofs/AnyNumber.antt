@@ -1,5 +1,5 @@
 -- If one device call of a file call may fail after a run, so may any other device call of that file call.
--- Used by: the law moves_are_of_the_run, mw_table. Its statements may change with mw_table; its proofs may change freely.
+-- Used by: moves_are_of_the_run, mw_table.
 use Rattle.std.specs.Prelude.{ℕ, ◌≡◌, ◌<◌, true, false, List, [], ◌∷◌, ◌++◌, Some}
 use Rattle.std.specs.Option.{option_and_then}
 use Rattle.std.proofs.Common.{sym, ap, subst, ◌∙◌, append_assoc, arith}

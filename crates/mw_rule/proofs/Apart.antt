@@ -1,6 +1,5 @@
 -- Two requests of one tenant that were answered YES have two positions among the tenant's changes.
--- Used by: the law knowledge_stays_right, and Meetings of mw_table. Both use `changes_are_own` alone, at the end; the rest may
--- be changed freely.
+-- Used by: knowledge_stays_right, mw_table (`changes_are_own` alone).
 use Rattle.std.specs.Prelude.{ℕ, zero, suc, ◌≡◌, ◌≤◌, ◌==◌, ◌&&◌, Bool, true, false, List, [], ◌∷◌, slice_get, Some}
 use Rattle.std.proofs.Common.{refl, sym, ap, subst, ◌∙◌, arith}
 use Rattle.std.proofs.lemmas.Option.{none-some, same_Some}

@@ -1,5 +1,4 @@
--- The number of a tenant's next request is how many of its requests came in the run.
--- Used by: StepRule. It may change freely as long as this crate checks.
+-- The number of a tenant's next request is how many of its requests came in the run. Used by: mw_law_threads.
 use Rattle.std.specs.Prelude.{ℕ, ◌+◌, ◌&&◌, ◌≡◌, ◌==◌, List, [], ◌∷◌, ◌++◌, length, map, Some}
 use Rattle.std.proofs.Common.{refl, sym, ap, subst, ◌∙◌, inl, inr, arith}
 use Rattle.std.proofs.lemmas.Option.{option_and_then_some, same_Some}

@@ -1,5 +1,5 @@
 -- Which events a thread adds to the table's run: a step its own, a first step also the arrival before it, a plain load none.
--- Used by: the law moves_are_of_the_run, mw_table. Its statements may change with mw_table; its proofs may change freely.
+-- Used by: moves_are_of_the_run, mw_table.
 use Rattle.std.specs.Prelude.{ℕ, ◌≡◌, ◌<◌, true, List, [], ◌∷◌, slice_index}
 use Rattle.std.proofs.Common.{refl, sym, ap, subst, ◌∙◌, inr, arith}
 use Rattle.std.proofs.lemmas.Bool.Decides.{nat_tests}

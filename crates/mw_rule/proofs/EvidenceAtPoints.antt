@@ -1,5 +1,4 @@
 -- A request goes on to BUSY, FAULT or WORN only with evidence for that reply (`specs/Evidence`): one case for each point.
--- Used by: EvidenceSteps. It may change freely as long as this crate checks.
 use Rattle.std.specs.Prelude.{ℕ, ◌+◌, ◌≡◌, ◌≤◌, ◌==◌, ◌&&◌, ◌||◌, not, Bool, true, false, cond, nat_lt, nat_le, length, List, Option, Some, None}
 use Rattle.std.proofs.Common.{refl, inl, inr, arith}
 use Rattle.std.proofs.lemmas.Bool.Decides.{nat_tests}

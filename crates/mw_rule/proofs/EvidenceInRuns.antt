@@ -1,5 +1,5 @@
 -- What a request's step finds in the table's bits is what the world has there, so it counts as evidence for the reply.
--- Used by: RequestEvents. It may change freely as long as this crate checks.
+-- Used by: mw_law_threads.
 use Rattle.std.specs.Prelude.{ℕ, ◌≡◌, ◌≤◌, List, [], Some}
 use Rattle.std.proofs.Common.{sym, ap, subst, ◌∙◌, arith}
 use Rattle.mw_words.specs.declared.doors.Door.{Door}

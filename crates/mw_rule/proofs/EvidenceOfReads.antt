@@ -1,5 +1,4 @@
 -- A read goes on to FAULT only if it found the fault at its tenant's door.
--- Used by: EvidenceAtPoints, EvidenceSteps. It may change freely as long as this crate checks.
 use Rattle.std.specs.Prelude.{ℕ, ◌-◌, ◌==◌, Bool, nat_lt, List, Option, Some, None}
 use Rattle.std.proofs.Common.{inl}
 use Rattle.mw_words.specs.declared.doors.Door.{Door}

@@ -1,5 +1,5 @@
 -- A request on its way to BUSY, FAULT or WORN has evidence for that reply, and keeps it over each further step.
--- Used by: EvidenceInRuns, FileCallEvents, RequestEvents. It may change freely as long as this crate checks.
+-- Used by: mw_law_threads.
 use Rattle.std.specs.Prelude.{ℕ, zero, suc, ◌≡◌, ◌≤◌, Bool, false, List, [], ◌∷◌, ◌++◌, length, slice_get, Option, Some, None}
 use Rattle.std.specs.Option.{option_map_or}
 use Rattle.std.proofs.Common.{refl, ap, subst, ◌∙◌, inl, inr, arith}

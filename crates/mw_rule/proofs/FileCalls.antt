@@ -1,6 +1,5 @@
 -- Each step of a call on a file keeps the table's rule (`specs/Rule`), and the whole call adds one event to the table's run.
--- Used by: WordActionLaws, and the laws file_calls_keep_the_rule and file_calls_are_events. It may change freely as long as
--- this crate checks.
+-- Used by: file_calls_keep_the_rule, file_calls_are_events.
 use Rattle.std.specs.Prelude.{ℕ, ◌≡◌, ◌<◌, Bool, true, false, List, [], ◌∷◌, ◌++◌, slice_index, slice_set, Some, None}
 use Rattle.std.proofs.Common.{refl, sym, ap, subst, ◌∙◌, append-nil, inr}
 use mathlib.Core.Option.{some}

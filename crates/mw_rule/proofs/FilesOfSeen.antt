@@ -1,5 +1,6 @@
--- The words of a file that a thread holds are those that the start gave, with all changes that the thread has seen put over them.
--- Used by: the law knowledge_stays_right. It may change freely as long as this crate checks.
+-- The words of a file that a thread holds are those that the start gave, with all changes that the thread has seen put over
+-- them.
+-- Used by: knowledge_stays_right, mw_table.
 use Rattle.std.specs.Prelude.{◌≡◌}
 use Rattle.std.proofs.Common.{sym, ◌∙◌}
 use Rattle.mw_rule.specs.Calls.FileTokens.{file_told}

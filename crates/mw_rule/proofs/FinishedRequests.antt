@@ -1,6 +1,5 @@
 -- The list of a thread's finished requests is split by worker without loss, and two merged lists can be split again.
--- Used by: the law knowledge_stays_right, KnowledgeIsRight, SplitLaws, mw_table. Its statements may change with mw_table; its
--- proofs may change freely.
+-- Used by: knowledge_stays_right, mw_table.
 use Rattle.std.specs.Prelude.{ℕ, ◌+◌, ◌≡◌, ◌≢◌, ◌==◌, Bool, true, false, cond, List, [], ◌∷◌, ◌++◌}
 use Rattle.std.proofs.Common.{refl, sym, ap, subst, ◌∙◌, append-nil, inl, inr, arith}
 use Rattle.std.proofs.lemmas.Bool.Decides.{nat_tests}

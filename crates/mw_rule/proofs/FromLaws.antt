@@ -1,5 +1,5 @@
--- Lemmas of mw_law_runs and mw_law_store that mw_rule needs too, passed on.
--- Used by: mw_rule. Add and take out names as it needs them.
+-- Lemmas of mw_law_runs and mw_law_store that mw_rule needs too, passed on. Add and take out names as it needs them.
+-- Used by: mw_table, mw_service, mw_law_threads.
 pub use Rattle.mw_law_runs.proofs.Knowledge.Updates.Preservation.{upd_else, upd_here}
 pub use Rattle.mw_law_runs.proofs.BitExactness.{runs_are_bit_exact}
 pub use Rattle.mw_law_runs.proofs.Numbers.{same_or_other}

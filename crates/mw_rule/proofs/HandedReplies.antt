@@ -1,5 +1,4 @@
--- Which replies a run hands out: when more happens they stay, and a call on a file hands out none.
--- Used by: KnownRunLaws, RequestEvents, RequestsInRuns, ViewAfterStep, AnyNumber. It may change freely as long as this crate checks.
+-- Which replies a run hands out: when more happens they stay, and a call on a file hands out none. Used by: mw_law_threads.
 use Rattle.std.specs.Prelude.{ℕ, zero, suc, ◌==◌, ◌≡◌, Bool, true, if◌then◌else◌, List, [], ◌∷◌, ◌++◌, slice_get, Option, Some, None}
 use Rattle.std.specs.Option.{option_map, option_to_list, unwrap_or}
 use Rattle.std.proofs.Common.{refl, sym, ap, ◌∙◌, append_assoc, append-nil, arith}

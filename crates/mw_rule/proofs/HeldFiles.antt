@@ -1,5 +1,4 @@
 -- What a thread knows of a file that it has taken stays true over all events but a call on that file.
--- Used by: Preservation, StepRule. It may change freely as long as this crate checks.
 use Rattle.std.specs.Prelude.{ℕ, ◌≡◌, ◌≤◌, true, List, [], ◌∷◌, Option, Some, None}
 use Rattle.std.proofs.Common.{refl, sym, subst, ◌∙◌, arith}
 use Rattle.mw_words.specs.declared.jobs.Job.{Job}

@@ -1,7 +1,6 @@
--- What a thread knows of finished requests and sealed changes is right. It stays right when more is sealed, when it is split,
+-- What a thread knows of finished requests and sealed changes is right, and stays so when more is sealed, when it is split,
 -- and when threads meet.
--- Used by: the law knowledge_stays_right, RequestEvents, SplitLaws, WholeCallLaws, ViewAfterStep, mw_table, mw_core. Its
--- statements may change with mw_table and mw_core; its proofs may change freely.
+-- Used by: knowledge_stays_right, mw_table, mw_law_threads.
 use Rattle.std.specs.Prelude.{ℕ, ◌+◌, ◌≡◌, ◌≤◌, ◌<◌, List, [], ◌++◌, length}
 use Rattle.std.proofs.Common.{refl, sym, ap, subst, arith}
 use Rattle.std.proofs.lemmas.List.{length-append}

@@ -1,7 +1,6 @@
 -- Two laws of the relation "this run extends that one": it is transitive, and an extended run still extends what was known of
 -- it.
--- Used by: Preservation, SplitLaws, WordActionLaws, AnyNumber, ViewAfterStep, WholeCallLaws, mw_table, mw_core. Its statements
--- may change with mw_table and mw_core; its proofs may change freely.
+-- Used by: mw_table, mw_law_threads.
 use Rattle.std.specs.Prelude.{ℕ, ◌≡◌, List, [], ◌∷◌, ◌++◌, map, Option, Some, None}
 use Rattle.std.proofs.Common.{refl, sym, ap, subst, ◌∙◌, append_assoc, append-nil}
 use Rattle.mw_world_file.specs.declared.outcomes.Outcome.TheVariants.{Fail}

@@ -1,6 +1,5 @@
 -- Each shared word of the world has an index in the table, and two words have two indexes.
--- Used by: the law places_stand_apart, Preservation, WordActionLaws, mw_table. Its statements may change with mw_table; its
--- proofs may change freely.
+-- Used by: places_stand_apart, mw_table.
 use Rattle.std.specs.Prelude.{ℕ, zero, suc, [], ◌∷◌, ◌≡◌, ◌<◌, ◌≤◌, Bool, true, false, All, List, length, nat_lt, slice_index_or}
 use Rattle.std.proofs.Common.{refl, ap, arith}
 use Rattle.std.proofs.lemmas.Bool.Decides.{nat_tests}

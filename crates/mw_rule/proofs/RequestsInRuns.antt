@@ -1,6 +1,5 @@
--- A request that a thread serves is in the run behind what the thread knows, from its arrival on: after its first step, after
--- each further one, and while others go on.
--- Used by: StepRule, WholeCallLaws. It may change freely as long as this crate checks.
+-- A request that a thread serves is in the run behind what the thread knows, from its arrival on.
+-- Used by: mw_service, mw_law_threads.
 use Rattle.std.specs.Prelude.{ℕ, ◌≡◌, List, [], ◌∷◌, ◌++◌, map, Option, Some, None}
 use Rattle.std.proofs.Common.{refl, sym, ap, subst, ◌∙◌, append_assoc, append-nil}
 use Rattle.std.proofs.lemmas.List.{append_cancel_left}

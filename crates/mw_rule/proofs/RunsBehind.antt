@@ -1,7 +1,6 @@
--- The run behind what a thread knows (`specs/RunBehind`) comes from the table's run. It stays behind what the thread knows when
--- its files change, and is behind the parts when it splits.
--- Used by: ViewAfterStep, SplitLaws, WholeCallLaws, mw_table, mw_core. Its statements may change with mw_table and mw_core; its
--- proofs may change freely.
+-- The run behind what a thread knows (`specs/RunBehind`) comes from the table's run, and stays behind it when its files
+-- change or it is split.
+-- Used by: mw_table.
 use Rattle.std.specs.Prelude.{ℕ, ◌≡◌, ◌<◌, List, ◌++◌, Option, Some}
 use Rattle.std.proofs.Common.{sym, ap, subst, ◌∙◌}
 use Rattle.mw_world.specs.declared.config.Config.{Config}

@@ -1,6 +1,5 @@
 -- The table's rule (`specs/Rule`) holds of a new table. Plain loads, and splitting and merging what threads know, keep it.
--- Used by: the laws what_is_known_is_parted, steps_keep_the_rule, tables_start_under_the_rule and the_run_goes_on, FileCalls,
--- WordActionLaws, mw_table. Its statements may change with mw_table; its proofs may change freely.
+-- Used by: what_is_known_is_parted, steps_keep_the_rule, tables_start_under_the_rule, the_run_goes_on, mw_table.
 use Rattle.std.specs.Prelude.{true, false, ℕ, zero, suc, ◌+◌, ◌≡◌, ◌≤◌, ◌<◌, ◌==◌, List, [], ◌∷◌, ◌++◌, length, slice_index, slice_set, Option, Some, None}
 use Rattle.std.proofs.Common.{refl, sym, ap, subst, ◌∙◌, append-nil, ◌⊎◌, inl, inr, arith}
 use Rattle.std.proofs.lemmas.Bool.Decides.{nat_tests}

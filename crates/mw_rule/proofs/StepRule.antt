@@ -1,6 +1,5 @@
 -- A step of a request, also its first one, keeps the table's rule (`specs/Rule`).
--- Used by: the laws steps_keep_the_rule and the_run_goes_on, WordActionLaws, Events, FileCallRule, Known. It may change freely
--- as long as this crate checks.
+-- Used by: steps_keep_the_rule, the_run_goes_on.
 use Rattle.std.specs.Prelude.{ℕ, ◌≡◌, ◌≤◌, ◌<◌, true, false, List, [], ◌∷◌, ◌++◌, length, map, slice_index, slice_set, Option, Some, None}
 use Rattle.std.proofs.Common.{refl, sym, ap, subst, ◌∙◌, append-nil, inl, inr, arith}
 use Rattle.std.proofs.lemmas.Bool.Decides.{nat_tests}

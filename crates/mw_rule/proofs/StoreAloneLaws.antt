@@ -1,6 +1,5 @@
 -- The requests that a thread's workers finished are answered as each tenant's store alone (the reference model) answers them.
--- Used by: the law finished_are_of_the_store_alone, mw_engine. Its statements may change with mw_engine; its proofs may change
--- freely.
+-- Used by: finished_are_of_the_store_alone, mw_table.
 use Rattle.std.specs.Prelude.{ℕ, ◌<◌, List, [], ◌∷◌, ◌++◌, slice_get, Some}
 use Rattle.std.proofs.Common.{sym, ap, ◌∙◌}
 use Rattle.mw_words.specs.declared.replies.Reply.{Reply}

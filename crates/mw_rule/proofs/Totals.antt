@@ -1,6 +1,5 @@
 -- Lemmas about sums of counts over all threads' views (ghost knowledge), and about properties of each element of a list.
--- Used by: Preservation, SplitLaws, ViewAfterStep, AnyNumber, Apart, other pages, mw_table. Its statements may change with
--- mw_table; its proofs may change freely.
+-- Used by: mw_table, mw_service, mw_law_threads.
 use Rattle.std.specs.Prelude.{ℕ, zero, suc, ◌+◌, ◌≡◌, ◌≢◌, ◌≤◌, ◌==◌, ◌&&◌, Bool, true, false, List, [], ◌∷◌, ◌++◌, slice_set}
 use Rattle.std.proofs.Common.{refl, sym, ap, inl, inr, arith}
 use Rattle.std.proofs.lemmas.Bool.Decides.{nat_tests}

@@ -1,6 +1,6 @@
--- After its own step a thread knows the whole new run and all changes sealed in it, and the table's rule (`specs/Rule`) holds.
--- Used by: FileCallRule, StepRule, WordActionLaws, Events, FileCalls, SplitLaws, mw_table. Its statements may change with
--- mw_table; its proofs may change freely.
+-- After its own step a thread knows the whole new run and all changes sealed in it, and the table's rule (`specs/Rule`)
+-- holds.
+-- Used by: mw_table.
 use Rattle.std.specs.Prelude.{ℕ, zero, suc, ◌+◌, ◌≡◌, ◌≢◌, ◌≤◌, ◌<◌, ◌==◌, true, false, List, [], ◌∷◌, ◌++◌, length, map, slice_index_or, slice_set, Option, Some, None}
 use Rattle.std.proofs.Common.{refl, sym, ap, subst, ◌∙◌, append_assoc, ◌⊎◌, inl, inr, arith}
 use Rattle.std.proofs.lemmas.List.{length-append}

@@ -1,7 +1,6 @@
 -- A thread is serving its request (`specs/WholeCalls`) over each of the request's steps. With the reply, the request is
 -- answered.
--- Used by: the law calls_are_noted, mw_table, mw_core, mw_engine. Its statements may change with mw_table, mw_core and
--- mw_engine; its proofs may change freely.
+-- Used by: calls_are_noted, mw_table, mw_law_threads.
 use Rattle.std.specs.Prelude.{ℕ, ◌≡◌, ◌≤◌, ◌<◌, true, false, List, [], ◌∷◌, ◌++◌, length, map, Option, Some, None}
 use Rattle.std.proofs.Common.{refl, sym, ap, subst, ◌∙◌, append_assoc, arith}
 use Rattle.mw_words.specs.declared.jobs.Job.{Job}

@@ -1,7 +1,6 @@
 -- The table's rule (`specs/Rule`) allows each action of a thread on a word, and the table's run is extended by exactly that
 -- action's events.
--- Used by: the law moves_are_of_the_run, Events, mw_table, mw_core. Its statements may change with mw_table and mw_core; its
--- proofs may change freely.
+-- Used by: moves_are_of_the_run, mw_table.
 use Rattle.std.specs.Prelude.{ℕ, zero, suc, ◌<◌, Bool, true, false, ◌≡◌, List, [], ◌∷◌, ◌++◌, length, map, slice_index, slice_set, Option, Some}
 use Rattle.std.proofs.Common.{refl, sym, ap, subst, ◌∙◌, inl, inr}
 use Rattle.std.proofs.lemmas.List.{get_or-set_same}

@@ -1,6 +1,5 @@
 -- A step on the table's bits does what the definition says of the world's values, and finds the same.
--- Used by: EvidenceInRuns, RequestEvents, StepRule, FileCallRule, mw_table. Its statements may change with mw_table; its proofs
--- may change freely.
+-- Used by: mw_table, mw_law_threads.
 use Rattle.std.specs.Prelude.{ℕ, ◌≡◌, ◌≢◌, ◌==◌, Bool, true, false, cond}
 use Rattle.std.proofs.Common.{refl, sym, ap, ◌∙◌}
 use Rattle.mw_words.specs.declared.places.At.{At}

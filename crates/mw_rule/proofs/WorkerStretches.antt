@@ -1,6 +1,5 @@
 -- What a thread knows stays true over any list of events of another worker that has no start in it.
--- Used by: Preservation, RequestEvents, StepRule, AnyNumber, FileCallEvents, other pages, mw_table, mw_core. Its statements may
--- change with mw_table and mw_core; its proofs may change freely.
+-- Used by: mw_table, mw_service, mw_law_threads.
 use Rattle.std.specs.Prelude.{ℕ, ◌≡◌, ◌≢◌, ◌≤◌, ◌<◌, List, [], ◌∷◌, ◌++◌, length, Option, Some, None}
 use Rattle.std.specs.Option.{option_and_then}
 use Rattle.std.proofs.Common.{refl, sym, ap, subst, ◌∙◌, append_assoc, append-nil, ◌⊎◌, inl, inr, arith}

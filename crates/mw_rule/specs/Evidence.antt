@@ -1,6 +1,6 @@
--- Defines the evidence for the replies BUSY, FAULT and WORN, which depend on no word. It is what the request's own steps found,
--- or for WORN also the number of its worker's next attempt.
--- Used by: specs/Rule, specs/WholeCalls. Contracts use it through these: a change here changes what they say.
+-- Defines the evidence for the replies BUSY, FAULT and WORN, which depend on no word: what the request's own steps found, or
+-- for WORN its worker's next attempt number.
+-- Used by: specs/Rule, specs/WholeCalls, mw_law_threads.
 use Rattle.std.specs.Prelude.{ℕ, ◌≡◌, ◌≤◌, ◌⊎◌, true, false, List, slice_get, Some}
 use Rattle.mw_words.specs.declared.doors.Door.{Door}
 use Rattle.mw_words.specs.declared.gates.Gate.{Gate}

@@ -1,6 +1,5 @@
--- Defines what a call on a tenant's file requires of the thread that makes it, and what the thread learns from its steps.
--- Used by: specs/Laws, specs/RunEvents, specs/WholeCalls, specs/WordActions, mw_table, mw_core, mw_engine. Contracts use it
--- through these: a change here changes what they say.
+-- Defines what a call on a tenant's file requires of the thread that makes it, and what the thread learns.
+-- Used by: mw_table, mw_law_threads.
 use Rattle.std.specs.Prelude.{ℕ, ◌≡◌, ◌<◌, Bool, true, false, [], ◌∷◌, ◌++◌, map, Option, Some, None}
 use Rattle.mw_words.specs.declared.places.At.TheVariants.{Status as AtStatus}
 use Rattle.mw_words.specs.declared.statuses.Status.{Status}

@@ -1,6 +1,5 @@
 -- Defines what a thread knows of the table's run: the run of the world that leads to the words in the table.
--- Used by: the ghost types of src/views.rt, many specs of this crate, mw_table, mw_core, mw_engine. A change here changes what
--- the contracts of mw_table say.
+-- Used by: src/views.rt, mw_table, mw_service, mw_law_threads. A change here changes the contracts of mw_table.
 use Rattle.std.specs.Prelude.{ℕ, zero, suc, ◌≡◌, List, [], ◌∷◌, ◌++◌, map, Option, Some, None}
 use Rattle.mw_world_file.specs.declared.outcomes.Outcome.TheVariants.{Fail}
 use Rattle.mw_world.specs.declared.config.Config.{Config}

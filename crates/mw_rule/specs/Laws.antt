@@ -1,7 +1,5 @@
--- States that the rule of the table (`specs/Rule`) holds of new tables, and that whatever threads do keeps it. The table is the
--- array of atomic words that threads share. The rule: some run of the server's model leads to these words, and what each thread
--- knows is true after that run.
--- Used by: the laws of src/laws.rt, mw_table. A change here changes what these laws say, and what `Shared::meet` promises.
+-- States that the rule of the table (`specs/Rule`) holds of new tables, and that whatever threads do keeps it.
+-- Used by: src/laws.rt, mw_table. A change here changes these laws, and what `Shared::meet` promises.
 use Rattle.std.specs.Prelude.{[], false, length, List, slice_get, Option, Some, true, ℕ, ◌<◌, ◌∷◌, ◌≡◌, ◌≢◌, ◌≤◌}
 use Rattle.atomic_table.specs.Table.{Me, Allows, Splits, Joins, opening}
 use Rattle.mw_words.specs.declared.places.At.TheVariants.{Door as AtDoor, Status as AtStatus}

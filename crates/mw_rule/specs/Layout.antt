@@ -1,6 +1,5 @@
 -- Defines the index of each shared word in the table, the array of atomic words that threads share.
--- Used by: the contracts of src/indexes.rt and src/laws.rt, many specs of this crate, mw_table, mw_core, mw_engine,
--- mw_table_tests. A change here changes what these contracts say.
+-- Used by: src/indexes.rt, src/laws.rt, mw_table, mw_table_tests.
 use Rattle.std.specs.Prelude.{ℕ, ◌≡◌, ◌+◌, ◌-◌, ◌*◌, ◌/◌, ◌<◌, true}
 use Rattle.mw_words.specs.declared.limits.TheConstants.{MAX_ENTRIES, MAX_TENANTS, MAX_WORDS, MAX_WORKERS}
 use Rattle.mw_words.specs.declared.places.At.{At}

@@ -1,6 +1,5 @@
 -- Defines what a thread has seen of the tenants' sealed changes, and what a start gave them.
--- Used by: many specs of this crate, mw_table, mw_core, mw_engine, mw_table_tests. Contracts use it through these: a change
--- here changes what they say.
+-- Used by: mw_table, mw_service, mw_law_threads.
 use Rattle.std.specs.Prelude.{ℕ, zero, suc, true, ◌≡◌, ◌≤◌, ◌<◌, List, [], ◌∷◌, ◌++◌, slice_index_or, Option, Some, None}
 use Rattle.mw_actor.specs.ActorState.{ActorState}
 use Rattle.mw_world.specs.Definition.State.{State, TenantStart}

@@ -1,8 +1,8 @@
 -- Defines the rule (invariant) of the table, the array of atomic words that threads share. Between any two steps, some run of
--- the world (the model of a whole server), called the table's run, leads to the words in the table. What each thread knows is
--- true after that run.
--- Used by: the ghost types of src/rule.rt, many specs of this crate, mw_table, mw_core, mw_engine, mw_table_tests. A change
--- here changes what the contracts of mw_table say.
+-- the world (the model of a whole server), called the table's run, leads to these words, and what each thread knows is true
+-- after it.
+-- Used by: src/rule.rt, mw_table, mw_service, mw_law_threads, mw_table_tests. A change here changes the contracts of
+-- mw_table.
 use Rattle.std.specs.Prelude.{ℕ, ◌+◌, ◌≡◌, ◌≢◌, ◌≤◌, ◌<◌, ◌==◌, ◌&&◌, ◌⊎◌, Bool, true, false, cond, List, [], ◌∷◌, ◌++◌, length, slice_get, slice_index, Option, Some, None}
 use mathlib.Core.Option.{some}
 use lib.ListN.{get_elem?}

@@ -1,7 +1,6 @@
--- Defines the run behind what a thread knows: one run of the world (the model of a whole server) in which all of it is so. The
--- requests that the thread's workers finished have their arrivals, their steps and their replies in it.
--- Used by: specs/Steps, specs/WholeCalls, specs/StoreAlone, mw_table, mw_core, mw_engine. A change here changes what the
--- contracts of Engine::serve say.
+-- Defines the run behind what a thread knows: one run of the world (the model of a whole server) in which all of it is so. It
+-- has the arrivals, steps and replies of the requests that the thread's workers finished.
+-- Used by: mw_table, mw_service, mw_law_threads. A change here changes the contracts of Engine::serve.
 use Rattle.std.specs.Prelude.{ℕ, ◌+◌, ◌≡◌, ◌<◌, ◌==◌, List, [], ◌∷◌, ◌++◌, Option, Some, None}
 use Rattle.mw_words.specs.declared.jobs.Job.{Job}
 use Rattle.mw_words.specs.declared.replies.Reply.{Reply}

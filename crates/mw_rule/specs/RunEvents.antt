@@ -1,6 +1,6 @@
--- Defines how the table's run grows: each step of a request adds its own events, and nothing else adds any. The table's run is
--- the run of the world that leads to the table's words.
--- Used by: the laws of src/laws.rt, specs/WordActions, mw_table, mw_core. A change here changes what these laws say.
+-- Defines how the table's run (the run of the world that leads to the table's words) grows: each step of a request adds its
+-- own events, and nothing else adds any.
+-- Used by: src/laws.rt, mw_table.
 use Rattle.std.specs.Prelude.{ℕ, Bool, true, false, ◌≡◌, List, [], ◌∷◌, ◌++◌, slice_index, slice_set, Option, Some, None}
 use mathlib.Core.Option.{some}
 use lib.ListN.{get_elem?}

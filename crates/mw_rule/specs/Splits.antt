@@ -1,6 +1,5 @@
 -- Defines what the first thread of a table knows, and how threads split and merge what they know.
--- Used by: the ghost types of src/rule.rt, specs/Laws, specs/RunEvents, specs/WholeCalls, mw_table, mw_core, mw_table_tests. A
--- change here changes what the contracts of mw_table say.
+-- Used by: src/rule.rt, mw_table, mw_law_threads. A change here changes the contracts of mw_table.
 use Rattle.std.specs.Prelude.{ℕ, zero, suc, ◌+◌, ◌==◌, cond, true, false, List, [], ◌∷◌, ◌++◌, Option, None}
 use Rattle.mw_world.specs.declared.config.Config.{Config}
 use Rattle.mw_world.specs.Definition.State.{TenantStart, WorkerState}

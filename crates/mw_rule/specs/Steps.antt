@@ -1,6 +1,5 @@
 -- Defines what a step on a shared word requires of the thread that makes it, and what the thread learns from it.
--- Used by: many specs of this crate, mw_table, mw_core, mw_engine, mw_table_tests. A change here changes what contracts there
--- say.
+-- Used by: mw_table, mw_service, mw_law_threads.
 use Rattle.std.specs.Prelude.{ℕ, ◌≡◌, ◌≤◌, ◌<◌, true, List, [], ◌∷◌, ◌++◌, map, length, Option, Some, None}
 use Rattle.mw_words.specs.declared.jobs.Job.{Job}
 use Rattle.mw_words.specs.declared.places.At.{At}

@@ -1,6 +1,6 @@
--- States that the requests which a thread's workers finished are answered as each tenant's store alone (the sequential reference
--- model) answers them. It joins the threads with the theorem (docs/THEOREM.md).
--- Used by: the laws of src/laws.rt, mw_engine. A change here changes what these laws say.
+-- States that the requests which a thread's workers finished are answered as each tenant's store alone answers them. It joins
+-- the threads with the theorem (docs/THEOREM.md).
+-- Used by: src/laws.rt, mw_table.
 use Rattle.std.specs.Prelude.{ℕ, ◌≡◌, ◌<◌, List, ◌++◌, slice_get, Some}
 use Rattle.mw_words.specs.declared.replies.Reply.TheVariants.{Yes as SaysYes}
 use Rattle.mw_lone.specs.Store.{replies_from}

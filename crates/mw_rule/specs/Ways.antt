@@ -1,6 +1,5 @@
 -- Defines, for each kind of step, how it changes the bits of its word, and what it finds.
--- Used by: the contracts of src/ways.rt, specs/Laws, specs/RunEvents, specs/WordActions, mw_table. A change here changes what
--- these contracts say.
+-- Used by: src/ways.rt, mw_table, mw_law_threads.
 use Rattle.std.specs.Prelude.{ℕ, ◌+◌, ◌-◌, ◌%◌, ◌^◌, ◌==◌, cond}
 use Rattle.std.specs.Int.Bits.{bit_or}
 use Rattle.mw_look.specs.declared.observations.Got.{Got}

@@ -1,5 +1,5 @@
 -- Defines a whole request of a thread: what the thread knew when it came, and what it knows when it has its reply.
--- Used by: the laws of src/laws.rt, mw_table, mw_core, mw_engine. A change here changes what these laws say.
+-- Used by: src/laws.rt, mw_table, mw_law_threads.
 use Rattle.std.specs.Prelude.{ℕ, ◌≡◌, ◌≤◌, Bool, true, List, [], ◌∷◌, ◌++◌, length, Option, Some, None}
 use Rattle.mw_words.specs.declared.jobs.Job.{Job}
 use Rattle.mw_words.specs.declared.replies.Reply.{Reply}

@@ -1,5 +1,5 @@
--- Lists all that a thread may do to one word of the table, and by which events each of these actions extends the table's run.
--- Used by: the laws of src/laws.rt, mw_table, mw_core, mw_engine. A change here changes what these laws say.
+-- Lists all that a thread may do to one word of the table, and by which events each extends the table's run.
+-- Used by: src/laws.rt, mw_table.
 use Rattle.std.specs.Prelude.{ℕ, true, false, ◌≡◌, List, [], ◌∷◌, ◌++◌, Some}
 use mathlib.Core.Option.{some}
 use lib.ListN.{get_elem?}

@@ -1,9 +1,8 @@
 //! States what is proved of calls on tenants' files: how they start and end, and what the file token says of a
 //! file.
 //!
-//! The functions do nothing, and nothing calls them: each contract is a fact, proved in `proofs/call_laws`. Proofs
-//! of crates above import other pages of `proofs`, by which these facts are proved. To change a fact, change
-//! its definition in `specs`, and then its proof.
+//! The functions are empty: their contracts are the facts, proved in `proofs/call_laws`. To change a fact, begin with
+//! its definition in `specs`.
 ghost use Rattle.mw_law_store.specs.Quotas.{EventsTellQuotas};
 ghost use Rattle.mw_rule.specs.Calls.OtherEvents.{OthersLeaveFiles, OthersLeaveFilesLong};
 ghost use Rattle.mw_rule.specs.Calls.CallsByToken.{CallingStays, CallingStaysLong, CallsEndByFileToken};

@@ -1,7 +1,6 @@
-//! The file token: the ghost capability to make calls on a tenant's file. Proofs use it; the program makes no value
-//! of it.
+//! The file token: the ghost capability to make calls on a tenant's file, for proofs alone.
 //!
-//! mw_rule keeps the tokens of a thread in its view (`src/views.rt`). `specs/Calls/FileTokens` says what its fields tell
+//! mw_rule keeps a thread's tokens in its view (`src/views.rt`). `specs/Calls/FileTokens` says what its fields tell
 //! of the file: change it with a field.
 
 use mw_words::Entry;

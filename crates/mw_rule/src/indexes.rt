@@ -1,7 +1,6 @@
 //! Gives the index of each shared word in the table, the array of atomic words that threads share.
 //!
-//! Used by: mw_table, mw_table_tests. The order may be changed, together with `specs/Layout` and with `place_at` of mw_table.
-//! Nothing outside of memory depends on it. Its contracts use `specs/Layout`: change them together.
+//! Used by: mw_table, mw_table_tests. The order may change with `specs/Layout` and `place_at` of mw_table.
 ghost use Rattle.std.specs.Prelude.{◌≡◌, ◌<◌, ◌+◌, ◌*◌};
 ghost use Rattle.mw_rule.specs.Layout as spec;
 

@@ -1,8 +1,7 @@
 //! States what is proved of the rule that ties the threads' shared words to a run of the world (`specs/Rule`).
 //!
-//! The functions do nothing, and nothing calls them: each contract is a fact, proved in `proofs/laws`. Proofs
-//! of crates above import other pages of `proofs`, by which these facts are proved. To change a fact, change
-//! its definition in `specs`, and then its proof.
+//! The functions are empty: their contracts are the facts, proved in `proofs/laws`. To change a fact, begin with its
+//! definition in `specs`.
 ghost use Rattle.mw_rule.specs.WholeCalls.{CallsBegin, CallsTakeFiles, CallsDealt, CallsEnd, CallsFile, CallsGiveBack, CallsGoOn, CallsMeet, CallsOverPlainLoads, CallsStart};
 ghost use Rattle.mw_rule.specs.RunEvents.{FileCallsEndOn, FileCallsFindFaultsOn, FileCallsLoadOn, FileCallsMeetFaultsOn, FirstStepsGoOn, JoinsGoOn, PlainLoadsGoOn, PartsGoOn, StepsGoOn};
 ghost use Rattle.mw_rule.specs.Laws.{TakingFilesKeepsTheRule, FileCallsEndWell, FileCallsFindFaults, FileCallsLoad, FileCallsMeetFaults, FilesAreOfSeen, ChangesAreOwn, SplitsKeepTheRule, GivingFilesKeepsTheRule, FirstStepsKeepTheRule, MergedPartsAgain, MergingKeepsTheRule, LearningKeepsTheRule, PlainLoadsKeepTheRule, MeetingKeepsTheRule, MeetingsAreRight, NotesKeepTheRule, NotesLoseNothing, PartsAreRight, StartsUnderTheRule, StepsKeepTheRule};

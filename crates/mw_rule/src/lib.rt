@@ -1,5 +1,6 @@
 //! The rule that ties the shared words of running threads to the world, a model of a whole server. Between any two
 //! steps, some run of the world leads to the bits in the table, and what each thread knows is true after that run.
+//! `mw_table` makes the steps.
 //!
 //! Read in this order:
 //!
@@ -9,16 +10,13 @@
 //!   replies BUSY, FAULT and WORN rest on.
 //! - `specs/Steps`: what a step requires of the thread that makes it, and what the thread learns. `specs/FileCalls`:
 //!   the same for a call on a file. `specs/WholeCalls`: the same for a whole request.
-//! - `specs/Calls`: how calls on tenants' files end on words that threads share: which step on one shared word is a call's
-//!   event, and what stays until then. Also the file token, the ghost capability to call one file, which one thread has
-//!   at a time.
+//! - `specs/Calls`: which step on one shared word is a file call's event, and what stays until then. Also the file
+//!   token, the ghost capability to call one file, which one thread has at a time.
 //! - `specs/Splits`: how threads split and merge what they know.
 //! - `specs/Laws`, `specs/RunEvents`, `specs/WordActions` and `specs/StoreAlone`: what is proved of all these.
 //!
-//! `mw_table` makes the steps.
-//!
-//! Used by: mw_table, mw_service, mw_law_threads, mw_table_tests. A change of `specs/Rule` or `specs/Steps` changes what the contracts of mw_table
-//! say. A new kind of step needs a case in `specs/Ways` and `way_of` (`src/ways.rt`) if it is a new fetch.
+//! Used by: mw_table, mw_service, mw_law_threads, mw_table_tests. A change of `specs/Rule` or `specs/Steps` changes
+//! the contracts of mw_table. A new fetch needs a case in `specs/Ways` and `way_of` (`src/ways.rt`).
 #![tactic(auto)]
 
 mod call_laws;

@@ -1,8 +1,7 @@
 //! Gives the rule (`specs/Rule`) as a type that `atomic_table` takes, and the ways in which threads split and merge
-//! what they know.
+//! what they know (`specs/Splits`).
 //!
-//! mw_table names these types when it makes a table, and when threads split and merge what they know. `specs/Rule`
-//! and `specs/Splits` define them: change them together.
+//! Used by: mw_table. Change it with these two pages.
 ghost use Rattle.std.specs.Prelude.{List, ℕ};
 ghost use Rattle.mw_world.specs.declared.config.Config.{Config};
 ghost use Rattle.mw_world.specs.Definition.Events.{WorldEvent};

@@ -1,8 +1,6 @@
-//! Says how each kind of step changes the bits of its word: by an exchange, a store, a subtraction, or setting
-//! bits.
+//! Says how each kind of step changes the bits of its word: by an exchange, a store, a subtraction, or setting bits.
 //!
-//! mw_table makes each step in its way: `src/turns.rt` a request's steps, `src/call_steps.rt` those that end calls
-//! on files (an exchange, or the `fetch_or` of a fault). `specs/Ways` says the same for proofs: change both
+//! Used by: mw_table (`src/turns.rt`, `src/call_steps.rt`). `specs/Ways` says the same for proofs: change both
 //! together.
 ghost use Rattle.std.specs.Prelude.{◌≡◌};
 ghost use Rattle.mw_rule.specs.Ways as spec;

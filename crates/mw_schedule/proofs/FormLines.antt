@@ -1,5 +1,4 @@
--- Lines of a text that are passed one after the other.
--- Used by: the proof of from_line. It may change freely as long as this crate checks.
+-- Lines of a text that are passed one after the other. Used by: from_line.
 use Rattle.std.specs.Prelude.{ℕ, zero, suc, ◌≡◌, ◌+◌, ◌-◌, ◌<◌, List, [], None}
 use Rattle.std.proofs.Common.{refl, sym, ap, ◌∙◌, arith}
 use Rattle.mw_line.specs.LineReader.{field_at}

@@ -1,5 +1,4 @@
--- Stops of files that a schedule may have are still such with one more, if that is of another tenant.
--- Used by: the proof of read_stops. It may change freely as long as this crate checks.
+-- Stops of files that a schedule may have are still such with one more, if that is of another tenant. Used by: read_stops.
 use Rattle.std.proofs.Common.{◌≡◌, ◌≢◌, ℕ, ◌==◌, ◌<◌, false, List, [], ◌∷◌, ◌++◌, arith}
 use Rattle.std.specs.Prelude.{All}
 use Rattle.std.specs.List.{list_any}

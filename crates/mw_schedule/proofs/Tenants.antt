@@ -1,6 +1,6 @@
 -- Tenants that a schedule may have are still such with one more, or with an old file for one. A schedule is a text that a
 -- simulated world plays.
--- Used by: Stops, the proofs of read_tenants and read_olds. It may change freely as long as this crate checks.
+-- Used by: read_tenants, read_olds.
 use Rattle.std.proofs.Common.{◌≡◌, ◌≢◌, ℕ, ◌+◌, ◌<◌, ◌≤◌, Bool, true, false, ◌||◌, Option, Some, List, [], ◌∷◌, ◌++◌, length, get_or, set, refl, sym, ap, subst, ◌∙◌, inl, inr, arith}
 use Rattle.std.specs.Prelude.{All, bytes_eq, IsTrue, sum_by}
 use Rattle.std.specs.List.{list_any}

@@ -1,5 +1,4 @@
--- Defines the number that a whole text is, if it is one.
--- Used by: the contracts of src/fields.rt. A change here changes what these contracts say.
+-- Defines the number that a whole text is, if it is one. Used by: src/fields.rt.
 use Rattle.std.specs.Prelude.{ℕ, ◌==◌, List, length, if◌then◌else◌, Option, Some, None}
 use Rattle.mw_line.specs.LineReader.{◌>>=◌, narrow, number_at}
 

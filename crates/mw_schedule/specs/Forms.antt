@@ -1,5 +1,5 @@
 -- Defines which rule the first wrong line of a schedule breaks.
--- Used by: the contracts of src/forms.rt and src/first_words.rt. A new LineForm or LineRule needs a case here.
+-- Used by: src/forms.rt, src/first_words.rt. A new LineForm or LineRule needs a case here.
 use Rattle.std.specs.Prelude.{ℕ, zero, suc, ◌-◌, ◌==◌, Bool, true, false, if◌then◌else◌, List, [], ◌∷◌, bytes_eq, codes, Option, Some, None}
 use Rattle.mw_line.specs.LineReader.{field_at}
 use Rattle.mw_schedule.specs.declared.forms.LineForm.{LineForm}

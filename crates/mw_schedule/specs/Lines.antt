@@ -1,5 +1,5 @@
 -- Defines when some lines of a text are those after the first one of others: fewer bytes, and the next line number.
--- Used by: the contracts of src/lines.rt. A change here changes what these contracts say.
+-- Used by: src/lines.rt.
 use Rattle.std.specs.Prelude.{◌≡◌, ◌+◌, ◌<◌, length}
 use Rattle.mw_schedule.specs.declared.rest.Lines.{Lines}
 

@@ -1,6 +1,6 @@
 //! Reads the first lines of a schedule: the configuration of its world.
 //!
-//! Used by: `reader`. Its contracts use `specs/Playable`: change them together.
+//! Used by: `reader`. Change it with `specs/Playable`.
 ghost use Rattle.std.specs.Prelude.{◌≡◌, ◌≤◌, IsTrue, bytes_eq, IfOk, IfSome};
 ghost use Rattle.std.specs.List.{list_any};
 ghost use Rattle.mw_words.specs.Name as name_spec;

@@ -1,6 +1,6 @@
 //! Reads numbers that are a whole text, and items with spaces between them.
 //!
-//! Used by: `commands`, `config`, `olds`, `restarts`. Its contracts use `specs/Fields`: change them together.
+//! Used by: `commands`, `config`, `olds`, `restarts`. Change it with `specs/Fields`.
 ghost use Rattle.std.specs.Prelude.{◌≤◌, length, IfSome};
 ghost use Rattle.mw_line.specs.LineReader.{Gives};
 ghost use Rattle.mw_schedule.specs.Fields as spec;

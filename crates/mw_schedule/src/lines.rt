@@ -1,6 +1,6 @@
 //! Reads a text line by line.
 //!
-//! Used by: `config`, `olds`, `reader`. Its contracts use `specs/Lines`: change them together.
+//! Used by: `config`, `olds`, `reader`. Change it with `specs/Lines`.
 ghost use Rattle.std.specs.Prelude.{◌≡◌, IfSome};
 ghost use Rattle.mw_schedule.specs.Lines.{IsFurther};
 

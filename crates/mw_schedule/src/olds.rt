@@ -1,6 +1,6 @@
 //! Reads the lines of a schedule that describe old files (made, but not opened by a start yet).
 //!
-//! Used by: `config`. Its contracts use `specs/Playable`: change them together.
+//! Used by: `config`. Change it with `specs/Playable`.
 ghost use Rattle.std.specs.Prelude.{◌≡◌, ◌<◌, ◌≤◌, get_or, length, IfSome, IsTrue, Some};
 ghost use Rattle.mw_words.specs.declared.limits.TheConstants.{MAX_VALUE, MAX_WORDS};
 ghost use Rattle.mw_world.specs.Definition.State.{is_old, may_be_old, no_tenant};

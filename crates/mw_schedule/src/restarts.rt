@@ -1,6 +1,6 @@
 //! Reads how a schedule says that each tenant's file is stopped and opened again.
 //!
-//! Used by: `commands`. Its contracts use `specs/Playable`: change them together.
+//! Used by: `commands`. Change it with `specs/Playable`.
 ghost use Rattle.std.specs.Prelude.{◌≡◌, ◌==◌, ◌<◌, length, IfOk, IfSome};
 ghost use Rattle.std.specs.List.{list_any};
 ghost use Rattle.mw_world.specs.Definition.State.{tenants_of};

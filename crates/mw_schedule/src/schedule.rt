@@ -1,7 +1,7 @@
 //! The types of a schedule: the configuration of a world, and what happens to it, line by line.
 //!
-//! `reader` and `commands` make it, and mw_player plays it. A new command needs a case in `commands` and in
-//! `Player::obey` of mw_player.
+//! Used by: `reader`, `commands`, mw_player. A new command needs a case in `commands` and in `Player::obey` of
+//! mw_player.
 
 use crate::steps::StepKind;
 use mw_words::Job;

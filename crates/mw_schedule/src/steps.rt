@@ -1,7 +1,6 @@
 //! The kinds of step that a schedule can name, and which kind a step is.
 //!
-//! `commands` reads their names, and mw_player finds the kind of a worker's next step. A new kind needs a
-//! case here, in `specs/Steps`, and in docs/SCHEDULES.md.
+//! Used by: `commands`, mw_player. A new kind needs a case here, in `specs/Steps`, and in docs/SCHEDULES.md.
 ghost use Rattle.std.specs.Prelude.{◌≡◌};
 ghost use Rattle.mw_schedule.specs.Steps as spec;
 

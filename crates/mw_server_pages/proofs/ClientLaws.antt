@@ -1,5 +1,4 @@
--- If a listener is asked once more, and the client that it gave is served, `AreServed` still holds.
--- Used by: the proof of serve_pages. It may change freely as long as this crate checks.
+-- If a listener is asked once more, and the client that it gave is served, `AreServed` still holds. Used by: serve_pages.
 use Rattle.std.proofs.Common.{ℕ, List, [], ◌∷◌, ◌++◌}
 use Rattle.std.specs.declared.result.Result.{Result}
 use Rattle.mw_session.specs.declared.recorded_stream.RecordedStream.{RecordedStream}

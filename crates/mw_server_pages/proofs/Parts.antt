@@ -1,5 +1,4 @@
--- A text that was put in parts is the text with the joined parts after it.
--- Used by: the proofs of recents.rt, status.rt and tenant_rows.rt. It may change freely as long as this crate checks.
+-- A text that was put in parts is the text with the joined parts after it. Used by: recents.rt, status.rt, tenant_rows.rt.
 use Rattle.std.proofs.Common.{◌≡◌, ℕ, ◌++◌, List, ap, ◌∙◌, append_assoc}
 
 -- a part was put, and then the rest

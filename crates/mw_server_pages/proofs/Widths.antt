@@ -1,5 +1,4 @@
--- A number of 64 bits is printed in 20 digits at most, and one of 8 bits in 3.
--- Used by: the proofs of put_number and put_small. It may change freely as long as this crate checks.
+-- A number of 64 bits is printed in 20 digits at most, and one of 8 bits in 3. Used by: put_number, put_small.
 use Rattle.std.proofs.Common.{ℕ, ◌≤◌, ◌<◌, ◌^◌, length, decimal, arith}
 use Rattle.std.proofs.lemmas.Fmt.{length-decimal-le}
 

@@ -1,5 +1,5 @@
 -- Defines which clients were served, each by one exchange, and in what order.
--- Used by: the contracts of server.rt. A change here changes what serve_pages promises.
+-- Used by: server.rt. A change here changes what serve_pages promises.
 use Rattle.std.specs.Prelude.{◌≡◌, ℕ, List}
 use Rattle.std.specs.declared.result.Result.{Result}
 use Rattle.std.specs.declared.result.Result.TheVariants.{Ok, Err}

@@ -1,5 +1,5 @@
 -- Defines how a copy of a tenant's file is answered.
--- Used by: specs/Shown, mw_programs, the contracts of file_copies.rt. A new reason why there is no copy needs a status in specs/Shown.
+-- Used by: mw_programs, file_copies.rt. A new reason why there is no copy needs a status in specs/Shown.
 use Rattle.std.specs.Prelude.{ℕ, Vec, Result}
 use Rattle.std.specs.declared.alloc.Global.{Global}
 use Rattle.mw_server_pages.specs.declared.file_copies.NoCopy.{NoCopy}

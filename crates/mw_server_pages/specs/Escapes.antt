@@ -1,5 +1,4 @@
--- Defines a text in HTML.
--- Used by: specs/StatusPage, specs/Recents, the contracts of text.rt. A change here changes each text that is shown.
+-- Defines a text in HTML. Used by: text.rt. A change here changes each text that is shown.
 use Rattle.std.specs.Prelude.{ℕ, ◌==◌, List, [], ◌∷◌, flat_map, codes, if◌then◌else◌}
 
 -- a byte of a text in HTML: what would begin a tag, a reference or end a value is written as a reference

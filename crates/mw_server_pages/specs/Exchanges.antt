@@ -1,6 +1,6 @@
 -- Defines one exchange with a client: what was read, what the pages were asked for, and what was written.
--- Used by: specs/Clients, the contracts of receiving.rt, writing.rt and exchanges.rt. A change here changes how HTTP clients are
--- answered, and docs/HTTP with it.
+-- Used by: receiving.rt, writing.rt, exchanges.rt. A change here changes how HTTP clients are answered, and docs/HTTP with
+-- it.
 use Rattle.std.specs.Prelude.{◌≡◌, ℕ, ◌==◌, ◌++◌, ◌<◌, Bool, true, false, List, [], ◌∷◌, length, None, Some, Result, Ok, Err, if◌then◌else◌}
 use Rattle.mw_session.specs.StreamRecords.{ReadRecord, WriteRecord, with_end, with_read, with_read_fault, with_write_fault, with_written}
 use Rattle.mw_http.specs.declared.hearing.Heard.TheVariants as Hear

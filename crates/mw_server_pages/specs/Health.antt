@@ -1,6 +1,5 @@
 -- Defines the text that says whether all tenants are up, and no file was replaced.
--- Used by: specs/StatusPage, the contracts of health.rt. A change here changes what checks of a server read: docs/HTTP changes
--- with it.
+-- Used by: health.rt. A change here changes what checks of a server read: docs/HTTP changes with it.
 use Rattle.std.specs.Prelude.{ℕ, ◌++◌, Bool, false, not, List, [], flat_map, codes, if◌then◌else◌}
 use Rattle.std.specs.List.{list_all}
 use Rattle.mw_metrics.specs.declared.figures.TenantMetrics.{TenantMetrics}

@@ -1,5 +1,5 @@
 -- Defines what the status page has of limits: how much of each was used of late, and which are near.
--- Used by: specs/StatusPage, the contracts of limits.rt. A change here changes what the browser shows.
+-- Used by: limits.rt. A change here changes what the browser shows.
 use Rattle.std.specs.Prelude.{ℕ, ◌++◌, Bool, true, false, not, List, flat_map, codes, decimal, if◌then◌else◌}
 use Rattle.std.specs.List.{list_all}
 use Rattle.mw_server_pages.specs.declared.limits.LimitKind.{LimitKind}

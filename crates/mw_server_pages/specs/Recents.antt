@@ -1,5 +1,5 @@
 -- Defines what the status page has of the time before: a row with three curves in SVG for each tenant.
--- Used by: specs/StatusPage, the contracts of recents.rt. A change here changes what the browser shows.
+-- Used by: recents.rt. A change here changes what the browser shows.
 use Rattle.std.specs.Prelude.{ℕ, ◌++◌, List, flat_map, codes, decimal, Option, None, Some}
 use Rattle.mw_server_pages.specs.declared.recents.Curve.{Curve}
 use Rattle.mw_server_pages.specs.declared.recents.Point.{Point}

@@ -1,5 +1,4 @@
--- Defines how a span of time is written.
--- Used by: specs/StatusPage, specs/Recents, the contract of spans.rt. A change here changes what the browser shows.
+-- Defines how a span of time is written. Used by: spans.rt. A change here changes what the browser shows.
 use Rattle.std.specs.Prelude.{ℕ, ◌/◌, ◌%◌, ◌++◌, List, codes, decimal}
 
 -- a time of so many seconds in days, hours, minutes and seconds

@@ -1,6 +1,6 @@
 //! Says whether all tenants are up and their files in their places, and which are not.
 //!
-//! `specs/Health` defines the text: change both together, and docs/HTTP.
+//! Used by: `server_pages`. Change it with `specs/Health` and docs/HTTP.
 ghost use Rattle.std.specs.Prelude.{◌≡◌, ◌+◌, ◌≤◌, ◌++◌, length};
 ghost use Rattle.std.specs.List.{list_all};
 ghost use Rattle.mw_words.specs.declared.limits.TheConstants.{MAX_TENANTS};

@@ -1,19 +1,18 @@
-//! The pages of a server: its state, its figures, and whether it is well, by the service of a session and the server's counters;
-//! copies of its tenants' files; and the service of HTTP clients that ask for them, one at a time, each with one request.
+//! The pages of a server: its state, its figures, whether it is well, and copies of its tenants' files. Serves the
+//! HTTP clients that ask for them, one at a time, each with one request.
 //!
-//! [`ServerPages`] has all that is shown at each place, and a program implements [`FileCopies`] for it. `specs/Shown` says what is
-//! shown. The page is one file of HTML and SVG, without a script, and reads well in a terminal too; it and the text that says
-//! whether all tenants are up are pure functions of the figures of the tenants. `specs/StatusPage` and `specs/Health`
-//! define them. mw_metrics writes the text of the figures.
+//! [`ServerPages`] has all that is shown, by the service of a session and the server's counters, and a program
+//! implements [`FileCopies`] for it. `specs/Shown` says what is shown. The page is one file of HTML and SVG, without
+//! a script; it and the text that says whether all tenants are up are pure functions of the tenants' figures
+//! (`specs/StatusPage`, `specs/Health`). mw_metrics writes the text of the figures.
 //!
-//! [`exchange`] receives a request from a client's stream, asks [`Pages`] for what it asks for, and writes the answer. A
-//! head that is wrong or too long, or another method than `GET` and `HEAD`, is answered by the status that mw_http gives it,
-//! and one that comes too late by 408; the pages are asked for the date alone. If the client sends no whole head, or a read
-//! fails, nothing is written. [`serve_pages`] does this for each client that a listener gives, and closes its connection.
-//! mw_connections has the streams and the limits of time. `specs/Exchanges` says what was read, asked and written,
-//! `specs/Clients` which clients were served.
+//! [`exchange`] receives a request from a client's stream, asks [`Pages`] for what it asks for, and writes the
+//! answer. A head that is wrong or too long, or another method than `GET` and `HEAD`, is answered by the status that
+//! mw_http gives it, and one that comes too late by 408. If the client sends no whole head, or a read fails, nothing
+//! is written. [`serve_pages`] does this for each client that a listener gives, and closes its connection.
+//! `specs/Exchanges` says what was read, asked and written, `specs/Clients` which clients were served.
 //!
-//! Used by: mw_programs, and tests.
+//! Used by: mw_programs, tests.
 #![tactic(auto)]
 
 mod bodies;

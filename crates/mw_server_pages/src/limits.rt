@@ -1,6 +1,6 @@
-//! Writes how much of each limit was used of late, and which are near.
+//! Writes how much of each limit was used of late (`near.rt`), and which are near.
 //!
-//! `specs/Limits` defines it: change both together. `near.rt` says how much was used.
+//! Used by: `status`. Change it with `specs/Limits`.
 ghost use Rattle.std.specs.Prelude.{◌≡◌, ◌+◌, ◌*◌, ◌≤◌, ◌++◌, length, flat_map};
 ghost use Rattle.std.specs.List.{list_all};
 ghost use Rattle.mw_server_pages.specs.declared.text.TheConstants.{MAX_PAGE};

@@ -1,8 +1,8 @@
-//! How the status page looks, and its script: files of their own, so that the page has nothing in it that a Content-Security-Policy
-//! forbids.
+//! How the status page looks, and its script: files of their own, so that the page has nothing that a
+//! Content-Security-Policy forbids.
 //!
-//! `server_pages.rt` shows them. The script asks for the page and for the figures every five seconds. What it makes of them is tested
-//! by scripts/check-http.
+//! `server_pages.rt` shows them. The script asks for the page and the figures every five seconds; scripts/check-http
+//! tests it.
 
 /// How the status page looks, in CSS.
 pub const STYLE: &str = r#"body { font-family: sans-serif; margin: 1em; max-width: 75em }

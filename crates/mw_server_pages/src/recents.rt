@@ -1,6 +1,6 @@
 //! Writes what the status page has of the time before: a row with curves for each tenant.
 //!
-//! `specs/Recents` defines it: change both together. What the curves are of, mw_server_pages says.
+//! Used by: `status`. Change it with `specs/Recents`.
 ghost use Rattle.std.specs.Prelude.{◌≡◌, ◌+◌, ◌*◌, ◌≤◌, ◌++◌, length, flat_map};
 ghost use Rattle.mw_words.specs.declared.limits.TheConstants.{MAX_TENANTS};
 ghost use Rattle.mw_server_pages.specs.declared.text.TheConstants.{MAX_PAGE};

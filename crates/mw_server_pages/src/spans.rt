@@ -1,6 +1,6 @@
 //! Writes how long something is so.
 //!
-//! `specs/Spans` defines it: change both together.
+//! Used by: `recents`, `status`. Change it with `specs/Spans`.
 ghost use Rattle.std.specs.Prelude.{◌≡◌, ◌+◌, ◌≤◌, ◌++◌, length};
 ghost use Rattle.mw_server_pages.specs.declared.text.TheConstants.{MAX_PAGE};
 ghost use Rattle.mw_server_pages.specs.Spans as spec;

@@ -1,6 +1,6 @@
 //! Writes what the status page has of each tenant.
 //!
-//! `specs/StatusPage` defines it: change both together.
+//! Used by: `status`. Change it with `specs/StatusPage`.
 ghost use Rattle.std.specs.Prelude.{◌≡◌, ◌+◌, ◌*◌, ◌≤◌, ◌++◌, length, flat_map};
 ghost use Rattle.mw_words.specs.declared.limits.TheConstants.{MAX_TENANTS};
 ghost use Rattle.mw_server_pages.specs.declared.text.TheConstants.{MAX_PAGE};

@@ -1,5 +1,5 @@
 -- A session that a worker served is one of the worker's pass (its handle to the engine), with the same calls.
--- Used by: the proof of Worker::run. It may change freely as long as this crate checks.
+-- Used by: Worker::run.
 use Rattle.std.specs.Prelude.{List, [], ◌∷◌}
 use Rattle.std.proofs.Common.{ap}
 use Rattle.mw_session.specs.declared.session.Ended.{Ended}

@@ -1,5 +1,4 @@
--- What a new pass knows of the run goes back to the engine's start.
--- Used by: the proof of locked. It may change freely as long as this crate checks.
+-- What a new pass knows of the run goes back to the engine's start. Used by: locked.
 use Rattle.std.specs.Prelude.{◌≡◌, is_some, [], Option, Some}
 use Rattle.std.proofs.Common.{refl, sym, ap, ◌∙◌}
 use Rattle.std.proofs.lemmas.Option.{same_Some}

@@ -1,6 +1,5 @@
--- When a loop makes a worker of each pass (a thread's handle to the engine), their numbers agree. What holds of all passes
--- holds of the next.
--- Used by: the proof of locked, those of workers_for and first_of of mw_programs. It may change freely as long as this crate checks.
+-- When a loop makes a worker of each pass, their numbers agree, and what holds of all passes holds of the next.
+-- Used by: locked, mw_programs.
 use Rattle.std.proofs.Common.{◌≡◌, ℕ, suc, ◌+◌, List, [], ◌∷◌, ◌++◌, length, All, Result, Ok, Err, is_ok, is_err, false, if◌then◌else◌, ap, ◌∙◌, subst, arith, length-append}
 
 -- with one more made and one fewer left, the sum is the same

@@ -1,7 +1,7 @@
 -- Defines what is answered to a session that borrows a pass (a handle to the engine) for each request, by its notes: what it
 -- had seen before, and what it has seen then.
--- Used by: the contracts of src/idle_pass.rt, src/locked_passes.rt, src/pass_pool.rt, src/read_pool.rt and src/borrower.rt, the
--- laws of mw_law_threads. A change here changes what a client is promised that shares the workers with others.
+-- Used by: idle_pass.rt, locked_passes.rt, pass_pool.rt, read_pool.rt, borrower.rt, mw_law_threads. A change here changes
+-- what such a client is promised.
 use Rattle.std.specs.Prelude.{◌≡◌, ℕ, true, length, map, Option, Some, None, MatchOption}
 use Rattle.mw_words.specs.declared.jobs.Job.{Job}
 use Rattle.mw_words.specs.declared.replies.Reply.{Reply}
@@ -67,8 +67,7 @@ pub record AreCountedBy (identity : Identity) (before after : Pass) (old : Optio
 -- with the pass. The session's new note tells the run that the pass knew last: it has the arrival of a request of this tenant for
 -- this job, after all that the session knew before, its steps and its reply. BUSY and FAULT are explained by that run alone: if it
 -- had numbers left at every moment, the tenant's store alone gives this reply, and WORN never comes
--- (`answers_are_of_the_store_alone` of mw_engine). That two sessions are not told the reply to one request, only the pass knows
--- (`IdlePass::serve`).
+-- (`answers_are_of_the_store_alone` of mw_engine). That no other session is told the reply to the same request: specs/OwnReplies.
 abbrev pub IsAnsweredWith : Identity → Option Note → ℕ → Job → Reply → Option Note → Type 0
 IsAnsweredWith identity old tenant job reply new = (before after : Pass) × IsAnsweredBy identity before after old tenant job reply new
 

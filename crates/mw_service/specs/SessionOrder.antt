@@ -1,5 +1,5 @@
 -- Defines when the replies of a session that borrows its passes are right in one history, one after the other.
--- Used by: the contract of src/laws.rt. A change here changes what a client is promised that shares the workers with others.
+-- Used by: src/laws.rt. A change here changes what such a client is promised.
 use Rattle.std.specs.Prelude.{ℕ, ◌≡◌, ◌≤◌, ◌<◌, List, [], ◌∷◌, length, Option, Some, None}
 use Rattle.mw_words.specs.declared.jobs.Job.{Job}
 use Rattle.mw_words.specs.declared.replies.Reply.{Reply}

@@ -1,7 +1,8 @@
-//! A service over another one, which times each request and counts it by its kind and its reply.
+//! A service over another one, which times each request that reaches a tenant's store, and counts it by its kind and
+//! its reply.
 //!
-//! mw_programs makes one over the service of each session. It promises what the service below promises, and may change with
-//! the trait. It counts the requests that reach the tenants' stores; a line that a session refuses is no such request.
+//! mw_programs makes one over the service of each session. It promises what the service below promises, and may
+//! change with the trait.
 ghost use Rattle.std.specs.Prelude.{◌≡◌};
 
 use mw_metrics::{Meters, Stopwatch};

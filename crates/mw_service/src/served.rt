@@ -1,8 +1,8 @@
 //! Implements a session's service for a worker: finds tenants, asks the engine for jobs, and gives the report's
 //! figures.
 //!
-//! mw_session calls it for the lines of a session, which `worker` runs. A new question of a session needs a
-//! call here and in `Service` of mw_session.
+//! mw_session calls it for the lines of a session, which `worker` runs. A new question needs a call here and in
+//! `Service` of mw_session.
 use crate::watch::FaultWatch;
 use crate::worker::Worker;
 use mw_disk::Disk;

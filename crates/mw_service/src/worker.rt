@@ -1,7 +1,7 @@
 //! A worker: it serves sessions with its pass, its handle to the engine.
 //!
-//! Used by: mw_programs, for a script and for each client of a server without `--clients`. `specs/Served` says what a
-//! session of a worker is: change both together. docs/PROMISES cites `Worker::run`.
+//! Used by: mw_programs, for a script and for each client of a server without `--clients`. Change it with
+//! `specs/Served`. docs/PROMISES cites `Worker::run`.
 ghost use Rattle.std.specs.Prelude.{◌≡◌, true};
 ghost use Rattle.std.specs.Io.KnownBytes.{IsAtEnd};
 ghost use Rattle.mw_session.specs.KnownStreams.{IsTied, inner_of, reads_of, writes_of};

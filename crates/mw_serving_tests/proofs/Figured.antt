@@ -1,5 +1,4 @@
 -- The figures of no tenant keep the limits of a report.
--- Used by: the proofs of mw_serving_tests. It may change freely as long as this crate checks.
 use Rattle.std.proofs.Common.{◌≡◌, ℕ, ◌≤◌, List, [], ◌∷◌, lit≤, subst, sym}
 use Rattle.std.proofs.lemmas.List.Elements.{All-nil, All-cons}
 use Rattle.mw_report.specs.declared.figures.TenantFigures.{TenantFigures}

@@ -1,6 +1,4 @@
-//! Checks what a test found. Used by: the other modules of this crate.
-//!
-//! It may change freely as long as this crate checks and its tests pass.
+//! Checks what a test found. Used by: other modules of this crate.
 use std::process::Abort;
 
 /// Checks that something is so, in this row of a test, and at this number in it. Tests share this check, because a test

@@ -1,6 +1,4 @@
 //! Tests workers that serve clients in memory, each once, and a listener that waits while there is no room for one.
-//!
-//! Nothing else uses it: it may change with what it tests.
 ghost use Rattle.std.specs.Prelude.{◌<◌};
 
 use crate::checks::holds;

@@ -1,7 +1,5 @@
 //! Tests a desk with several administrators: who gives way to another, who doesn't, what happens at the end, and what is
 //! told of a lack of room.
-//!
-//! Nothing else uses it: it may change with what it tests.
 use crate::checks::holds;
 use crate::doors::{NO_LIMITS, Tally, open};
 use crate::scenes::{Act, Event, Site, Step};

@@ -1,6 +1,6 @@
 //! Clients in memory: each has a script of what it says and what it must be told.
 //!
-//! Used by: `crowd_tests`, `session_tests`. It may change freely as long as this crate checks and its tests pass.
+//! Used by: `crowd_tests`, `session_tests`.
 ghost use Rattle.std.specs.Prelude.{◌≡◌, None, Some};
 ghost use Rattle.mw_session.specs.KnownStreams.{inner_of, reads_of, writes_of};
 

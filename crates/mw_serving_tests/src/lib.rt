@@ -1,8 +1,6 @@
-//! Tests sessions, connections, workers and listeners: clients in memory, clients over TCP and by local sockets, a desk
-//! beside other clients, and a lack of room. The tests are apart from the crates that they test, so that those are
-//! proved once.
-//!
-//! A session in memory is played by `guests`, and clients over sockets by `scenes`: tests are tables of these.
+//! Tests sessions, connections, workers and listeners. A session in memory is played by `guests`, and clients over
+//! sockets by `scenes`: tests are tables of these. The tests are apart from the crates that they test, so that those
+//! are proved once.
 #![tactic(auto)]
 
 #[cfg(test)]

@@ -1,6 +1,6 @@
 //! A service that records what it is asked.
 //!
-//! Used by: `session_tests`. It may change freely as long as this crate checks and its tests pass.
+//! Used by: `session_tests`.
 use arrayvec::ArrayVec;
 use mw_report::Figures;
 use mw_session::Service;

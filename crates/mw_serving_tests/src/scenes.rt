@@ -1,7 +1,6 @@
 //! Scenes: what clients over sockets do and are told, a step at a time. A scene is data, and [`play`] plays it.
 //!
-//! Used by: `serving`, `socket_tests`, `desk_tests`. It may change freely as long as this crate checks and its tests
-//! pass.
+//! Used by: `serving`, `scene_rows`, `desk_tests`.
 use crate::doors::Tally;
 use mw_test_peers::{Caller, Habit, Place, come_and_go};
 use std::alloc::Global;

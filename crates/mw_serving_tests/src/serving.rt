@@ -1,7 +1,6 @@
 //! Servers for tests, over the words of one tenant, and the clients of a scene beside them.
 //!
-//! Used by: `crowd_tests`, `desk_tests`, `socket_tests`. It may change freely as long as this crate checks and its tests
-//! pass.
+//! Used by: `crowd_tests`, `desk_tests`, `socket_tests`.
 ghost use Rattle.std.specs.Prelude.{◌<◌};
 
 use crate::doors::{Door, Tally};

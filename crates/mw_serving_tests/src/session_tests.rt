@@ -1,7 +1,5 @@
 //! Tests sessions: what a client says and is told, also cut into pieces, with long lines, and with a peer that
 //! fails.
-//!
-//! Nothing else uses it: it may change with what it tests.
 use crate::checks::holds;
 use crate::guests::{ALL, Guest, Heard, Script};
 use crate::notebook::Notebook;

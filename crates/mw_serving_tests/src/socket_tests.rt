@@ -1,7 +1,5 @@
 //! Tests clients that come over TCP and by a local socket, as the rows of `scene_rows` say, and who may come by a
 //! local socket.
-//!
-//! Nothing else uses it: it may change with what it tests.
 use crate::checks::holds;
 use crate::doors::{NO_LIMITS, OWNER_AND_GROUP, Tally, open};
 use crate::scene_rows::{BY_LOCAL_SOCKET, OVER_TCP, Row};

@@ -1,6 +1,5 @@
 -- A stream's record agrees with what the stream's contract tells: after no call, after one call, and after two parts in turn.
--- Used by: the proofs of Duplex, RecordedStream, write_counted, Session::answer_all and Session::run. It may change freely as long
--- as this crate checks.
+-- Used by: Duplex, RecordedStream, write_counted, Session::answer_all, Session::run.
 use Rattle.std.proofs.Common.{◌≡◌, ℕ, List, [], ◌++◌, Option, Some, None, refl, sym, ap, ◌∙◌, append_assoc, append-nil}
 use Rattle.std.specs.Io.KnownBytes.{Appends, Consumes, Keeps}
 use Rattle.mw_session.specs.StreamRecords.{ReadRecord, WriteRecord}

@@ -1,6 +1,5 @@
 -- One answered line is a run of the session (`Talked`), and two such runs in order make one.
--- Used by: SessionEnds, the proofs of Session::answer and Session::answer_all. It may change freely as long as this crate
--- checks.
+-- Used by: Session::answer, Session::answer_all.
 use Rattle.std.proofs.Common.{◌≡◌, ℕ, ◌<◌, List, [], ◌∷◌, ◌++◌, length, Some, None, Result, Ok, Err, IsErr, refl, sym, ap, ◌∙◌, subst, append-nil, append_assoc, arith}
 use Rattle.mw_frame.specs.declared.lines.Line.{Line}
 use Rattle.mw_frame.specs.Stream.{Stream, Open, Ended as Closed, fed, lines_of}

@@ -1,5 +1,5 @@
 -- The record of a stream tells of its calls: after no call, after one call, and after two parts in turn.
--- Used by: the proofs of write_counted, Session::answer_all and Session::run. It may change freely as long as this crate checks.
+-- Used by: write_counted, Session::answer_all, Session::run.
 use Rattle.std.proofs.Common.{◌≡◌, ℕ, List, [], ◌∷◌, ◌++◌, Result, refl, ap, subst, ◌∙◌}
 use Rattle.std.specs.declared.io.Error.{Error}
 use Rattle.mw_session.specs.StreamRecords.{ReadRecord, WriteRecord, reads_after, writes_after}

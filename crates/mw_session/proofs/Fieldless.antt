@@ -1,5 +1,5 @@
 -- A struct whose fields only contracts read has no bytes and owns nothing, so it can be made anywhere.
--- Used by: the proofs of Block and Transcript. It may change freely as long as this crate checks.
+-- Used by: Block, Transcript.
 use Rattle.std.proofs.Common.{List, [], ◌∷◌, refl}
 use seplogic.Ra.Ura.{Ura}
 use mir.Val.{Val, vstruct, vnil}

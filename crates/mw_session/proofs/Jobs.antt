@@ -1,5 +1,5 @@
 -- A job that some tenant may ask for is well formed for a tenant if its last address is below the tenant's number of words.
--- Used by: the proofs of `reaches` and step_for_job. It may change freely as long as this crate checks.
+-- Used by: `reaches`.
 use Rattle.std.proofs.Common.{◌≡◌, ℕ, zero, suc, ◌+◌, ◌-◌, ◌<◌, ◌≤◌, Bool, true, false, ◌&&◌, List, [], ◌∷◌, length, nat_le, nat_lt, Some, slice_get, IsTrue, refl, sym, ap, subst, ◌∙◌, inl, inr, arith, leb-true, lt-ltb, le-ltb}
 use Rattle.std.specs.List.{list_all}
 use Rattle.std.proofs.lemmas.Bool.{and_parts, cases_lt}

@@ -1,6 +1,5 @@
 -- What the reader, the feed and `read_line` answer gives the facts that a session's contracts need.
--- Used by: the proofs of step_at, next_step, Session::answer, Session::answer_all and Session::run. It may change freely as long
--- as this crate checks.
+-- Used by: step_at, next_step, Session::answer, Session::answer_all, Session::run.
 use Rattle.std.proofs.Common.{◌≡◌, ◌==◌, ℕ, zero, suc, false, ◌<◌, length, cond, List, [], ◌∷◌, take, Option, None, Result, Ok, Err, OnOk, slice_get, refl, sym, ap, ◌∙◌, arith, subst}
 use Rattle.std.specs.Result.{is_err}
 use Rattle.mw_session.specs.StreamRecords.{ReadRecord, WriteRecord, reads_after, with_end, with_read, with_read_fault}

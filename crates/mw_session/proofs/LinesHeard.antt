@@ -1,5 +1,4 @@
--- Each line of a session is heard in one way only: as one request, or as one fault.
--- Used by: the proof of one_hearing. It may change freely as long as this crate checks.
+-- Each line of a session is heard in one way only: as one request, or as one fault. Used by: one_hearing.
 use Rattle.std.proofs.Common.{◌≡◌, ℕ, zero, suc, Bool, true, false, List, [], ◌∷◌, Some, None, Result, Ok, Err, eqb, refl, sym, ap, ◌∙◌}
 use Rattle.std.proofs.lemmas.Bool.{eqb-true}
 use Rattle.mw_words.specs.declared.jobs.Job.TheVariants as job

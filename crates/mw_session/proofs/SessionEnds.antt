@@ -1,5 +1,4 @@
--- A session between two reads goes on to the next read, or ends as `specs/WholeSessions` says.
--- Used by: the proof of Session::run. It may change freely as long as this crate checks.
+-- A session between two reads goes on to the next read, or ends as `specs/WholeSessions` says. Used by: Session::run.
 use Rattle.std.proofs.Common.{◌≡◌, ℕ, ◌-◌, ◌^◌, ◌<◌, min, length, List, [], ◌++◌, Err, refl, sym, ap, ◌∙◌, arith, append-nil, append_assoc, lit<}
 use Rattle.mw_session.specs.StreamRecords.{ReadRecord, WriteRecord, with_end, with_read, with_read_fault, with_write_fault}
 use Rattle.mw_frame.specs.declared.lines.Line.{Line}

@@ -1,6 +1,5 @@
 -- Each step of a session writes the text, and asks the service, as `specs/Talk` says.
--- Used by: the proofs of `perform` and `report`, and for calls one after another those of Session::answer_all and Session::run.
--- It may change freely as long as this crate checks.
+-- Used by: perform, report, Session::answer_all, Session::run.
 use Rattle.std.proofs.Common.{◌≡◌, ℕ, List, [], ◌∷◌, ◌++◌, Some, None, refl, sym, ap, subst}
 use Rattle.arrayvec.specs.ArrayVec.{ArrayVec}
 use Rattle.mw_words.specs.declared.jobs.Job.{Job}

@@ -1,5 +1,5 @@
 -- A path through states (one step for each item of a list), with one more step at its end, is a path.
--- Used by: mw_workers. Its statements may change with mw_workers; its proofs may change freely.
+-- Used by: mw_server_pages, mw_workers.
 use Rattle.std.proofs.Common.{List, [], ◌∷◌, ◌++◌, refl, subst}
 use Rattle.mw_session.specs.Transitions.{GoesThrough}
 

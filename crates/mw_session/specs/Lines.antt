@@ -1,6 +1,5 @@
 -- Defines what is heard of each line of a session: a request, its first fault, or that it is too long.
--- Used by: SessionParts, StepOfLine, WholeSessions, the contracts of laws.rt. A change here changes how a line is heard, and so
--- what one_hearing says.
+-- Used by: laws.rt. A change here changes how a line is heard, and so what one_hearing says.
 use Rattle.std.specs.Prelude.{◌≡◌, ◌↔◌, ℕ, List, [], ◌∷◌, Result, Err, IfOk, None}
 use Rattle.mw_line.specs.declared.requests.LineFault.{LineFault}
 use Rattle.mw_line.specs.declared.requests.LineFault.TheVariants as line_fault

@@ -1,6 +1,5 @@
 -- Defines a call of a peer's stream with its outcome, and what a stream of a reader and a writer tells of its calls.
--- Used by: RecordedCalls, the contracts of stream.rt and recorded_stream.rt. A change here changes what a PeerStream may tell of
--- its calls; a new call of that trait needs a case.
+-- Used by: stream.rt, recorded_stream.rt, mw_connections. A new call of PeerStream needs a case here.
 use Rattle.std.specs.Prelude.{◌≡◌, ℕ, List, Result, Ok}
 use Rattle.std.specs.declared.io.Error.{Error}
 use Rattle.mw_session.specs.declared.stream.Duplex.{Duplex}

@@ -1,6 +1,5 @@
 -- Defines that calls of a stream led from one of its states to another, and that its record has grown by just their outcomes.
--- Used by: mw_service, the contracts of session.rt and writer.rt. A change here changes what the record of a session's stream says
--- of the stream.
+-- Used by: mw_service, session.rt, writer.rt. A change here changes what the record says of the stream.
 use Rattle.std.specs.Prelude.{◌≡◌, List, [], ◌∷◌}
 use Rattle.mw_session.specs.StreamRecords.{ReadRecord, WriteRecord, reads_after, writes_after}
 use Rattle.mw_session.specs.PeerCalls.{PeerCall, Reads, Writes, EndsWriting}

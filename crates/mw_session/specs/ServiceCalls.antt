@@ -1,6 +1,5 @@
 -- Defines which calls a session may make of its service, and that the service answered them in order.
--- Used by: mw_connections, mw_workers, the contracts of replies.rt and session.rt. A new Step needs a case in CanAsk. A change
--- here changes what a Service is promised to be asked.
+-- Used by: mw_connections, mw_workers, replies.rt, session.rt. A new Step needs a case in CanAsk.
 use Rattle.std.specs.Prelude.{ℕ, List, IsTrue}
 use Rattle.mw_words.specs.Change.{is_well_formed}
 use Rattle.mw_session.specs.Transitions.{GoesThrough}

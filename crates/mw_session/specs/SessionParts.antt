@@ -1,6 +1,5 @@
 -- Defines a part of a session: some lines, what was written for them, and how the session goes on.
--- Used by: UnderWay, the contracts of replies.rt, session.rt, steps.rt and writer.rt. It may change with session.rt and
--- replies.rt, as long as WholeSessions still follows.
+-- Used by: replies.rt, session.rt, steps.rt, writer.rt. It may change with them, as long as WholeSessions still follows.
 use Rattle.std.specs.Prelude.{◌≡◌, ℕ, ◌+◌, ◌-◌, ◌^◌, ◌<◌, ◌++◌, min, List, [], ◌∷◌, length, Option, Some, None, Result, Ok, Err}
 use Rattle.mw_session.specs.StreamRecords.{WriteRecord, with_write_fault, with_written}
 use Rattle.mw_frame.specs.declared.lines.Line.{Line}

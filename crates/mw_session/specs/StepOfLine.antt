@@ -1,6 +1,5 @@
--- Defines which step of the session a line asks for. A step that asks for a job suits the tenant to which the session is bound.
--- Used by: SessionParts, the contracts of steps.rt and session.rt. A new Step needs a case in Suits. It may change with steps.rt,
--- which alone promises it.
+-- Defines which step of the session a line asks for, and that a step which asks for a job suits the session's tenant.
+-- Used by: steps.rt, session.rt. A new Step needs a case in Suits. It may change with steps.rt, which alone promises it.
 use Rattle.std.specs.Prelude.{◌≡◌, ℕ, IsTrue}
 use Rattle.mw_words.specs.Change.{is_well_formed}
 use Rattle.mw_frame.specs.declared.lines.Line.{Line}

@@ -1,6 +1,5 @@
 -- Defines what a session says to each line, and what it asks the service for. A session begins unbound: it has no tenant yet.
--- Used by: 6 pages of specs/, mw_connections, mw_service, mw_programs, mw_serving_tests, the contracts of laws.rt, service.rt
--- and steps.rt. It is what a session promises, line by line: a new command needs a case here.
+-- Used by: many crates from mw_connections on, laws.rt, service.rt, steps.rt. A new command needs a case here.
 use Rattle.std.specs.Prelude.{ℕ, ◌++◌, Bool, List, [], ◌∷◌, nat_lt, if◌then◌else◌, Option, Some, None, Result, Ok, Err}
 use Rattle.std.specs.List.{list_all}
 use Rattle.mw_words.specs.declared.jobs.Job.{Job}

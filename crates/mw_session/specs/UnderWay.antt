@@ -1,6 +1,5 @@
 -- Defines a session between two reads: all complete lines that have come were answered.
--- Used by: proofs of this crate. Callers do not see it: it is the loop invariant of Session::run, and may change with that
--- loop.
+-- Used by: proofs of this crate. It is the loop invariant of Session::run, and may change with that loop.
 use Rattle.std.specs.Prelude.{◌≡◌, ℕ, ◌++◌, List, []}
 use Rattle.mw_frame.specs.declared.lines.Line.{Line}
 use Rattle.mw_frame.specs.Lines.{lines}

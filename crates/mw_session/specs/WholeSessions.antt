@@ -1,6 +1,5 @@
 -- Defines what a whole session has read, written and asked for, by how it ended.
--- Used by: mw_connections, mw_service, the contracts of session.rt. It is the contract of Session::run: a change here changes
--- what a connection is promised.
+-- Used by: mw_connections, mw_service, session.rt. It is the contract of Session::run.
 use Rattle.std.specs.Prelude.{◌≡◌, ℕ, ◌-◌, ◌^◌, ◌<◌, ◌++◌, min, List, [], ◌∷◌, length}
 use Rattle.mw_frame.specs.declared.lines.Line.{Line}
 use Rattle.mw_frame.specs.Lines.{lines}

@@ -1,6 +1,6 @@
-//! The law that a session hears each line in one way only, as the contract of an empty function.
+//! The law that a session hears each line in one way only: the contract of an empty function.
 //!
-//! No code calls it, and no other crate cites it. It may change with `specs/Lines`.
+//! Nothing calls it. Change it with `specs/Lines`.
 ghost use Rattle.std.specs.Prelude.{◌≡◌, List};
 ghost use Rattle.mw_frame.specs.declared.lines.Line.{Line};
 ghost use Rattle.mw_session.specs.Talk.{Heard};

@@ -1,9 +1,8 @@
 //! Serves one client's lines: a session answers each line before it looks at the next.
 //!
-//! A session reads bytes, cuts them into lines, and judges each line by what the session is bound to. It asks the
-//! service if the line needs that, and writes the answer. A session begins unbound. `TENANT` binds it to a tenant, for
-//! whose words `GET` and `CAS` ask. `ADMIN` binds it to the administrator, who may ask for the `REPORT`. A line with
-//! faults is answered with the first of these:
+//! A session reads bytes, cuts them into lines, asks the service if a line needs that, and writes the answer. It
+//! begins unbound. `TENANT` binds it to a tenant, for whose words `GET` and `CAS` ask. `ADMIN` binds it to the
+//! administrator, who may ask for the `REPORT`. A line with faults is answered with the first of these:
 //!
 //! | fault | when |
 //! |---|---|
@@ -22,9 +21,9 @@
 //! After each fault but the first the session goes on, bound as it was.
 //!
 //! A session reads and writes a [`RecordedStream`], which records what was read and written, and which call failed.
+//! What it says is in `specs/Talk`; CONTRIBUTING lists under *A command* what a new line needs.
 //!
-//! mw_connections runs a session for each connection, and mw_service one for a script. What a session says is
-//! `specs/Talk`; CONTRIBUTING lists under *A command* what a new line needs.
+//! Used by: mw_connections for each connection, mw_service for a script.
 #![tactic(auto)]
 
 mod laws;

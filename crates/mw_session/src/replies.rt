@@ -1,8 +1,9 @@
-//! Takes the step that a line asks for: asks the service if the step needs it, and gives the line to say or the report.
+//! Takes the step that a line asks for: asks the service if the step needs it, and gives the line to say or the
+//! report.
 //!
-//! `session.rt` calls [`perform`] for each line, and [`report`] if that gives no line to say. A new `Step` needs a case
-//! here, in `does` of `specs/Talk`, in `next_of` and `end_of` (`specs/SessionParts`), `CanAsk` (`specs/ServiceCalls`) and
-//! `Suits` (`specs/StepOfLine`), and in `ends_as` and `goes_as` (`proofs/AnsweredLines`).
+//! Used by: `session.rt`, for each line. A new `Step` needs a case here, in `does` of `specs/Talk`, in `next_of` and
+//! `end_of` (`specs/SessionParts`), `CanAsk` (`specs/ServiceCalls`), `Suits` (`specs/StepOfLine`), and `ends_as` and
+//! `goes_as` (`proofs/AnsweredLines`).
 ghost use Rattle.std.specs.Prelude.{◌≡◌, ℕ, IfNone, IfSome};
 ghost use Rattle.mw_line.specs.Replies.{text_of};
 ghost use Rattle.mw_session.specs.declared.steps.Bound.{Bound as BoundRead};

@@ -1,7 +1,7 @@
 //! Tells which step a line asks of the session: to refuse it, to bind, to ask for a job or the report, or to end.
 //!
-//! `session.rt` calls [`next_step`] for each line, and `replies.rt` takes the step. A new command needs a [`Step`]
-//! here, and a case in `specs/Talk` and `specs/StepOfLine`.
+//! Used by: `session.rt`, `replies.rt`. A new command needs a [`Step`] here, and a case in `specs/Talk` and
+//! `specs/StepOfLine`.
 ghost use Rattle.std.specs.Prelude.{◌≡◌, ℕ, IfSome, IsTrue};
 ghost use Rattle.mw_words.specs.Change.{is_well_formed};
 ghost use Rattle.mw_words.specs.declared.limits.TheConstants.{MAX_WORDS};

@@ -1,7 +1,7 @@
 //! Writes a text to the client, and counts the bytes that were written.
 //!
 //! Called by `session.rt` alone. A session counts bytes so that it can tell how much was written before a write
-//! failed. It may change freely as long as this crate checks.
+//! failed.
 ghost use Rattle.std.specs.Prelude.{◌≡◌};
 ghost use Rattle.mw_session.specs.KnownStreams.{IsTied, reads_of, writes_of};
 ghost use Rattle.mw_session.specs.RecordedCalls.{HasMade};

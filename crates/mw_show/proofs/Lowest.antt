@@ -1,5 +1,4 @@
--- A search from below finds the lowest number for which a test holds.
--- Used by: the proofs of SizedFile::place_of and SizedFile::home_of. It may change freely as long as this crate checks.
+-- A search from below finds the lowest number for which a test holds. Used by: SizedFile::place_of, SizedFile::home_of.
 use Rattle.std.proofs.Common.{◌≡◌, ℕ, zero, suc, ◌+◌, ◌<◌, Bool, true, false, nat_lt, sym, ap, ◌∙◌, inl, inr, arith, add-one}
 use Rattle.std.proofs.lemmas.Bool.{cases_eq, lt-ltb, le-ltb, cond-true, cond-false}
 use Rattle.mw_show.specs.Places.{first_of}

@@ -1,6 +1,6 @@
 -- The kind of a file's damage tells whether its layout in use and its sizes are known. A file with only its first parts is as
 -- long.
--- Used by: the proofs of damage_byte and SizedFile::value_byte. It may change freely as long as this crate checks.
+-- Used by: damage_byte, SizedFile::value_byte.
 use Rattle.std.proofs.Common.{◌≡◌, ℕ, ◌+◌, ◌-◌, ◌*◌, ◌≤◌, ◌++◌, true, false, Some, List, length, take, drop, replicate, inl, inr, sym, ◌∙◌, subst, arith, length-append, length-drop}
 use Rattle.std.proofs.lemmas.Bool.{cases_Bool, leb-true}
 use Rattle.std.proofs.lemmas.List.{length-take-le, length-replicate}

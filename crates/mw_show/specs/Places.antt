@@ -1,6 +1,5 @@
 -- Defines where the damage of a file is: the byte at which the damaged part begins, counted from the beginning of the file.
--- Used by: the contracts of src/damaged.rt and src/sized.rt, specs/Text. A change here changes what `mwshow` prints of a
--- damaged file: docs/OPERATING changes with it.
+-- Used by: src/damaged.rt, src/sized.rt. Change it with docs/OPERATING.
 use Rattle.std.specs.Prelude.{ℕ, zero, suc, ◌≤◌, ◌+◌, ◌-◌, ◌*◌, ◌==◌, ◌&&◌, ◌++◌, nat_le, nat_lt, if◌then◌else◌, Bool, false, List, drop, length, replicate, take}
 use Rattle.std.specs.Option.{option_map_or}
 use Rattle.mw_words.specs.declared.limits.TheConstants.{MAX_WORDS}

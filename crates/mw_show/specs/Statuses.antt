@@ -1,5 +1,4 @@
--- Defines the exit statuses of `mwshow`.
--- Used by: the contracts of src/input.rt and src/program.rt. A change here changes docs/OPERATING too.
+-- Defines the exit statuses of `mwshow`. Used by: src/input.rt, src/program.rt. A change here changes docs/OPERATING too.
 use Rattle.std.specs.Prelude.{ℕ}
 use Rattle.mw_show.specs.declared.input.ShowFault.{ShowFault}
 use Rattle.mw_show.specs.declared.input.ShowFault.TheVariants.{CannotRead, NotPlain, InUse, Memory, Output}

@@ -1,5 +1,5 @@
 -- Defines the text that `mwshow` prints for the bytes of a file: its damage, or a line for each fact.
--- Used by: the contracts of src/lines.rt and src/program.rt. A change here changes docs/OPERATING too.
+-- Used by: src/lines.rt, src/program.rt. A change here changes docs/OPERATING too.
 use Rattle.std.specs.Prelude.{ℕ, ◌≡◌, ◌++◌, Bool, List, Option, codes, decimal, is_none}
 use Rattle.std.specs.Option.{option_map_or}
 use Rattle.std.specs.Io.KnownBytes.{Appends}

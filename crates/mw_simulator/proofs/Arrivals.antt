@@ -1,5 +1,5 @@
 -- A request that begins in the simulated world is the one that the definition begins: same number, quota and first step.
--- Used by: the proofs of World::begin and World::request_for. It may change freely as long as this crate checks.
+-- Used by: World::begin, World::request_for.
 use Rattle.std.specs.Prelude.{ℕ, ◌≡◌, ◌<◌, ◌&&◌, Bool, true, false, if◌then◌else◌, nat_lt, length, slice_index_or, Some, None}
 use Rattle.std.proofs.Common.{refl, sym, ap, subst, ◌∙◌, arith}
 use Rattle.std.proofs.lemmas.Bool.Decides.{nat_tests}

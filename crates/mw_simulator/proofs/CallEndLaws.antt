@@ -1,6 +1,5 @@
 -- A call on a tenant's file in the simulated world ends as the definition says. A call that can't end so is refused.
--- Used by: the proofs of World::call, end, work, close, come and other functions. It may change freely as long as this crate
--- checks.
+-- Used by: World::call, end, work, close, come, among others.
 use Rattle.std.specs.Prelude.{ℕ, ◌&&◌, ◌≤◌, ◌⊎◌, not, List, length, slice_get, slice_set, slice_index_or, OnOk, is_err, Result, Ok, Err, ◌≡◌, ◌<◌, Bool, true, false, cond, if◌then◌else◌, is_some, nat_lt, IfSome, Option, Some, None}
 use Rattle.std.specs.declared.alloc.AllocError.{AllocError}
 use Rattle.std.specs.Option.{option_and_then, option_map}

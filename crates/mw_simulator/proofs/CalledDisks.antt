@@ -1,6 +1,5 @@
--- By a call on a tenant's file its disk in memory comes of the one before by the call's own device calls, and so there is one such disk.
--- Used by: the proofs of World::call, World::end, World::work and of the law file_calls_lead_to_one_disk. It may change freely as
--- long as this crate checks.
+-- A call on a tenant's file leads from its disk in memory, by the call's own device calls, to one disk.
+-- Used by: World::end, World::work, file_calls_lead_to_one_disk.
 use Rattle.std.specs.Prelude.{ℕ, ◌≡◌, ◌&&◌, not, Bool, true, false, List, Option, Some, Ok}
 use Rattle.std.proofs.Common.{refl, sym, ap, subst, ◌∙◌}
 use Rattle.mw_words.specs.declared.jobs.Entry.{Entry}

@@ -1,6 +1,6 @@
 -- The simulator's `cut` and the definition agree on a call on a file that a stop interrupts after `made` device calls. They
--- agree on whether the call makes so many, which change is in doubt, and which request was being sealed.
--- Used by: the proof of World::cut. It may change freely as long as this crate checks.
+-- agree on whether it makes so many, which change is in doubt, and which request was being sealed.
+-- Used by: World::cut.
 use Rattle.std.specs.Prelude.{ℕ, ◌≡◌, ◌≤◌, ◌&&◌, Bool, true, false, not, List, if◌then◌else◌, nat_le, Some, None}
 use Rattle.std.proofs.Common.{refl, ap, arith}
 use Rattle.std.proofs.lemmas.Bool.Decides.{nat_tests}

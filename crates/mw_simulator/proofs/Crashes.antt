@@ -1,5 +1,6 @@
--- A crash at any moment of a simulated call on a tenant's file leaves the words from before, or these with the change in doubt.
--- Used by: OpenedImages, the proofs of World::call and World::end. It may change freely as long as this crate checks.
+-- A crash at any moment of a simulated call on a tenant's file leaves the words from before, or these with the change in
+-- doubt.
+-- Used by: World::call, World::end.
 use Rattle.std.specs.Prelude.{ℕ, ◌≡◌, ◌==◌, ◌&&◌, not, nat_le, Bool, true, false, if◌then◌else◌, List, length, slice_get, Option, Some, None, OnOk, Result, Ok, Err}
 use Rattle.std.specs.Option.{option_map}
 use Rattle.std.proofs.Common.{refl, sym, ap, subst, ◌∙◌, inl, inr, arith}

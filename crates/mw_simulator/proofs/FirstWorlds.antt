@@ -1,6 +1,5 @@
 -- A simulated world at a start represents the world that the definition has at that start.
--- Used by: Restarted, SoundBooks, the proofs of World::new, all_reopened, first_cells, fresh_tenant_states, idle_worker_states
--- and openings. It may change freely as long as this crate checks.
+-- Used by: World::new, all_reopened, first_cells, fresh_tenant_states, idle_worker_states, openings.
 use Rattle.std.specs.Prelude.{ℕ, zero, suc, ◌≡◌, ◌+◌, ◌<◌, ◌≤◌, Bool, true, false, not, List, [], ◌∷◌, ◌++◌, length, replicate, slice_get, is_none, nat_le, IfOk, IfSome, IsTrue, MatchOption, Result, Some, None, Vec}
 use Rattle.std.specs.declared.option.Option.{Option}
 use Rattle.std.specs.declared.alloc.Global.{Global}

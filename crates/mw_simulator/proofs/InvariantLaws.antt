@@ -1,5 +1,5 @@
 -- What holds after every run of the definition's world holds of each simulated world after a run.
--- Used by: the proofs of World::new, World::step and World::run. It may change freely as long as this crate checks.
+-- Used by: World::new, World::step, World::run.
 use Rattle.mw_world.specs.Definition.State.{first_openings}
 use Rattle.mw_world.proofs.FirstInvariant.{new_worlds_start}
 use Rattle.mw_law_store.proofs.Files.EnabledEvents.{every_run_holds}

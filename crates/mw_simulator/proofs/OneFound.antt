@@ -1,5 +1,4 @@
--- Starts of one world after the same stop of a tenant find the same of its file.
--- Used by: the proof of the law starts_find_one_thing. It may change freely as long as this crate checks.
+-- Starts of one world after the same stop of a tenant find the same of its file. Used by: starts_find_one_thing.
 use Rattle.std.specs.Prelude.{ℕ, ◌≡◌, List, [], Option, Some, None}
 use Rattle.std.proofs.Common.{sym, ap, ◌∙◌}
 use Rattle.mw_record.specs.Damages.{file_words}

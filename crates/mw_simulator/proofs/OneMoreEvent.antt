@@ -1,5 +1,6 @@
--- After an event that happened, the simulated world represents the run with one event more; after a refused one, the same run.
--- Used by: the proofs of World::step and World::run. It may change freely as long as this crate checks.
+-- After an event that happened, the simulated world represents the run with one event more; after a refused one, the same
+-- run.
+-- Used by: World::step, World::run.
 use Rattle.std.specs.Prelude.{ℕ, ◌≡◌, ◌<◌, ◌==◌, ◌&&◌, ◌+◌, Bool, if◌then◌else◌, List, [], ◌∷◌, ◌++◌, length, take, slice_get, Some, None, Result, Ok, Err}
 use Rattle.std.specs.Option.{option_and_then}
 use Rattle.std.proofs.Common.{refl, sym, ap, subst, ◌∙◌, inl, inr, arith, get_or, append_assoc}

@@ -1,6 +1,6 @@
--- If every run is durably linearizable, a crash while a start opens a tenant's file leaves the words that the start found. The
--- store alone allows these.
--- Used by: the proof of every_image_is_of_store. It may change freely as long as this crate checks.
+-- If every run is durably linearizable, a crash while a start opens a tenant's file leaves the words that the start found.
+-- The store alone allows these.
+-- Used by: every_image_is_of_store.
 use Rattle.std.specs.Prelude.{ℕ, zero, suc, ◌≡◌, ◌<◌, ◌==◌, ◌&&◌, Bool, true, false, if◌then◌else◌, List, Vec, length, slice_get, Option, Some, None}
 use Rattle.std.specs.declared.alloc.Global.{Global}
 use Rattle.std.proofs.Common.{refl, sym, ap, subst, ◌∙◌, inl, inr, arith}

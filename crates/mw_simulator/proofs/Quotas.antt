@@ -1,5 +1,4 @@
--- The simulator's test of the quotas that a start gives is the definition's test.
--- Used by: Restarted, the proofs of World::may_give and each_can_be. It may change freely as long as this crate checks.
+-- The simulator's test of the quotas that a start gives is the definition's test. Used by: World::may_give, each_can_be.
 use Rattle.std.specs.Prelude.{ℕ, zero, suc, ◌≡◌, ◌≤◌, ◌<◌, ◌+◌, ◌&&◌, Bool, true, false, List, length, nat_le, slice_get, slice_index_or, Option, Some, None}
 use Rattle.std.specs.Option.{option_map_or, unwrap_or}
 use Rattle.std.proofs.Common.{refl, sym, ap, subst, ◌∙◌, inl, inr, arith}

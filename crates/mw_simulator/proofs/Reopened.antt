@@ -1,6 +1,6 @@
 -- A tenant that a start reopens in the simulated world is the one that the definition reopens. A tenant that is refused can't
 -- be stopped so.
--- Used by: the proofs of World::reopened and World::all_reopened. It may change freely as long as this crate checks.
+-- Used by: World::reopened, World::all_reopened.
 use Rattle.std.specs.Prelude.{ℕ, ◌≡◌, ◌≤◌, ◌&&◌, Bool, true, false, List, [], ◌∷◌, ◌++◌, is_none, slice_get, Some, Err}
 use Rattle.std.proofs.Common.{refl, sym, ap, subst, ◌∙◌, inl, inr, arith}
 use Rattle.std.proofs.lemmas.Option.{slice_get_within}

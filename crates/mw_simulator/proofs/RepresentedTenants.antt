@@ -1,5 +1,4 @@
--- The marks of a simulated tenant are those of the definition's tenant that it represents.
--- Used by: the proof of World::marks. It may change freely as long as this crate checks.
+-- The marks of a simulated tenant are those of the definition's tenant that it represents. Used by: World::marks.
 use Rattle.std.specs.Prelude.{ℕ, ◌≡◌, ◌<◌, ◌++◌, Some, slice_get}
 use Rattle.std.proofs.Common.{sym, ap, subst, ◌∙◌, get_or}
 use Rattle.std.proofs.lemmas.Option.{slice_get_read}

@@ -1,5 +1,5 @@
 -- After a start that succeeded, the simulated world represents the definition's world after that start.
--- Used by: the proofs of World::restart and World::reopened. It may change freely as long as this crate checks.
+-- Used by: World::restart, World::reopened.
 use Rattle.std.specs.Prelude.{ℕ, zero, suc, ◌≡◌, ◌<◌, ◌+◌, ◌==◌, ◌&&◌, Bool, true, false, not, if◌then◌else◌, List, [], ◌∷◌, ◌++◌, is_none, is_some, length, slice_get, Option, Some, None}
 use Rattle.std.specs.Option.{unwrap_or}
 use Rattle.std.proofs.Common.{refl, sym, ap, subst, ◌∙◌, inl, inr, arith}

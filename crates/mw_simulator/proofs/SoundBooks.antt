@@ -1,7 +1,6 @@
 -- The simulated files stay sound (each represents a file with its tenant's number of words) at every change of the simulated
 -- world.
--- Used by: the proofs of World::new, restart, file, begin, enter and other functions. It may change freely as long as this
--- crate checks.
+-- Used by: World::new, restart, file, begin, enter, among others.
 use Rattle.std.specs.Prelude.{ℕ, ◌≡◌, ◌<◌, List, length, slice_index_or, slice_set}
 use Rattle.std.proofs.Common.{subst, sym}
 use Rattle.std.proofs.Math.Logic.{∥∥₁_elim}

@@ -1,6 +1,6 @@
--- A step of a request is a change of the shared words, and then an addition to the history (its label). It can be made in bits
--- exactly if the step can.
--- Used by: the proofs of World::turn, World::go_on and World::tell_file. It may change freely as long as this crate checks.
+-- A step of a request is a change of the shared words, and then an addition to the history (its label). It can be made in
+-- bits exactly if the step can.
+-- Used by: World::turn, World::go_on, World::tell_file.
 use Rattle.std.specs.Prelude.{ℕ, ◌≡◌, ◌==◌, ◌&&◌, Bool, true, false, not, cond, ◌<◌, if◌then◌else◌, is_some, length, slice_index_or, Option, Some, None}
 use Rattle.std.proofs.Common.{refl, sym, ap, subst, ◌∙◌}
 use Rattle.mw_words.specs.declared.places.At.{At}

@@ -1,5 +1,5 @@
 -- When all new tenants have taken over the old tenants' marks, they are the definition's tenants after the start.
--- Used by: the proofs of World::restart and follow. It may change freely as long as this crate checks.
+-- Used by: World::restart, follow.
 use Rattle.std.specs.Prelude.{ℕ, ◌≡◌, ◌+◌, ◌<◌, ◌≤◌, List, length, slice_get, slice_set, slice_index_or, Option, Some, None, Bool, not}
 use Rattle.std.specs.Option.{option_map}
 use Rattle.std.proofs.Common.{refl, sym, ap, subst, ◌∙◌, inl, inr, arith}

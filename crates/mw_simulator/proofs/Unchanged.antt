@@ -1,6 +1,5 @@
 -- More room for marks and claims, or a change of one tenant, leaves the other tenants' files unchanged.
--- Used by: TakenOverMarks, the proofs of World::reserve, file, begin, call, come and other functions. It may change freely as
--- long as this crate checks.
+-- Used by: World::reserve, file, begin, call, come, among others.
 use Rattle.std.specs.Prelude.{ℕ, ◌≡◌, ◌≢◌, ◌<◌, List, length, slice_get, slice_set, slice_index_or, Option, Some, None}
 use Rattle.std.specs.Option.{option_map}
 use Rattle.std.proofs.Common.{refl, sym, ap, ◌∙◌, inl, inr}

@@ -1,7 +1,6 @@
 -- If each part of a simulated world changes as the definition changes it, the new simulated world represents the world after
 -- the step.
--- Used by: CallEndLaws, StepPartLaws, Arrivals, Quotas, SoundBooks, other pages, the proofs of World::begin, enter, give,
--- request_for, reserve and turn. It may change freely as long as this crate checks.
+-- Used by: World::begin, enter, give, request_for, reserve, turn.
 use Rattle.std.specs.Prelude.{ℕ, zero, suc, ◌+◌, ◌≡◌, ◌≢◌, ◌<◌, ◌≤◌, List, [], ◌∷◌, length, slice_get, slice_set, slice_index_or, Option, Some, None, Result, Ok, Err, OnOk}
 use Rattle.std.proofs.Common.{refl, sym, ap, subst, ◌∙◌, inl, inr, arith}
 use Rattle.std.proofs.lemmas.Bool.{cases_eq}

@@ -1,6 +1,5 @@
 -- Defines how a call on a tenant's file ends in a simulated world.
--- Used by: the contracts of src/world/calls.rt and src/world/stopped_calls.rt, mw_player. A change here changes what these
--- contracts say.
+-- Used by: src/world/calls.rt, src/world/stopped_calls.rt, mw_player.
 use Rattle.std.specs.Prelude.{ℕ, ◌≡◌, ◌⊎◌, Bool, true, false, length, Option, Some, None, Result, Ok, Err}
 use Rattle.mw_words.specs.declared.places.At.TheVariants.{Door as AtDoor, Status as AtStatus}
 use Rattle.mw_words.specs.declared.statuses.Status.{Status}

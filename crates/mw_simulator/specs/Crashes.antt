@@ -1,6 +1,5 @@
 -- Defines what a crash in the middle of a call on a tenant's file leaves of the simulated file.
--- Used by: the contracts of src/world/calls.rt and src/world/events.rt, specs/Events, specs/Images. A change here changes what
--- these contracts say.
+-- Used by: src/world/calls.rt, src/world/events.rt.
 use Rattle.std.specs.Prelude.{ℕ, ◌≡◌, true, Option, Some, Result, Ok}
 use Rattle.mw_disk.specs.Memory.{memory_facts}
 use Rattle.mw_disk.specs.Runs.{LeavesOnly}

@@ -1,6 +1,5 @@
 -- Defines by which device calls a call on a tenant's file takes its disk in memory from before the call to after it.
--- Used by: the contracts of src/laws.rt, src/world/calls.rt and src/world/events.rt, specs/Events. A change here changes what
--- these contracts say.
+-- Used by: src/laws.rt, src/world/calls.rt, src/world/events.rt.
 use Rattle.std.specs.Prelude.{ℕ, ◌≡◌, ◌&&◌, Bool, true, false, not, List, Option, Some, Result, Ok}
 use Rattle.mw_words.specs.declared.jobs.Entry.{Entry}
 use Rattle.mw_actor.specs.ActorState.{ActorState, own_entries}

@@ -1,6 +1,5 @@
 -- Defines what each event does to a simulated world, and what a run of events does.
--- Used by: the contracts of src/world/events.rt, src/world/new_worlds.rt and src/world/restarts.rt, many specs of this crate,
--- mw_table_tests, mw_player. A change here changes what these contracts say.
+-- Used by: src/world/events.rt, src/world/new_worlds.rt, src/world/restarts.rt, mw_player, mw_table_tests.
 use Rattle.std.specs.Prelude.{ℕ, ◌≡◌, ◌<◌, ◌==◌, ◌&&◌, ◌⊎◌, Bool, true, false, not, List, [], ◌∷◌, ◌++◌, length, take, nat_lt, slice_get, Option, Some, None, Result, Ok, Err}
 use Rattle.std.specs.List.{list_any, find}
 use Rattle.std.specs.Option.{unwrap_or}

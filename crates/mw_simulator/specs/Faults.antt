@@ -1,5 +1,4 @@
--- Defines why the simulator refuses an event, if a tenant's file refuses it.
--- Used by: the contracts of src/faults.rt. A change here changes what these contracts say.
+-- Defines why the simulator refuses an event, if a tenant's file refuses it. Used by: src/faults.rt.
 use Rattle.mw_world_file.specs.declared.faults.BookFault.{BookFault}
 use Rattle.mw_world_file.specs.declared.faults.BookFault.TheVariants.{NotEnabled as FileNotEnabled, Memory as FileMemory}
 use Rattle.mw_simulator.specs.declared.faults.WorldFault.{WorldFault}

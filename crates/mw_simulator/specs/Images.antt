@@ -1,6 +1,6 @@
--- States what a crash leaves of a tenant's disk in terms of the tenant's store alone. It is proved from the theorem about every
--- run.
--- Used by: the laws of src/laws.rt. A change here changes what these laws say.
+-- States what a crash leaves of a tenant's disk in terms of the tenant's store alone. It is proved from the theorem about
+-- every run.
+-- Used by: src/laws.rt.
 use Rattle.std.specs.Prelude.{ℕ, ◌≡◌, true, List, Vec, slice_get, Option, Some}
 use Rattle.std.specs.declared.alloc.Global.{Global}
 use Rattle.mw_disk.specs.Facts.{MayHaveLeft, MayLeave}

@@ -1,5 +1,5 @@
 -- Defines what holds of a simulated world after every run from a new world.
--- Used by: the contracts of src/world/events.rt and src/world/new_worlds.rt. A change here changes what these contracts say.
+-- Used by: src/world/events.rt, src/world/new_worlds.rt.
 use Rattle.std.specs.Prelude.{List}
 use Rattle.mw_world.specs.Claim.Headline.{HoldsOfRun}
 use Rattle.mw_world.specs.Definition.Events.{WorldEvent}

@@ -1,5 +1,4 @@
--- Defines the quotas that a start gives the tenants of a simulated world.
--- Used by: the contracts of src/world/restarts.rt. A change here changes what these contracts say.
+-- Defines the quotas that a start gives the tenants of a simulated world. Used by: src/world/restarts.rt, mw_player.
 use Rattle.std.specs.Prelude.{ℕ, ◌≡◌, ◌≤◌, List, slice_get, Option, Some}
 use Rattle.std.specs.Option.{option_map_or, unwrap_or}
 use Rattle.mw_world_file.specs.Books.{places_of_file}

@@ -1,6 +1,6 @@
 -- States that each tenant of a simulated world is served as its store alone would serve it, in runs that always had numbers
 -- left.
--- Used by: the contracts of src/world/events.rt and src/world/new_worlds.rt. A change here changes what these contracts say.
+-- Used by: src/world/events.rt, src/world/new_worlds.rt.
 use Rattle.std.specs.Prelude.{ℕ, ◌≡◌, ◌<◌, ◌++◌, Bool, not, List, slice_get, Some}
 use Rattle.mw_words.specs.declared.replies.Reply.TheVariants.{Yes as SaysYes}
 use Rattle.mw_lone.specs.declared.marks.Mark.{Mark}

@@ -1,5 +1,4 @@
--- Defines the workers and the tenants of a simulated world at a start.
--- Used by: the contracts of src/world/new_worlds.rt, specs/Stops. A change here changes what these contracts say.
+-- Defines the workers and the tenants of a simulated world at a start. Used by: src/world/new_worlds.rt.
 use Rattle.std.specs.Prelude.{ℕ, ◌≡◌, Bool, not, List, length, slice_get, Some}
 use Rattle.mw_world_file.specs.StartValues.{IsGiven}
 use Rattle.mw_world.specs.declared.config.Config.{Config}

@@ -1,6 +1,5 @@
 -- Defines the parts of a worker's step: what it does to the shared words, to a tenant's file, and to the history.
--- Used by: the contracts of src/world/calls.rt and src/world/turns.rt, specs/CallEnds. A change here changes what these
--- contracts say.
+-- Used by: src/world/calls.rt, src/world/turns.rt.
 use Rattle.std.specs.Prelude.{ℕ, ◌≡◌, ◌&&◌, Bool, if◌then◌else◌, is_none, nat_lt, List, Option, Some, None, slice_get}
 use Rattle.mw_words.specs.Change.{is_well_formed}
 use Rattle.mw_words.specs.declared.jobs.Job.{Job}

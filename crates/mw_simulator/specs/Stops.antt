@@ -1,6 +1,5 @@
 -- Defines what was under way on the tenants' files when all stopped, and the simulated tenants after the start.
--- Used by: the contracts of src/world/restarts.rt and src/world/stopped_calls.rt. A change here changes what these contracts
--- say.
+-- Used by: src/world/restarts.rt, src/world/stopped_calls.rt.
 use Rattle.std.specs.Prelude.{ℕ, ◌≡◌, ◌≤◌, ◌++◌, true, false, List, Vec, length, nat_le, slice_get, Option, Some, None, Result, Ok, Err}
 use Rattle.std.specs.Option.{option_map}
 use Rattle.std.specs.declared.alloc.Global.{Global}

@@ -1,6 +1,5 @@
 -- Defines what a refused event leaves unchanged of a simulated world, and which tenants' files an event leaves unchanged.
--- Used by: the contracts of src/world/calls.rt, src/world/events.rt, src/world/restarts.rt and src/world/turns.rt,
--- specs/CallEnds, specs/Crashes, specs/Events, specs/Images. A change here changes what these contracts say.
+-- Used by: src/world/calls.rt, src/world/events.rt, src/world/restarts.rt, src/world/turns.rt.
 use Rattle.std.specs.Prelude.{ℕ, ◌≡◌, ◌≢◌, List, slice_get, Option, Some}
 use Rattle.std.specs.Option.{option_and_then, option_map}
 use Rattle.mw_lone.specs.declared.marks.Mark.{Mark}

@@ -1,8 +1,9 @@
-//! States theorems about the simulated world: each image (bytes) that a crash may leave of a tenant's disk is one of the
-//! tenant's store alone, a world and its stops determine what a start finds, and a world and a call on a file its disk.
+//! States theorems about the simulated world. Each image (bytes) that a crash may leave of a tenant's disk is one of
+//! the tenant's store alone. A world and its stops determine what a start finds, and a world and a call on a file its
+//! disk.
 //!
-//! The functions do nothing, and nothing calls them: their contracts are the facts, proved in `proofs/laws`. To
-//! change a fact, change its definition in `specs`, and then its proof.
+//! The functions are empty: their contracts are the facts, proved in `proofs/laws`. To change a fact, begin with its
+//! definition in `specs`.
 ghost use Rattle.std.specs.Prelude.{◌≡◌, ℕ};
 ghost use Rattle.mw_world_file.specs.declared.book.SimulatedFile.{SimulatedFile};
 ghost use Rattle.mw_world_file.specs.declared.outcomes.Outcome.{Outcome};

@@ -1,16 +1,12 @@
-//! A simulator. It plays a world in memory, an event at a time, and does what the definition of a world says.
-//! You can play it by hand with `mwreplay`.
+//! A simulator. It plays a world in memory, an event at a time, and does what the definition of a world (`mw_world`)
+//! says. You can play it by hand with `mwreplay`.
 //!
-//! What to read first. `mw_world` defines a world and what each event does to it. `specs/Representation` says
-//! which of these worlds a world in memory represents. `specs/Events` says what each public call promises of an
-//! event, a run and a start. `specs/Invariant` and `specs/ServiceAlone` say what holds after every run.
-//! `specs/UnchangedParts` says what a refused event leaves unchanged, and which files an event doesn't touch.
-//! `specs/Images` says what a crash leaves of a tenant's disk.
+//! Read `specs/Representation` (which world a world in memory represents) and `specs/Events` (what each public call
+//! promises) first. `specs/Invariant` and `specs/ServiceAlone` say what holds after every run, `specs/UnchangedParts`
+//! what a refused event leaves unchanged, and `specs/Images` what a crash leaves of a tenant's disk.
 //!
 //! The other files of `specs` are about parts: `StepParts` a step, `CallEnds` and `Crashes` a call on a file,
-//! `Starts`, `Quotas` and `Stops` a start. The specs of `mw_world_memory` have the parts of a world in memory:
-//! `Bits`, `BitsMatch`, `BitPlaces`, `StepsInBits` and `Openings` the shared words in bits, `Claims`, `Lines`
-//! and `Workers` what is kept beside them, `TenantBooks` the tenants' files.
+//! `Starts`, `Quotas` and `Stops` a start. mw_world_memory has the parts of a world in memory.
 //!
 //! Used by: mw_world_trials, mw_table_tests, mw_player.
 #![tactic(auto)]

@@ -1,7 +1,7 @@
 //! A simulated world: a server's tenants, workers and files as one value in memory.
 //!
-//! mw_player plays schedules on it, mw_table_tests makes tables of it, and tests play random runs on it. `specs/Representation`
-//! says which world of the definition it represents: change it with a field.
+//! Used by: mw_player, mw_table_tests, mw_world_trials. `specs/Representation` says which world of the definition it
+//! represents: change it with a field.
 ghost use Rattle.std.specs.Prelude.{◌≡◌, length};
 ghost use Rattle.mw_world.specs.Definition.State.{IsConfig};
 ghost use Rattle.mw_world_memory.specs.BitPlaces.{HasPlacesOf};

@@ -1,5 +1,5 @@
-//! Tests a tenant's store alone, the store of all tenants, what a server is started with, and what is shown
-//! of a tenant's file. The tests are apart from the crates that they test, so that those are proved once.
+//! Tests a tenant's store alone, the plain store, what a server is started with, and what is shown of a tenant's
+//! file. The tests are apart from the crates that they test, so that those are proved once.
 #![tactic(auto)]
 
 #[cfg(test)]

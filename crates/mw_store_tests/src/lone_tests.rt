@@ -1,6 +1,4 @@
 //! Tests the store alone (the reference model): which marks it takes, and which reply it hands out at each.
-//!
-//! Nothing else uses it: it may change with what it tests.
 use crate::same::{MEMORY, same};
 use mw_lone::*;
 use mw_words::{Entries, Entry, Job, Reply};

@@ -1,7 +1,5 @@
 //! Tests the plain store of two tenants, which serves one job at a time: quotas, order, failing device calls,
 //! starts.
-//!
-//! Nothing else uses it: it may change with what it tests.
 ghost use Rattle.std.specs.Prelude.{◌≡◌, ◌<◌, ◌≤◌, IfOk, IsTrue};
 ghost use Rattle.mw_words.specs.Change.{is_well_formed};
 ghost use Rattle.mw_plain.specs.Lines.{FitsLine};

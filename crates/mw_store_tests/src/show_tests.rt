@@ -1,6 +1,4 @@
 //! Tests what mw_show tells of a tenant's file.
-//!
-//! Nothing else uses it: it may change with what it tests.
 
 use crate::same::{MEMORY, holds, same, same_text};
 use mw_record::{header, header2, size, size2};

@@ -1,6 +1,6 @@
 -- A table (array of shared atomic words) that is made after a run of the world begins under the table's rule (mw_rule
 -- `specs/Rule`).
--- Used by: the proof of Shared::of_run. It may change freely as long as this crate checks.
+-- Used by: Shared::of_run.
 use Rattle.std.specs.Prelude.{ℕ, zero, suc, ◌≡◌, ◌+◌, ◌<◌, ◌≤◌, ◌⊎◌, List, [], ◌∷◌, length, map, slice_get, slice_index_or, Option, Some, None}
 use Rattle.std.proofs.Common.{refl, sym, ap, subst, ◌∙◌, inl, inr, arith}
 use Rattle.std.proofs.lemmas.List.{length-map}

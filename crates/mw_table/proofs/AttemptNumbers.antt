@@ -1,5 +1,5 @@
 -- An attempt to hold a word takes the worker's next attempt number, and the pass then has the one after it.
--- Used by: the proof of Shared::attempt. It may change freely as long as this crate checks.
+-- Used by: Shared::attempt.
 use Rattle.std.specs.Prelude.{ℕ, ◌≡◌, ◌+◌, ◌<◌, true, false, List, [], ◌∷◌, ◌++◌, map, Option, Some, None}
 use Rattle.std.proofs.Common.{refl, sym, ap, subst, ◌∙◌}
 use mathlib.Core.Option.{some}

@@ -1,5 +1,5 @@
 -- A pass that carries a request (its worker's present one) still carries it after a step, told what the step found.
--- Used by: RequestsOverCalls, mw_core. Its statements may change with mw_core; its proofs may change freely.
+-- Used by: mw_core.
 use Rattle.std.specs.Prelude.{ℕ, ◌≡◌, Bool, true, false, List, [], ◌∷◌, map, Some, None}
 use Rattle.std.proofs.Common.{refl, sym, ap, subst, ◌∙◌}
 use Rattle.mw_look.specs.declared.observations.Got.{Got}

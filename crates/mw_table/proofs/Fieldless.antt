@@ -1,6 +1,5 @@
 -- A struct whose fields only contracts read has no bytes and owns nothing, so it can be made anywhere.
--- Used by: the proof of RunBefore::none, mw_table_tests. Its statements may change with mw_table_tests; its proofs may change
--- freely.
+-- Used by: RunBefore::none, mw_table_tests.
 use Rattle.std.proofs.Common.{List, [], ◌∷◌, refl}
 use seplogic.Ra.Ura.{Ura}
 use mir.Val.{Val, vstruct, vnil}

@@ -1,5 +1,5 @@
 -- At a start the file passes (capabilities to call one file) are made one by one, and what each knows of its file is true.
--- Used by: TableAtStartLaws, the proof of Shared::give_file. It may change freely as long as this crate checks.
+-- Used by: Shared::give_file.
 use Rattle.std.specs.Prelude.{ℕ, zero, suc, ◌≡◌, ◌<◌, ◌≤◌, ◌+◌, ◌-◌, ◌==◌, Bool, true, false, List, [], ◌∷◌, ◌++◌, length, slice_get, Option, Some, None}
 use Rattle.std.proofs.Common.{refl, sym, ap, subst, ◌∙◌, inl, length-append, arith}
 use Rattle.std.proofs.lemmas.Bool.Decides.{nat_tests}

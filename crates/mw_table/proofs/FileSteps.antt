@@ -1,5 +1,5 @@
 -- The table's rule allows each step of a call on a tenant's file, and what such a step adds to the run is the call's event.
--- Used by: the proofs of Shared::find_status, end_call and fault. It may change freely as long as this crate checks.
+-- Used by: Shared::find_status, end_call, fault.
 use Rattle.std.specs.Prelude.{ℕ, ◌≡◌, ◌==◌, ◌^◌, Bool, true, false, cond, List, [], ◌∷◌, map, Option, Some, None}
 use Rattle.std.specs.Int.Bits.{bit_or}
 use Rattle.std.proofs.Common.{refl, sym, ap, subst, ◌∙◌}

@@ -1,6 +1,5 @@
 -- A pass that may make a step of a request isn't idle. A pass whose request has its reply may become idle.
--- Used by: FileSteps, the proofs of Shared::deal, exchange, figure, load, store and subtract, mw_core, mw_engine. Its
--- statements may change with mw_core and mw_engine; its proofs may change freely.
+-- Used by: calls of Shared, mw_core.
 use Rattle.std.specs.Prelude.{ℕ, ◌≡◌, ◌≢◌, Bool, true, List, [], ◌∷◌, map, is_none, Option, Some, None}
 use Rattle.std.proofs.Common.{refl, sym, ap, ◌∙◌}
 use Rattle.mw_words.specs.declared.replies.Reply.{Reply}

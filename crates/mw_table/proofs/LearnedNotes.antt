@@ -1,5 +1,5 @@
 -- What a pass learns from a note, by the load that follows; and that a note's view is one of a note again.
--- Used by: the proofs of Shared::note and Shared::learn. It may change freely as long as this crate checks.
+-- Used by: Shared::note, Shared::learn.
 use Rattle.std.specs.Prelude.{ℕ, ◌≡◌, []}
 use Rattle.std.proofs.Common.{sym, ◌∙◌}
 use Rattle.atomic_table.specs.Table.{Me}

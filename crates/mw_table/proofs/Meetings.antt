@@ -1,7 +1,6 @@
 -- After two passes meet (`Shared::meet`), both have seen the same sealed changes, and each keeps its worker and finished
 -- requests.
--- Used by: the proofs of Shared::meet, confirm, give_back, learn, look and other functions. It may change freely as long as
--- this crate checks.
+-- Used by: Shared::meet, confirm, give_back, learn, look, among others.
 use Rattle.std.specs.Prelude.{ℕ, ◌≡◌, ◌≢◌, ◌≤◌, ◌<◌, List, [], ◌∷◌, ◌++◌, map}
 use Rattle.std.proofs.Common.{refl, sym, ap, subst, ◌∙◌, inl, inr, arith}
 use Rattle.atomic_table.specs.Table.{Allows, Me}

@@ -1,5 +1,4 @@
--- A new table's passes are made one by one, one for each worker, and what each knows is right.
--- Used by: the proof of Shared::deal. It may change freely as long as this crate checks.
+-- A new table's passes are made one by one, one for each worker, and what each knows is right. Used by: Shared::deal.
 use Rattle.std.specs.Prelude.{ℕ, zero, suc, ◌≡◌, ◌<◌, ◌+◌, ◌-◌, ◌==◌, List, [], ◌∷◌, ◌++◌, All, length, slice_get, Some}
 use Rattle.std.proofs.Common.{sym, ap, subst, ◌∙◌, length-append, arith}
 use Rattle.std.proofs.lemmas.List.Elements.{All-push}

@@ -1,6 +1,5 @@
 -- The bits at an index of the table are those of the shared word that belongs at that index.
--- Used by: the proofs of bits_at and words_at_start, mw_table_tests. Its statements may change with mw_table_tests; its proofs
--- may change freely.
+-- Used by: bits_at, words_at_start, mw_table_tests.
 use Rattle.std.proofs.Common.{ℕ, ◌≡◌, ◌<◌, true, false, List, slice_index, ap, sym, ◌∙◌, refl}
 use Rattle.mw_words.specs.declared.places.At.{At}
 use Rattle.mw_look.specs.Places.{pack}

@@ -1,5 +1,4 @@
--- A request may come to an idle pass.
--- Used by: mw_core, mw_table_tests. Its statements may change with mw_core and mw_table_tests; its proofs may change freely.
+-- A request may come to an idle pass. Used by: mw_core.
 use Rattle.std.specs.Prelude.{ℕ, ◌≡◌, ◌<◌, true, is_none, List, [], ◌∷◌, map, Option, Some, None}
 use Rattle.std.proofs.Common.{refl, sym, ap, subst, ◌∙◌}
 use Rattle.mw_words.specs.declared.jobs.Job.{Job}

@@ -1,5 +1,4 @@
--- A pass still carries its request over each step of a call on the request's file.
--- Used by: mw_core. Its statements may change with mw_core; its proofs may change freely.
+-- A pass still carries its request over each step of a call on the request's file. Used by: mw_core.
 use Rattle.std.specs.Prelude.{ℕ, ◌≡◌, Bool, true, false, cond, List, [], ◌∷◌, ◌++◌, map, Some, None}
 use Rattle.std.proofs.Common.{refl, sym, ap, subst, ◌∙◌}
 use Rattle.mw_words.specs.declared.jobs.Entry.{Entry}

@@ -1,5 +1,4 @@
--- A pass that took a file and loaded a word has seen all changes that were sealed in the file.
--- Used by: the proof of Shared::confirm_with. It may change freely as long as this crate checks.
+-- A pass that took a file and loaded a word has seen all changes that were sealed in the file. Used by: Shared::confirm_with.
 use Rattle.std.specs.Prelude.{ℕ, ◌≡◌, ◌<◌, [], ◌∷◌, ◌++◌, List, None}
 use Rattle.std.proofs.Common.{sym, ap, subst, ◌∙◌}
 use Rattle.mw_world.specs.declared.config.Config.{Config}

@@ -1,6 +1,5 @@
 -- Each call that makes a pass's step meets what the table requires of a step.
--- Used by: FileSteps, Meetings, AttemptNumbers, the proofs of Shared::begin, exchange, figure, load, store and subtract. It may
--- change freely as long as this crate checks.
+-- Used by: Shared::begin, exchange, figure, load, store, subtract.
 use Rattle.std.proofs.Common.{ℕ, ◌≡◌, ◌<◌, ◌==◌, inr, true, List, [], ◌∷◌, map, nat_lt, ap, sym, ◌∙◌, refl, subst, arith}
 use Rattle.std.proofs.lemmas.Bool.Decides.{nat_tests}
 use prog.Atomic.{either}

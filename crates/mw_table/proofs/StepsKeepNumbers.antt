@@ -1,6 +1,5 @@
 -- A step that makes no attempt to hold a word keeps the number of the worker's next attempt.
--- Used by: CarriedRequests, AttemptNumbers, the proofs of Shared::begin, exchange, load, store and subtract, mw_core,
--- mw_engine. Its statements may change with mw_core and mw_engine; its proofs may change freely.
+-- Used by: Shared::begin, exchange, load, store, subtract, mw_core.
 use Rattle.std.proofs.Common.{ℕ, ◌≡◌, false, [], ◌∷◌, map, refl, ap, sym, ◌∙◌}
 use Rattle.std.specs.Prelude.{Option, Some, None}
 use Rattle.mw_words.specs.declared.replies.Reply.{Reply}

@@ -1,5 +1,5 @@
 -- A table (array of shared atomic words) that is made at a start begins under the table's rule (mw_rule `specs/Rule`).
--- Used by: the proofs of Shared::new and bits_of. It may change freely as long as this crate checks.
+-- Used by: Shared::new, bits_of.
 use Rattle.std.specs.Prelude.{ℕ, zero, suc, ◌≡◌, if◌then◌else◌, is_some, List, [], ◌∷◌, length, slice_get, Option, Some, None, Vec}
 use Rattle.std.specs.declared.alloc.Global.{Global}
 use Rattle.std.proofs.Common.{refl, arith}

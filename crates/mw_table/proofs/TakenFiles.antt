@@ -1,5 +1,5 @@
 -- A pass takes a tenant's file and gives the same file back; what is known of that file is true in a world.
--- Used by: the proofs of Shared::take, give_back and confirm. It may change freely as long as this crate checks.
+-- Used by: Shared::take, give_back, confirm.
 use Rattle.std.specs.Prelude.{ℕ, ◌≡◌, true, List, [], ◌∷◌, ◌++◌, length, map, Option, Some, None, is_none}
 use Rattle.std.proofs.Common.{refl, sym, ap, subst, ◌∙◌, inl, arith}
 use Rattle.mw_world.specs.declared.config.Config.{Config}

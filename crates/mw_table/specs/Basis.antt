@@ -1,6 +1,5 @@
 -- Defines what a table (array of shared atomic words) begins with, whether it is made at a start or after a run.
--- Used by: many specs of this crate, mw_core, mw_engine, mw_table_tests. Contracts use it through these: a change here changes
--- what they say.
+-- Used by: mw_core, mw_table_tests.
 use Rattle.std.specs.Prelude.{ℕ, List}
 use Rattle.mw_world.specs.declared.config.Config.{Config}
 use Rattle.mw_world.specs.Definition.State.{TenantStart, WorkerState}

@@ -1,6 +1,5 @@
--- Defines that a pass carries a request or has handed out its reply, and that the words of the request's next step exist.
--- Used by: the contracts of src/passes.rt, mw_core, mw_engine, mw_engine_tests, mw_table_tests. A change here changes what
--- these contracts say.
+-- Defines that a pass carries a request or has handed out its reply, and that the words of its next step exist.
+-- Used by: src/passes.rt, mw_core.
 use Rattle.std.specs.Prelude.{Some}
 use Rattle.mw_actor.specs.ActorState.{ActorState}
 use Rattle.mw_rule.specs.declared.views.WorkerToken.{WorkerToken}

@@ -1,6 +1,5 @@
 -- Defines what the table's calls on tenants' files require of a pass, and what the pass learns from them.
--- Used by: the contracts of src/call_steps.rt, src/file_calls.rt and src/meet.rt, specs/NewFilePasses, mw_core, mw_engine. A
--- change here changes what these contracts say.
+-- Used by: src/call_steps.rt, src/file_calls.rt, src/meet.rt, mw_core.
 use Rattle.std.specs.Prelude.{ℕ, ◌≡◌, ◌<◌, true, false, cond, List, [], ◌∷◌, ◌++◌, Option, Some}
 use Rattle.mw_words.specs.declared.statuses.Status.{Status}
 use Rattle.mw_words.specs.Patterns.{IsStatusInRange, unpacked_status}

@@ -1,5 +1,5 @@
 -- Definitions of mw_rule that crates above need too, passed on so that they name this crate alone.
--- Used by: mw_core, whose `specs/FromTable` passes some on. Add and take out names as these crates need them.
+-- Used by: mw_core (`specs/FromTable` passes some on), mw_law_threads. Add and take out names as these crates need them.
 pub use Rattle.mw_rule.specs.WholeCalls.{Answered, Serves}
 pub use Rattle.mw_rule.specs.Steps.{LearnsFirstStep, FindsWayAt, ExtendsWithLearned, HasToken, IsFound, IsReady, IsReadyAt, IsReadyFor, ExtendsView, LearnsPlainLoad, MayCome, LearnsMeeting, AddsFinishedIf, LearnsStep, comes, finished_as, settled, settled_as, stepped, told, actor_after}
 pub use Rattle.mw_rule.specs.RunEvents.{events_loaded, starts_by}

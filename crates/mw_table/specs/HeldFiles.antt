@@ -1,6 +1,5 @@
 -- Defines the files on which a thread may make calls: those whose file passes it has.
--- Used by: the contracts of src/file_calls.rt and src/file_pass.rt, specs/FileCalls, mw_core, mw_engine. A change here changes
--- what these contracts say.
+-- Used by: src/file_calls.rt, src/file_pass.rt, mw_core, mw_law_threads.
 use Rattle.std.specs.Prelude.{ℕ, ◌≡◌, Bool, false, List, [], ◌∷◌, map, is_none, None}
 use Rattle.mw_rule.specs.declared.file_token.FileToken.{FileToken}
 use Rattle.mw_rule.specs.declared.views.HeldFile.{HeldFile}

@@ -1,6 +1,4 @@
--- Defines an idle pass: its thread has one worker, which has no request. A pass is a thread's capability to make the steps of
--- one worker.
--- Used by: the contracts of src/passes.rt and src/shared.rt, mw_core. A change here changes what these contracts say.
+-- Defines an idle pass: its thread has one worker, which has no request. Used by: src/passes.rt, src/shared.rt, mw_core.
 use Rattle.std.specs.Prelude.{◌≡◌, Bool, true, [], ◌∷◌, map, is_none}
 use Rattle.mw_rule.specs.declared.views.WorkerToken.{WorkerToken}
 use Rattle.mw_rule.specs.declared.views.View.{View}

@@ -1,6 +1,5 @@
 -- Defines what two passes know after they meet: each has seen what the other has seen, and keeps its own.
--- Used by: the contracts of src/call_steps.rt, src/file_calls.rt and src/meet.rt, mw_core, mw_engine. A change here changes
--- what these contracts say.
+-- Used by: src/call_steps.rt, src/file_calls.rt, src/meet.rt, mw_core.
 use Rattle.std.specs.Prelude.{◌≡◌, []}
 use Rattle.mw_rule.specs.declared.views.View.{View}
 use Rattle.mw_rule.specs.Splits.{dealt, merges, learns, left_over, note}

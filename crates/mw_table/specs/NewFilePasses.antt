@@ -1,6 +1,5 @@
 -- Defines the file passes that a table makes at a start, one for each tenant's file.
--- Used by: the contracts of src/at_start.rt and src/new_table.rt, mw_core, mw_engine. A change here changes what these
--- contracts say.
+-- Used by: src/at_start.rt, src/new_table.rt, mw_core.
 use Rattle.std.specs.Prelude.{ℕ, ◌≡◌, List, [], ◌∷◌, length, slice_get, Some}
 use Rattle.mw_world.specs.Definition.State.{tenants_of}
 use Rattle.mw_rule.specs.Splits.{knows}

@@ -1,6 +1,5 @@
 -- Defines the passes that a new table makes, one for each worker.
--- Used by: the contracts of src/after_run.rt, src/at_start.rt and src/new_table.rt, mw_core, mw_engine, mw_table_tests. A
--- change here changes what these contracts say.
+-- Used by: src/after_run.rt, src/at_start.rt, src/new_table.rt, mw_core, mw_table_tests.
 use Rattle.std.specs.Prelude.{ℕ, ◌≡◌, ◌<◌, List, [], ◌∷◌, length, slice_get, slice_index_or, is_none, Option, Some, None}
 use Rattle.mw_actor.specs.ActorState.{ActorState}
 use Rattle.mw_world.specs.Definition.State.{WorkerState, State}

@@ -1,5 +1,4 @@
--- Defines which notes are of a table, and what a pass has learned from a note.
--- Used by: the contracts of src/notes.rt, mw_engine. A change here changes what these contracts say.
+-- Defines which notes are of a table, and what a pass has learned from a note. Used by: src/notes.rt, mw_core.
 use Rattle.std.specs.Prelude.{◌≡◌, []}
 use Rattle.mw_world.specs.Definition.State.{tenants_of}
 use Rattle.mw_rule.specs.declared.views.View.{View}

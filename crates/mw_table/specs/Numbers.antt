@@ -1,6 +1,5 @@
 -- Defines a pass's worker, the number of that worker's next attempt, and which number an attempt takes.
--- Used by: the contracts of src/shared.rt and src/steps.rt, mw_core, mw_engine, mw_table_tests. A change here changes what
--- these contracts say.
+-- Used by: src/shared.rt, src/steps.rt, mw_core.
 use Rattle.std.specs.Prelude.{ℕ, ◌≡◌, ◌<◌, List, map, Option, Some, None}
 use Rattle.mw_words.specs.declared.limits.TheConstants.{WORN_NUMBER}
 use Rattle.mw_actor.specs.declared.points.Point.{Point}

@@ -1,6 +1,5 @@
 -- Defines what a table is made of: a start or a run, what it begins with, and which runs may have been before.
--- Used by: the contracts of src/after_run.rt, src/at_start.rt, src/file_calls.rt and other code of this crate, specs/FileCalls,
--- specs/Passes, mw_core, mw_engine, mw_table_tests. A change here changes what these contracts say.
+-- Used by: src/after_run.rt, src/at_start.rt, src/file_calls.rt, among others, mw_core, mw_table_tests.
 use Rattle.std.specs.Prelude.{ℕ, List, map, Some}
 use Rattle.mw_world.specs.declared.config.Config.{Config}
 use Rattle.mw_world.specs.Definition.Events.{WorldEvent}

@@ -1,6 +1,5 @@
 -- Defines to which table a pass belongs, and what of it stays over a call: its worker, or all except that it becomes idle.
--- Used by: the contracts of src/call_steps.rt, src/calls.rt, src/file_calls.rt and other code of this crate, specs/NewPasses,
--- mw_core, mw_engine, mw_table_tests. A change here changes what these contracts say.
+-- Used by: src/call_steps.rt, src/calls.rt, src/file_calls.rt, among others, mw_core.
 use Rattle.std.specs.Prelude.{◌≡◌, Bool, true, false}
 use Rattle.mw_look.specs.declared.steps.Kind.TheVariants.{Plant as PlantKind}
 use Rattle.mw_look.specs.declared.steps.Op.{Op}

@@ -1,5 +1,4 @@
--- Defines the shared word at each index of the table.
--- Used by: the contracts of src/at_start.rt and src/places.rt, mw_table_tests. A change here changes what these contracts say.
+-- Defines the shared word at each index of the table. Used by: src/at_start.rt, src/places.rt, mw_table_tests.
 use Rattle.std.specs.Prelude.{ℕ, ◌≡◌, ◌+◌, ◌-◌, ◌*◌, ◌/◌, ◌%◌, ◌==◌, nat_lt, true, if◌then◌else◌}
 use Rattle.mw_words.specs.declared.limits.TheConstants.{MAX_ENTRIES, MAX_TENANTS, MAX_WORDS}
 use Rattle.mw_words.specs.declared.places.At.{At}

@@ -1,5 +1,4 @@
--- Defines what a table begins with that is made after a run from a new world.
--- Used by: the contracts of src/after_run.rt, specs/Origins, mw_table_tests. A change here changes what these contracts say.
+-- Defines what a table begins with that is made after a run from a new world. Used by: src/after_run.rt, mw_table_tests.
 use Rattle.std.specs.Prelude.{ℕ, ◌≡◌, ◌<◌, ◌+◌, Bool, List, [], ◌∷◌, slice_get, slice_index_or, Some}
 use Rattle.mw_lone.specs.declared.marks.Mark.{Mark}
 use Rattle.mw_lone.specs.declared.marks.Mark.TheVariants.{Restart}

@@ -1,6 +1,5 @@
--- Defines what a thread learns from a request's first step, which also announces the request, and which events this adds to a
--- run.
--- Used by: the contracts of src/first_steps.rt. A change here changes what these contracts say.
+-- Defines what a thread learns from a request's first step, which announces the request, and which events it adds to a run.
+-- Used by: src/first_steps.rt.
 use Rattle.std.specs.Prelude.{ℕ}
 use mathlib.Core.Option.{Option, some, none}
 use Rattle.mw_look.specs.declared.observations.Got.TheVariants.{Word as Found}

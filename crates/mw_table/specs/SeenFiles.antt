@@ -1,5 +1,5 @@
 -- Defines what a pass sees when it confirms what is known of a tenant's file: all changes that were sealed in it.
--- Used by: the contract of `Shared::confirm_with` (src/file_calls.rt), mw_engine. A change here changes what their contracts say.
+-- Used by: `Shared::confirm_with` (src/file_calls.rt), mw_core.
 use Rattle.std.specs.Prelude.{ℕ, ◌≡◌, ◌<◌, List}
 use Rattle.mw_world.specs.Claim.Headline.{IsExecution}
 use Rattle.mw_world.specs.Definition.Events.{WorldEvent}

@@ -1,7 +1,6 @@
 //! Makes a table (array of shared words) that goes on from a run of a world: `Shared::of_run`.
 //!
-//! mw_table_tests makes a table by it, for tests. The server doesn't. Its contracts use `specs/NewPasses`, `specs/Origins` and
-//! `specs/Runs`: change them together.
+//! mw_table_tests uses it; the server doesn't. Change it with `specs/NewPasses`, `specs/Origins` and `specs/Runs`.
 ghost use Rattle.std.specs.Prelude.{◌≡◌, All, IfOk, length, map};
 ghost use Rattle.mw_world.specs.Definition.State.{IsConfig, tenants_of};
 ghost use Rattle.mw_rule.specs.Layout.{words_of};

@@ -1,9 +1,8 @@
 //! Makes the two steps of a call on a tenant's file: the load of its change's status, and the step on a shared word
-//! with which the call ends. Between the two the caller makes its device calls. A table knows nothing of these: the
+//! with which the call ends. Between the two the caller makes its device calls, of which a table knows nothing: the
 //! caller says by which step the call ends.
 //!
-//! mw_core calls them, in `file_calls.rt`: a load of the status, its device calls on the tenant's book, and then
-//! `end_call` or `fault`. Their clauses are in `specs/FileCalls`; mw_core's promises for a whole call rest on them.
+//! Used by: mw_core (`file_calls.rt`). Change it with `specs/FileCalls`.
 ghost use Rattle.std.specs.Prelude.{◌≡◌};
 ghost use Rattle.mw_table.specs.FileCalls.{EndsInFault, EndsWell, FindsStatus, AddsCallEvent, AddsFaultEvent, AddsLoadEvent, MayExchange, MayFault, MayFind};
 ghost use Rattle.mw_table.specs.Meet.{IsSamePass};

@@ -1,6 +1,6 @@
 //! Makes a step of one given kind on one shared word. Each call requires that this is the next step of the request
-//! that the pass carries, so its arguments are what that step expects and puts. An exchange returns whether it won,
-//! which it does if the word still had the expected bits. If it lost, it changed nothing.
+//! that the pass carries. An exchange returns whether it won, which it does if the word still had the expected bits.
+//! If it lost, it changed nothing.
 //!
 //! No crate calls these: mw_core makes each step by `step`, of `turns.rt`.
 ghost use Rattle.std.specs.Prelude.{◌≡◌, ◌+◌, cond};

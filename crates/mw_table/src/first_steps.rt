@@ -1,7 +1,7 @@
 //! Makes the first step of a request, and loads that are no step of a request.
 //!
-//! mw_core begins each request by `begin`. mw_engine loads its figures by `figure`. Its contracts use
-//! `specs/Origins`, `specs/Passes` and `specs/Said`: change them together.
+//! mw_core begins each request by `begin`. mw_engine loads its figures by `figure`. Change it with `specs/Origins`,
+//! `specs/Passes` and `specs/Said`.
 ghost use Rattle.std.specs.Prelude.{◌≡◌, true, false};
 ghost use Rattle.mw_look.specs.declared.observations.Got.TheVariants.{Word as Found};
 ghost use Rattle.mw_world.specs.Definition.Extent.{has_place};

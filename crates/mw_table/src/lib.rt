@@ -6,27 +6,24 @@
 //!
 //! [`Shared::new`] makes a table and its passes at a start, [`Shared::of_run`] after a run from a new world. `begin`
 //! makes a request's first step, with which it comes. Each further step is one call: `step` makes whichever step is
-//! next, `load` and the calls of `calls.rt` make one kind each. A call requires that its step is the next one of the
-//! request that the pass carries (`IsNextStep` of `mw_rule`). The pass learns what the step found (`LearnsStep`), and
-//! `event` says which events extend a run of the world. If a step brings the reply, the reply is handed out with it,
-//! and `Pass::rest` makes the pass idle again.
+//! next, `load` and the calls of `calls.rt` one kind each, if it is the next one (`IsNextStep` of `mw_rule`). The
+//! pass learns what the step found (`LearnsStep`), and `event` says which events extend a run of the world. If a step
+//! brings the reply, the reply is handed out with it, and `Pass::rest` makes the pass idle again.
 //!
-//! When a request comes to a call on its tenant's file, its pass takes the file for that call. [`Shared::new`] gives
-//! one [`FilePass`] for each tenant. `take` takes it. `find_status` loads the status of the change, from which the
-//! call starts or doesn't (`starts_from` of `mw_world`). When the caller has made its device calls, `end_call` or
-//! `fault` ends the call. `give_back` gives the file back, with what is known of it then. The table knows no device:
-//! the caller says how the call went.
+//! When a request comes to a call on its tenant's file, its pass takes the file's [`FilePass`] by `take`;
+//! [`Shared::new`] gives one for each tenant. `find_status` loads the status of the change, from which the call
+//! starts or doesn't (`starts_from` of `mw_world`). When the caller has made its device calls, `end_call` or `fault`
+//! ends the call. `give_back` gives the file back, with what is known of it then.
 //!
-//! Some calls are no step of a request, and add no event: `figure` loads a word, `meet` lets two passes see what either
-//! has seen, `note` makes a [`Note`] of what a pass has seen, and `learn` lets another pass learn from it. None waits, and none
-//! but `new` and `of_run` allocates memory.
+//! Some calls are no step of a request, and add no event. `figure` loads a word. `meet` lets two passes see what
+//! either has seen. `note` makes a [`Note`] of what a pass has seen, from which another pass may `learn`. No call
+//! waits, and none but `new` and `of_run` allocates memory.
 //!
 //! Read first: `specs/Passes` and `specs/NewPasses` say what a pass is; `specs/Basis`, `specs/TableAtStart` and
 //! `specs/Runs` what a table begins with; `specs/NewFilePasses` and `specs/FileCalls` what a file pass is, and what a
 //! call on the file requires.
 //!
-//! Used by: mw_core, mw_table_tests; `must-fail` edits some bodies. Bodies may change freely as long as the crate checks and
-//! these edits fail. A new kind of step comes with its case in mw_look (`specs/Steps`) and mw_rule.
+//! Used by: mw_core, mw_table_tests. A new kind of step comes with its case in mw_look (`specs/Steps`) and mw_rule.
 #![tactic(auto)]
 
 mod after_run;

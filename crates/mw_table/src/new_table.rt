@@ -1,7 +1,7 @@
 //! Makes the atomic words of a new table, and the passes that go with it.
 //!
-//! Used by: `at_start`, `after_run`. Its contracts use `specs/NewPasses`, `specs/TableAtStart`,
-//! `specs/NewFilePasses` and others: change them together.
+//! Used by: `at_start`, `after_run`. Change it with `specs/NewPasses`, `specs/TableAtStart` and
+//! `specs/NewFilePasses`.
 ghost use Rattle.std.specs.Prelude.{◌≡◌, ◌<◌, All, [], IfOk, length, ℕ};
 ghost use Rattle.mw_actor.specs.ActorState.{ActorState};
 ghost use Rattle.atomic_table.specs.Table.{opening};

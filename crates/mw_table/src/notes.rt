@@ -1,6 +1,6 @@
 //! Makes notes of what a pass has seen, and lets another pass learn from one.
 //!
-//! Used by: mw_engine. Its contracts use `specs/Meet`, `specs/Notes` and `specs/Passes`: change them together.
+//! Used by: mw_engine. Change it with `specs/Meet`, `specs/Notes` and `specs/Passes`.
 ghost use Rattle.std.specs.Prelude.{◌≡◌};
 ghost use Rattle.mw_rule.specs.Splits.{note as said_by};
 ghost use Rattle.mw_table.specs.Meet.{IsSamePass};

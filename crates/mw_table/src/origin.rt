@@ -1,7 +1,7 @@
 //! What a table is made of: what the files gave at a start, or a run from a new world.
 //!
-//! `at_start` and `after_run` make it. mw_core passes on [`FileOpening`], and mw_table_tests gives the values so far. Its ghost
-//! fields use `specs/Origins`: change them together.
+//! Used by: `at_start`, `after_run`; mw_core, which passes on [`FileOpening`]; mw_table_tests. Change it with
+//! `specs/Origins`.
 ghost use Rattle.mw_table.specs.Origins.{begun_of, config_of, first_of};
 
 use crate::run_before::RunBefore;

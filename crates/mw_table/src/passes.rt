@@ -1,7 +1,6 @@
 //! Tells a pass's worker, its next attempt number and whether it is idle; makes it idle again.
 //!
-//! Used by: mw_core, mw_engine. Its contracts use `specs/CarriedRequest`, `specs/Passes` and `specs/Idleness`:
-//! change them together.
+//! Used by: mw_core, mw_engine. Change it with `specs/CarriedRequest`, `specs/Passes` and `specs/Idleness`.
 ghost use Rattle.std.specs.Prelude.{◌≡◌, ◌≢◌, true, None};
 ghost use Rattle.mw_actor.specs.Program.{replied};
 ghost use Rattle.mw_table.specs.CarriedRequest.{IsCarried};

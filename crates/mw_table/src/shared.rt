@@ -1,7 +1,7 @@
 //! The table of shared words, and the passes with which threads make steps on it.
 //!
-//! Used by: nearly all modules of this crate, mw_core, mw_table_tests. mw_core passes both types on. Its ghost fields use
-//! `specs/Numbers`, `specs/Origins` and `specs/Idleness`: change them together.
+//! Used by: nearly all modules of this crate, mw_table_tests; mw_core passes both types on. Change it with
+//! `specs/Numbers`, `specs/Origins` and `specs/Idleness`.
 ghost use Rattle.std.specs.Prelude.{◌≡◌, true, [], ◌∷◌};
 ghost use Rattle.mw_world.specs.Definition.State.{IsConfig};
 ghost use Rattle.mw_rule.specs.Layout.{words_of};

@@ -1,6 +1,6 @@
 //! Makes one atomic step on one shared word: a load, a store, an exchange, an attempt or a subtraction.
 //!
-//! Used by: `turns`, `calls`. Its contracts use `specs/Numbers` and `specs/Passes`: change them together.
+//! Used by: `turns`, `calls`. Change it with `specs/Numbers` and `specs/Passes`.
 ghost use Rattle.std.specs.Prelude.{◌≡◌, ◌+◌, ◌==◌, cond, false};
 ghost use Rattle.mw_look.specs.declared.steps.Kind.TheVariants as kind;
 ghost use Rattle.mw_look.specs.declared.steps.Op.TheVariants.{Load as LoadBits, Change as ChangeBits};

@@ -1,7 +1,6 @@
 //! Makes the next step of the request that a pass carries, of any kind but a call on a file.
 //!
-//! mw_core makes each step of a request by it, except the first and those of a call on a file. Its contracts use
-//! `specs/Passes`: change them together.
+//! mw_core makes each step by it, except a request's first one. Change it with `specs/Passes`.
 ghost use Rattle.std.specs.Prelude.{◌≡◌, cond};
 ghost use Rattle.mw_look.specs.declared.steps.Op.TheVariants.{Change as ChangeBits};
 ghost use Rattle.mw_look.specs.declared.observations.Got.TheVariants.{Won as GotWon, Lost as GotLost};

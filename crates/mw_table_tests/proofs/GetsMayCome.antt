@@ -1,4 +1,4 @@
--- A read of the first word may come to an idle pass. Used by: the proof of gets.
+-- A read of the first word may come to an idle pass. Used by: gets.
 use Rattle.std.specs.Prelude.{ℕ, ◌≡◌, true, nat_lt}
 use Rattle.std.proofs.Common.{refl, sym, subst}
 use Rattle.mw_words.specs.declared.jobs.Job.TheVariants.{Get}

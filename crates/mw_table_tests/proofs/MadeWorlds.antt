@@ -1,5 +1,5 @@
 -- A table (array of shared atomic words) that is made of a simulated world begins after the run that led to that world.
--- Used by: the proof of of_world, mw_table_tests. Its statements may change with mw_table_tests; its proofs may change freely.
+-- Used by: of_world.
 use Rattle.std.specs.Prelude.{ℕ, zero, suc, ◌≡◌, ◌<◌, ◌≤◌, ◌⊎◌, List, [], ◌∷◌, length, map, slice_get, slice_index_or, Option, Some, None}
 use Rattle.std.proofs.Common.{refl, sym, ap, subst, ◌∙◌, inl, inr, arith}
 use Rattle.std.proofs.lemmas.List.{length-map}

@@ -1,6 +1,6 @@
--- A table (the words that threads share) is made of a world (the model of a whole server). Each new pass (a thread's handle to
--- the table) then carries the request that its worker has in that world, if that has no reply yet.
--- Used by: the proofs of request_of, worlds::after and worlds::step. It may change freely as long as this crate checks.
+-- Each new pass of a table that is made of a simulated world carries the request that its worker has in that world, if that
+-- has no reply yet.
+-- Used by: request_of, worlds::after, worlds::step.
 use Rattle.std.specs.Prelude.{ℕ, ◌≡◌, List, [], ◌∷◌, ◌++◌, Option, Some, None, Result, Ok, Err}
 use Rattle.std.proofs.Common.{refl, sym, ap, subst, ◌∙◌}
 use Rattle.mw_actor.specs.ActorState.{ActorState}

@@ -1,5 +1,4 @@
--- A read of word 0 or 1 may come to the idle pass of worker 2.
--- Used by: the proof of read_once. It may change freely as long as this crate checks.
+-- A read of word 0 or 1 may come to the idle pass of worker 2. Used by: read_once.
 use Rattle.std.specs.Prelude.{ℕ, ◌≡◌, true, nat_lt}
 use Rattle.std.proofs.Common.{sym, subst}
 use Rattle.mw_words.specs.declared.jobs.Job.TheVariants.{Get}

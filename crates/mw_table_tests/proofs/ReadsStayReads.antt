@@ -1,5 +1,4 @@
--- A request that is a read is still one after each of its steps.
--- Used by: the proof of turns_back. It may change freely as long as this crate checks.
+-- A request that is a read is still one after each of its steps. Used by: turns_back.
 use Rattle.std.specs.Prelude.{ℕ, ◌≡◌, Option, Some, None}
 use Rattle.std.proofs.Common.{sym, ap, subst, ◌∙◌}
 use Rattle.mw_words.specs.declared.replies.Reply.{Reply}

@@ -1,6 +1,5 @@
 -- Defines that a world in memory is the end of some run of events.
--- Used by: the contracts of src/race_tests.rt, src/reading_tests.rt and src/worlds.rt. A change here changes what these
--- contracts say.
+-- Used by: src/race_tests.rt, src/reading_tests.rt, src/worlds.rt.
 use Rattle.std.specs.Prelude.{List}
 use Rattle.mw_world.specs.Definition.Events.{WorldEvent}
 use Rattle.mw_simulator.specs.declared.world.World.{World}

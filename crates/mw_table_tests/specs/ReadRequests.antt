@@ -1,5 +1,4 @@
--- Defines that a request is a read, wherever it is in its program.
--- Used by: the contracts of src/reading_tests.rt. A change here changes what these contracts say.
+-- Defines that a request is a read, wherever it is in its program. Used by: src/reading_tests.rt.
 use Rattle.std.specs.Prelude.{◌≡◌}
 use Rattle.mw_words.specs.declared.jobs.Job.TheVariants.{Get}
 use Rattle.mw_look.specs.Program.{Reading}

@@ -1,5 +1,5 @@
 -- Defines when a pass may read a word in the race of two changes: worker 2's pass, which carries no request.
--- Used by: the contracts of src/race_tests.rt. A change here changes what these contracts say.
+-- Used by: src/race_tests.rt.
 use Rattle.std.specs.Prelude.{ℕ, ◌≡◌, ◌≤◌, true}
 use Rattle.mw_world.specs.Definition.State.{tenant_at, tenants_of}
 use Rattle.mw_core.specs.FromTable.{IsOf, Pass, Shared, config_of, opening_at, openings_of}

@@ -1,6 +1,5 @@
 -- Defines what a table (array of shared atomic words) begins with that is made of a simulated world.
--- Used by: the contracts of src/copies.rt and src/from_world.rt, mw_table_tests. A change here changes what these contracts
--- say.
+-- Used by: src/world_table/copies.rt, src/world_table/from_world.rt.
 use Rattle.std.specs.Prelude.{List, map, Option}
 use Rattle.mw_actor.specs.ActorState.{ActorState}
 use Rattle.mw_world.specs.Definition.Events.{WorldEvent}

@@ -1,10 +1,9 @@
-//! Tests the table of shared words, and two threads that drive requests on one: so the tables are apart from the crates that they
-//! test, which are proved once. The program makes so many loads of a table's words, or whole reads, to be timed from outside.
+//! Tests the table of shared words, and two threads that drive requests on one, apart from the crates that are
+//! tested, which are so proved once. The program makes loads or reads, to be timed from outside.
 //!
-//! In `mw_table_tests loads N` one thread loads a word. In `mw_table_tests gets N` one thread reads a word
-//! of a tenant, by whole requests. In `mw_table_tests two N` two threads do so, each on a tenant of its
-//! own. It prints what was found, as one number. For any other command line, and if memory is refused, it
-//! prints nothing.
+//! In `mw_table_tests loads N` one thread loads a word. In `mw_table_tests gets N` one thread reads a tenant's word,
+//! by whole requests. In `mw_table_tests two N` two threads do so, each on a tenant of its own. It prints what was
+//! found, as one number. For any other command line, and if memory is refused, it prints nothing.
 //!
 //! `scripts/bench-table` runs and times it. It depends on the commands, and on one number being printed.
 #![tactic(auto)]

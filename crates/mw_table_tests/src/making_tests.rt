@@ -1,6 +1,4 @@
 //! Tests how a table (array of shared atomic words) is made: of a world in memory, and at a start.
-//!
-//! Nothing else uses it: it may change with what it tests.
 ghost use Rattle.std.specs.Prelude.{◌≡◌, [], ◌∷◌, ℕ, IfOk, None, Some, Vec};
 ghost use Rattle.std.specs.declared.alloc.Global.{Global};
 ghost use Rattle.mw_world.specs.Definition.State.{tenant_at, tenants_of};

@@ -1,6 +1,6 @@
 //! Tests two threads that make the steps of two requests on one table (array of shared atomic words).
 //!
-//! Used by: `reading_tests`. It may change freely as long as this crate checks and its tests pass.
+//! Used by: `reading_tests`.
 ghost use Rattle.std.specs.Prelude.{◌≡◌, ◌≤◌, All, IfSome, List, nat_lt, true};
 ghost use Rattle.mw_world.specs.Definition.Events.{WorldEvent};
 ghost use Rattle.mw_world.specs.Definition.State.{tenant_at, tenants_of};

@@ -1,6 +1,4 @@
 //! Tests a read that begins again. One thread makes its steps, and those of a change beside it.
-//!
-//! Nothing else uses it: it may change with what it tests.
 ghost use Rattle.std.specs.Prelude.{◌≡◌, true, IfSome};
 ghost use Rattle.mw_words.specs.declared.jobs.Job.TheVariants.{Get};
 ghost use Rattle.mw_core.specs.FromTable.{IsCarried, IsOf};

@@ -1,9 +1,8 @@
-//! Makes a table (array of shared atomic words) of a world in memory. Play a world to some point, and go on with
-//! threads.
+//! Makes a table (array of shared atomic words) of a world in memory, so that threads go on from where the world was
+//! played to.
 //!
-//! [`of_world`] copies the tenants, the workers and the shared words out of the world, and makes the table of
-//! them. [`run_before`] gives the run that led to the world, which the table's passes then know. `specs/Worlds` says
-//! what such a table begins with.
+//! [`of_world`] copies the tenants, the workers and the shared words out of the world. [`run_before`] gives the run
+//! that led to the world. `specs/Worlds` says what such a table begins with.
 mod copies;
 mod from_world;
 mod runs;

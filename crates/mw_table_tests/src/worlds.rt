@@ -1,7 +1,6 @@
 //! Plays worlds in memory up to the moment from which threads go on.
 //!
-//! Used by: `making_tests`, `race_tests`, `reading_tests`. It may change freely as long as this crate checks and
-//! its tests pass.
+//! Used by: `making_tests`, `race_tests`, `reading_tests`.
 ghost use Rattle.std.specs.Prelude.{◌≡◌, ◌≤◌, ◌<◌, [], IfSome};
 ghost use Rattle.mw_words.specs.declared.limits.TheConstants.{MAX_POOL, MAX_QUOTA, MAX_WORDS, MAX_WORKERS};
 ghost use Rattle.mw_world.specs.Definition.State.{IsConfig, tenant_at, tenants_of};

@@ -1,6 +1,6 @@
 //! Clients over sockets: what they wait for must come within a limit of time.
 //!
-//! Used by: mw_examples, mw_serving_tests. It may change freely as long as these check and their tests pass.
+//! Used by: mw_examples, mw_serving_tests.
 use std::alloc::Global;
 use std::io::{self, ErrorKind, Read, Write};
 use std::net::{Net, TcpListener, TcpStream};

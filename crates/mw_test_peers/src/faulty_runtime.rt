@@ -1,7 +1,7 @@
-//! A runtime for tests, under which some files can't be read or written, some addresses give no connection, and somebody
-//! tries to connect to a local socket at the moment at which its mode is set.
+//! A runtime for tests, under which some files can't be read or written, and some addresses give no connection.
+//! Somebody tries to connect to a local socket when its mode is set.
 //!
-//! Used by: mw_examples, mw_serving_tests. It may change freely as long as these check and their tests pass.
+//! Used by: mw_examples, mw_serving_tests.
 use std::alloc::{Allocator, Global};
 use std::fs::{File, Metadata, OpenOptions, Permissions};
 use std::io;

@@ -1,7 +1,7 @@
-//! Peers of sessions, for tests: a reader and a writer that fail when they are told to, what they say and are told in
-//! the sweeps, which try each place of failure, a service in memory, clients over sockets, and a runtime that fails.
+//! Peers of sessions, for tests: a reader and a writer that fail when they are told to, sweeps over each place of
+//! failure, a service in memory, clients over sockets, and a runtime that fails.
 //!
-//! Used by: mw_examples, mw_serving_tests, mw_http_tests, mw_engine_tests, for tests.
+//! Used by: mw_examples, mw_serving_tests, mw_http_tests, mw_engine_tests.
 #![tactic(auto)]
 
 mod callers;

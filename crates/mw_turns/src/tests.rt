@@ -1,6 +1,4 @@
 //! Tests what no contract says: that each wait ends, for a lock or by a bell, and that long waits are in turn.
-//!
-//! Nothing else uses it: it may change with what it tests.
 use crate::{Bell, FairLock};
 use std::alloc::{AllocError, Global};
 use std::sync::Wait;

@@ -1,8 +1,6 @@
--- Each shared word of 64 bits and its bits (`specs/Patterns`) determine each other. A value in range that was packed is
--- unpacked again, and its bits fit into 64. Two values in range with the same bits are the same. What is unpacked from 64 bits
--- is in range and has those bits.
--- Used by: mw_look, mw_rule, mw_engine, mw_law_runs, mw_world_memory, mw_player. Its statements may change with specs/Patterns
--- and these crates; its proofs may change freely.
+-- Each shared word of 64 bits and its bits (`specs/Patterns`) determine each other. What was packed in range is unpacked
+-- again, and its bits fit into 64. What is unpacked from 64 bits is in range and has those bits.
+-- Used by: many crates from mw_look on.
 use Rattle.std.specs.Prelude.{◌≡◌, ℕ, ◌^◌, ◌≤◌, ◌<◌, ◌==◌, ◌&&◌, ◌||◌, nat_lt, Bool, true, false, cond, Some, None, IfSome}
 use Rattle.std.specs.declared.option.Option.{Option}
 use Rattle.std.proofs.Common.{refl, sym, ap, ◌∙◌, arith}

@@ -1,6 +1,6 @@
 -- Defines a tenant's words, the changes to them, and which jobs a tenant may ask for.
--- Used by: 26 crates from mw_line on, the contracts of jobs.rt. A change here is a change of what the whole server promises:
--- begin with the rows on a job in CONTRIBUTING.
+-- Used by: many crates from mw_line on, jobs.rt. A change here changes what the whole server promises: begin with the rows on
+-- a job in CONTRIBUTING.
 use Rattle.std.specs.Prelude.{ℕ, ◌+◌, ◌==◌, ◌&&◌, Bool, true, List, [], ◌∷◌, length, nat_le, nat_lt, slice_index, slice_set, All, ◌≤◌}
 use Rattle.std.specs.List.{list_all}
 use Rattle.mw_words.specs.declared.limits.TheConstants.{MAX_VALUE, MAX_ENTRIES}

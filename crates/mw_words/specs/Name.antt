@@ -1,6 +1,5 @@
 -- Defines which bytes are a tenant's name.
--- Used by: mw_line, mw_config, mw_schedule, mw_client, the contracts of names.rt. A change here changes which names the
--- protocol and a tenants file accept.
+-- Used by: many crates from mw_line on, names.rt. A change here changes which names the protocol and a tenants file accept.
 use Rattle.std.specs.Prelude.{ℕ, ◌==◌, ◌&&◌, ◌||◌, Bool, List, length, nat_le, slice_index}
 use Rattle.std.specs.List.{list_all}
 use Rattle.mw_words.specs.declared.limits.TheConstants.{MAX_NAME}

@@ -1,8 +1,8 @@
 -- Defines the bits of the words of 64 bits that workers share: tenants' words, gates, doors, statuses and rows. Each is a sum
 -- of fields at fixed bits. A field may have any value that fits into its bits, if nothing else is said here.
--- Used by: 15 crates from mw_pool on, the contracts of doors.rt, gates.rt, rows.rt, statuses.rt and words.rt. The bits live
--- only while a server runs, and no file has them: a pattern may change if its value still fits into 64 bits and PatternLaws is
--- proved again. mw_rule (ways.rt) and mw_table have the bit of a pin and that of a fault as numbers, and change with it.
+-- Used by: many crates from mw_pool on, doors.rt, gates.rt, rows.rt, statuses.rt, words.rt. No file has these bits: a pattern
+-- may change if its value still fits into 64 bits and PatternLaws is proved again. mw_rule (ways.rt) and mw_table have the
+-- bit of a pin and that of a fault as numbers, and change with it.
 use Rattle.std.specs.Prelude.{◌≡◌, ℕ, ◌+◌, ◌*◌, ◌/◌, ◌%◌, ◌^◌, ◌≤◌, ◌<◌, ◌==◌, ◌&&◌, ◌||◌, Bool, false, cond, nat_lt, Some, None}
 use Rattle.std.specs.declared.option.Option.{Option}
 use Rattle.mw_words.specs.declared.limits.TheConstants.{MAX_VALUE, WORN_NUMBER, MAX_PINS, MAX_POOL, MAX_WORKERS, MAX_ENTRIES}

@@ -1,8 +1,7 @@
-//! Defines a tenant's operations, its *jobs*: to read one word, or to make a change (a multi-word compare-and-swap).
-//! Defines the test whether a job is well formed.
+//! Defines a tenant's operations, its *jobs*: to read one word, or to make a change (a multi-word compare-and-swap);
+//! and when a job is well formed.
 //!
-//! Every layer uses [`Job`] and [`Entry`]. A new job needs a case wherever a job is matched: CONTRIBUTING lists the
-//! places under *A command*.
+//! Every layer uses [`Job`] and [`Entry`]. CONTRIBUTING lists under *A command* what a new job needs.
 ghost use Rattle.std.specs.Prelude.{◌≡◌};
 ghost use Rattle.std.specs.List.{list_all};
 ghost use Rattle.mw_words.specs.Change as spec;

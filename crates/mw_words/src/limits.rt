@@ -1,6 +1,7 @@
 //! The server's limits: the greatest value of a word, and the most tenants, words, entries, slots, workers and bytes.
 //!
-//! CONTRIBUTING says under *A limit* what else must change with one, and which of them the format of a file fixes.
+//! Every layer uses them. CONTRIBUTING says under *A limit* what else must change with one, and which of them the
+//! format of a file fixes.
 
 /// The greatest value of a word, `2^48 - 1`.
 pub const MAX_VALUE: u64 = 281_474_976_710_655;

@@ -1,7 +1,6 @@
 //! The replies to a job (a read or a change): a word's value, YES, NO, BUSY, FAULT and WORN.
 //!
-//! Every layer uses it. A new reply needs a case wherever a reply is matched: CONTRIBUTING lists the places under *A
-//! command*.
+//! Every layer uses it. CONTRIBUTING lists under *A command* what a new reply needs.
 
 /// The reply to a job.
 #[derive(Clone, Copy, Debug, PartialEq, Eq)]

@@ -1,8 +1,7 @@
 //! The status of a slot's change, in 64 bits: being written, open, decided (yes or no), or done.
 //!
-//! Requests (mw_actor, mw_look) load and exchange statuses; mw_table and mw_core do so for a call on a file. Another
-//! pattern of bits needs a change in `specs/Patterns`; a new status needs a case wherever a status is matched, in the
-//! programs of mw_actor and mw_look and in the laws. No file has these bits.
+//! Used by: mw_actor, mw_look, mw_table, mw_core. Another pattern of bits needs a change in `specs/Patterns`; a new
+//! status needs a case wherever a status is matched, in these programs and in the laws. No file has these bits.
 ghost use Rattle.std.specs.Prelude.{◌≡◌, ◌≢◌, ◌↔◌, IsTrue, IfSome, None};
 ghost use Rattle.mw_words.specs.declared.statuses.Status.{Status as StatusModel};
 ghost use Rattle.mw_words.specs.Patterns.{IsStatusInRange, IsStatusOf, packed_status, unpacked_status};

@@ -1,6 +1,4 @@
 //! Tests how the pieces that a connection brings are cut into lines.
-//!
-//! Nothing else uses it: it may change with what it tests.
 use crate::checks::holds;
 use mw_frame::*;
 use mw_words::MAX_LINE;

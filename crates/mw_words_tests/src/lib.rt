@@ -1,5 +1,5 @@
-//! Tests words and lines: examples of patterns, lines, texts and reports that come from outside, and each
-//! public function once. The tests are apart from the crates that they test, so that those are proved once.
+//! Tests words and lines by examples from outside, and each public function once. The tests are apart from the crates
+//! that they test, so that those are proved once.
 #![tactic(auto)]
 
 #[cfg(test)]

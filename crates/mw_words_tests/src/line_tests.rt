@@ -1,6 +1,4 @@
 //! Tests how lines are read, and how replies are written.
-//!
-//! Nothing else uses it: it may change with what it tests.
 use crate::checks::holds;
 use mw_line::*;
 use mw_words::{Entries, Entry, Job, MAX_LINE, Name, Reply};

@@ -1,6 +1,4 @@
 //! Tests the bits of the shared words, kind by kind.
-//!
-//! Nothing else uses it: it may change with what it tests.
 use crate::checks::holds;
 use mw_words::*;
 

@@ -1,6 +1,4 @@
 //! Tests the text of reports.
-//!
-//! Nothing else uses it: it may change with what it tests.
 ghost use Rattle.mw_report.specs.Table.{IsWithinLimits};
 
 use crate::checks::holds;

@@ -1,6 +1,4 @@
 //! Tests which changes are well formed, and which texts are names.
-//!
-//! Nothing else uses it: it may change with what it tests.
 use crate::checks::holds;
 use mw_words::*;
 

@@ -1,5 +1,4 @@
--- If one more connection comes, it is served if the desk is open, and left out if not.
--- Used by: the proof of serve_in_turn. It may change freely as long as this crate checks.
+-- If one more connection comes, it is served if the desk is open, and left out if not. Used by: serve_in_turn.
 use Rattle.std.proofs.Common.{◌≡◌, Bool, true, false, List, [], ◌∷◌, ◌++◌, length, refl, ap, arith, length-append}
 use Rattle.mw_workers.specs.ServedConnections.{chosen}
 

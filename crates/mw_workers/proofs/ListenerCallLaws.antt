@@ -1,5 +1,5 @@
 -- If a listener is asked once more, and what it gave is put into the queue, `ArePut` still holds, with the count one higher.
--- Used by: the proofs of accept_some and accept_while. It may change freely as long as this crate checks.
+-- Used by: accept_some, accept_while.
 use Rattle.std.proofs.Common.{◌≡◌, ℕ, ◌+◌, List, [], ◌∷◌, ◌++◌, length, refl, ap, subst, sym, arith, length-append}
 use Rattle.std.specs.declared.result.Result.{Result}
 use Rattle.std.specs.declared.result.Result.TheVariants.{Ok, Err}

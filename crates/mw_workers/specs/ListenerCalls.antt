@@ -1,6 +1,5 @@
 -- Defines how often a listener was asked for a connection, and where the connections that it gave were put.
--- Used by: the contracts of acceptor.rt, desk.rt and server.rt. A change here changes what is promised of each connection: that
--- it is put where it waits, and put once.
+-- Used by: acceptor.rt, desk.rt, server.rt. By it each connection is put where it waits, and put once.
 use Rattle.std.specs.Prelude.{◌≡◌, ℕ, List, [], ◌∷◌, length, Option, Some, None}
 use Rattle.std.specs.declared.result.Result.{Result}
 use Rattle.std.specs.declared.result.Result.TheVariants.{Ok, Err}

@@ -1,6 +1,5 @@
--- Defines how long a connection may still wait for a worker.
--- Used by: the contract of usher.rt. A change here changes when a client is sent away that no worker serves. Times and lengths
--- of time are in nanoseconds.
+-- Defines how long a connection may still wait for a worker, in nanoseconds.
+-- Used by: usher.rt. A change here changes when a client is sent away that no worker serves.
 use Rattle.std.specs.Prelude.{ℕ, ◌-◌, Option, Some, None}
 use Rattle.std.specs.Option.{option_map}
 use Rattle.std.specs.Time.{instant_nanos}

@@ -1,5 +1,5 @@
 -- Defines which connections a worker served, each by one session, and in what order.
--- Used by: the contracts of worker.rt (`serve_each`) and desk.rt (`serve_in_turn`). A change here changes what a worker promises.
+-- Used by: worker.rt (`serve_each`), desk.rt (`serve_in_turn`). A change here changes what a worker promises.
 use Rattle.std.specs.Prelude.{ℕ, Bool, true, false, List, [], ◌∷◌, Option}
 use Rattle.mw_session.specs.declared.session.Ended.{Ended}
 use Rattle.mw_session.specs.StreamRecords.{ReadRecord, WriteRecord}

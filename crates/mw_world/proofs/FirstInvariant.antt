@@ -1,6 +1,5 @@
 -- The world's invariant (what holds at every moment of a run) holds at every start, and a new world is a world at a start.
--- Used by: the laws starts_keep_the_invariant and new_worlds_start, mw_table, mw_simulator, mw_player. Its statements may
--- change with mw_table, mw_simulator and mw_player; its proofs may change freely.
+-- Used by: starts_keep_the_invariant, new_worlds_start, mw_table, mw_simulator, mw_player.
 use Rattle.std.specs.Prelude.{◌+◌, ◌&&◌, if◌then◌else◌, List, [], ◌∷◌, length, nat_le, replicate, slice_index_or, sum_by, IsTrue, Option, Some, None}
 use Rattle.std.specs.List.{list_all}
 use Rattle.std.proofs.Common.{◌≡◌, ◌∙◌, ℕ, zero, suc, refl, subst, sym, inl, inr, arith}

@@ -1,6 +1,5 @@
 -- If every run is durably linearizable, then runs that leave a tenant the same marks give it the same replies.
--- Used by: the law equal_marks_have_equal_replies, mw_law_store. Its statements may change with mw_law_store; its proofs may
--- change freely.
+-- Used by: equal_marks_have_equal_replies, mw_law_store.
 use Rattle.std.proofs.Common.{◌∙◌, sym, ap}
 use Rattle.mw_lone.specs.Store.{replies_from}
 use Rattle.mw_world.specs.Claim.Headline.{EveryRunIsDurablyLinearizable, EqualMarksHaveEqualReplies}

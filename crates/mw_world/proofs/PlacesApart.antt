@@ -1,6 +1,5 @@
 -- A shared word has what was last written there, and a write to one word changes no other.
--- Used by: the law places_are_apart, mw_rule, mw_world_memory. Its statements may change with mw_rule and mw_world_memory; its
--- proofs may change freely.
+-- Used by: places_are_apart, mw_rule, mw_world_memory.
 use Rattle.std.specs.Prelude.{ℕ, ◌≡◌, ◌≢◌}
 use Rattle.std.proofs.Common.{refl, ap, arith}
 use Rattle.std.proofs.lemmas.Bool.Decides.{nat_tests}

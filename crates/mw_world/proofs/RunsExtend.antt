@@ -1,6 +1,5 @@
 -- A run with one event more is the run, followed by the step of that event.
--- Used by: the law runs_extend, mw_law_store, mw_rule, mw_simulator. Its statements may change with mw_law_store, mw_rule and
--- mw_simulator; its proofs may change freely.
+-- Used by: runs_extend, mw_law_store, mw_rule, mw_simulator.
 use Rattle.std.specs.Prelude.{◌≡◌, [], ◌∷◌, ◌++◌, Option, Some, None}
 use Rattle.std.specs.Option.{option_and_then}
 use Rattle.std.proofs.Common.{refl}

@@ -1,8 +1,7 @@
 //! The configuration of a world: its workers, its tenants and its pool of slots.
 //!
-//! mw_schedule makes one from a schedule's lines, mw_engine from a tenants file, and tests make their own.
-//! mw_simulator plays its world. Which ones are valid is said by `IsConfig`, in `specs/Definition/State`. A new field
-//! needs a clause there, and a value wherever a `Config` is made.
+//! Used by: mw_schedule, mw_engine, mw_simulator, tests. `IsConfig`, in `specs/Definition/State`, says which are
+//! valid. A new field needs a clause there, and a value wherever a `Config` is made.
 
 use arrayvec::ArrayVec;
 use mw_words::{Entries, MAX_TENANTS, Name};

@@ -1,9 +1,8 @@
 //! States facts about the definition of a world: places are apart, runs extend by events, starts have the
 //! invariant, short runs come out.
 //!
-//! The functions do nothing, and nothing calls them: each contract is a fact, proved in `proofs/laws`. Proofs
-//! of crates above import other pages of `proofs`, by which these facts are proved. To change a fact, change
-//! its definition in `specs`, and then its proof.
+//! The functions are empty: their contracts are the facts, proved in `proofs/laws`. To change a fact, begin with its
+//! definition in `specs`.
 ghost use Rattle.std.specs.Prelude.{ℕ};
 ghost use Rattle.mw_world.specs.Claim.Examples.{ComeOut};
 ghost use Rattle.mw_world.specs.Claim.Headline.{EqualMarksHaveEqualReplies, EveryRunIsDurablyLinearizable};

@@ -1,17 +1,15 @@
-//! The world: a server with its tenants, workers and files, as one value that events change one at a time. All
-//! that may happen to a server is a list of events. So what holds of every list of events holds of the server.
-//! This crate defines the world, its events, and the claims about it. `mw_simulator` is a program that plays
-//! worlds.
+//! The world: a server with its tenants, workers and files, as one value that events change one at a time. All that
+//! may happen to a server is a list of events, so what holds of every list of events holds of the server.
+//! `mw_simulator` is a program that plays worlds.
 //!
-//! Read `specs/Definition` first. `State`, `Cells` and `Extent` define the state, and `Events` the events.
-//! `World` has what each event does, and whole runs. It uses `Turns` and `Changes` (a step on a shared word),
-//! `Calls` (a call on a file), `Restarts`, and `StepLabels` and `LabelEffects` (what a step means for the marks
-//! and the history).
+//! Read `specs/Definition` first. `State`, `Cells` and `Extent` define the state, `Events` the events, and `World`
+//! what each event does, and whole runs. It uses `Turns` and `Changes` (a step on a shared word), `Calls` (a call on
+//! a file), `Restarts`, and `StepLabels` and `LabelEffects` (what a step means for the marks and the history).
 //!
 //! Then read `specs/Claim`. `Headline` is what must hold of every run. `Invariant` and `Obligations` are the
 //! invariant. `BitExactness` is what running threads need of every run. `Examples` has runs that are computed.
 //!
-//! Used by: mw_law_runs and other crates above. The definitions are what the theorem is about (docs/THEOREM.md): a change of
+//! Used by: mw_law_runs, other crates above. The theorem is about these definitions (docs/THEOREM.md): a change of
 //! them is a change of what is proved.
 #![tactic(auto)]
 

@@ -1,5 +1,5 @@
 -- After a call on a file, the new book's disk is the old book's disk after the device calls of that call.
--- Used by: the proofs of SimulatedFile::prepare, seal, settle and cancel. It may change freely as long as this crate checks.
+-- Used by: SimulatedFile::prepare, seal, settle, cancel.
 use Rattle.std.proofs.Common.{◌≡◌, ℕ, ◌+◌, ◌==◌, ◌&&◌, min, nat_le, Bool, true, false, Some, Result, Ok, Err, is_ok, refl, sym, ap, subst, ◌∙◌, inl, inr, arith}
 use Rattle.std.proofs.lemmas.Bool.{cases_Bool, cond-false, and_parts, eqb-true}
 use Rattle.mw_look.specs.declared.steps.Call.{Call}

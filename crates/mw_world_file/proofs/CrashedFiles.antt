@@ -1,6 +1,5 @@
 -- A crash at any moment of a call leaves the words from before the call, or these with one complete change.
--- Used by: the proofs of SimulatedFile::prepare, seal, settle and cancel, mw_book, mw_simulator. Its statements may change with
--- mw_book and mw_simulator; its proofs may change freely.
+-- Used by: SimulatedFile::prepare, seal, settle, cancel, mw_book, mw_simulator.
 use Rattle.std.proofs.Common.{◌≡◌, ℕ, true, false, List, length, Some, Result, Ok, Err, refl, sym, ap, subst, ◌∙◌, inl, inr}
 use Rattle.mw_words.specs.declared.jobs.Entry.{Entry}
 use Rattle.arrayvec.specs.ArrayVec.{ArrayVec}

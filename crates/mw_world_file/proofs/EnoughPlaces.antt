@@ -1,5 +1,4 @@
--- A tenant's first file has at least as many record places as the tenant's quota.
--- Used by: the proof of SimulatedFile::new, mw_world. Its statements may change with mw_world; its proofs may change freely.
+-- A tenant's first file has at least as many record places as the tenant's quota. Used by: SimulatedFile::new, mw_world.
 use Rattle.std.specs.Prelude.{ℕ, ◌≤◌}
 use Rattle.std.proofs.Common.{arith}
 use Rattle.std.proofs.lemmas.Bool.Decides.{nat_tests}

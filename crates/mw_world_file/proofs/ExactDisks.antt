@@ -1,7 +1,7 @@
--- A call on a simulated file makes just its own device calls, so one book, call and outcome lead to one disk, and a stop leaves one
--- image.
--- Used by: the proofs of src/laws.rt, of SimulatedFile::prepare, seal, settle, cancel, stop, stop_preparing, stop_sealing and
--- stop_settling, mw_simulator. It may change freely as long as this crate and mw_simulator check.
+-- A call on a simulated file makes just its own device calls, so one book, call and outcome lead to one disk, and a stop
+-- leaves one image.
+-- Used by: src/laws.rt, SimulatedFile::prepare, seal, settle, cancel, stop_preparing, stop_sealing, stop_settling,
+-- mw_simulator.
 use Rattle.std.proofs.Common.{◌≡◌, ◌≤◌, ℕ, Bool, true, false, List, [], ◌∷◌, length, get_or, Option, Some, None, Result, Ok, Err, IsSome, is_ok, is_err, refl, sym, ap, subst, ◌∙◌, inl, inr, arith}
 use Rattle.std.proofs.lemmas.Bool.{cases_lt, false≢true}
 use Rattle.mw_words.specs.declared.jobs.Entry.{Entry}

@@ -1,6 +1,5 @@
 -- A simulated file's book keeps the record places of its file when one changes, and both find the same lowest empty one.
--- Used by: WorkedFiles, mw_book, mw_law_store, mw_rule, mw_table, mw_core. Its statements may change with mw_book,
--- mw_law_store, mw_rule, mw_table and mw_core; its proofs may change freely.
+-- Used by: mw_book, mw_law_store, mw_rule, mw_table, mw_core.
 use Rattle.std.proofs.Common.{◌≡◌, ◌≢◌, ℕ, suc, ◌+◌, ◌<◌, ◌≤◌, ◌||◌, min, nat_lt, Bool, true, false, List, [], ◌∷◌, length, Option, Some, None, slice_get, slice_set, get_or, if◌then◌else◌, refl, sym, ap, ◌∙◌, inl, inr, arith}
 use Rattle.std.specs.List.{list_any}
 use Rattle.std.proofs.lemmas.Bool.{cases_Bool, cases_eq, cond-true, cond-false, eq-eqb, ne_eqb, or_left, lt-ltb, le-ltb}

@@ -1,5 +1,5 @@
 -- A new file has all words 0. After its opening it has as many record places as a tenant's first file.
--- Used by: the proof of SimulatedFile::new. It may change freely as long as this crate checks.
+-- Used by: SimulatedFile::new.
 use Rattle.std.proofs.Common.{◌≡◌, ℕ, ◌≤◌, ◌*◌, min, replicate, subst, arith}
 use Rattle.std.proofs.lemmas.Bool.Decides.{nat_tests}
 use Rattle.mw_words.specs.declared.limits.TheConstants.{MAX_WORDS}

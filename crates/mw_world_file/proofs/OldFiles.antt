@@ -1,5 +1,5 @@
 -- An old file (made, but never opened) represents words 0 with the change of its open record put over them.
--- Used by: the proofs of SimulatedFile::unopened and old_bytes. It may change freely as long as this crate checks.
+-- Used by: SimulatedFile::unopened, old_bytes.
 use Rattle.std.proofs.Common.{◌≡◌, ℕ, zero, suc, ◌+◌, ◌-◌, ◌*◌, ◌&&◌, ◌<◌, ◌≤◌, true, false, nat_le, None, Some, Result, Ok, Err, IfOk, Vec, List, [], ◌∷◌, ◌++◌, length, replicate, get_or, refl, sym, ap, ◌∙◌, subst, inl, inr, arith, append_assoc}
 use Rattle.std.specs.declared.alloc.Global.{Global}
 use Rattle.std.specs.List.{flat_map}

@@ -1,5 +1,5 @@
 -- Two starts of one book after the same stop, with the same torn bytes, find the same words and take the same change.
--- Used by: the proof of the law restarts_have_one_end. It may change freely as long as this crate checks.
+-- Used by: restarts_have_one_end.
 use Rattle.std.proofs.Common.{◌≡◌, ℕ, Bool, List, Option, Some, None, Ok, Err, refl, sym, ap, ◌∙◌, inl, inr}
 use Rattle.std.proofs.lemmas.Bool.{false≢true}
 use Rattle.mw_record.specs.Damages.{file_words}

@@ -1,5 +1,5 @@
 -- The book of a file that was just opened represents that file: it has the file's words and record places.
--- Used by: OldFiles, ShutFiles, the proofs of open_book and words_of. It may change freely as long as this crate checks.
+-- Used by: open_book, words_of.
 use Rattle.std.proofs.Common.{◌≡◌, ℕ, zero, suc, ◌+◌, ◌≤◌, ◌==◌, min, true, false, if◌then◌else◌, List, [], ◌∷◌, ◌++◌, length, take, replicate, get_or, slice_get, Some, None, is_none, IsTrue, refl, sym, ap, subst, ◌∙◌, arith}
 use Rattle.std.proofs.lemmas.List.{length-take}
 use Rattle.mw_words.specs.declared.jobs.Entry.{Entry}

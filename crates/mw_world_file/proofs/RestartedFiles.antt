@@ -1,5 +1,5 @@
 -- A book (a simulated file) after a start represents the file opened from bytes that the start may find.
--- Used by: the proof of SimulatedFile::restart. It may change freely as long as this crate checks.
+-- Used by: SimulatedFile::restart.
 use Rattle.std.proofs.Common.{◌≡◌, ◌≤◌, ℕ, ◌∙◌, ◌||◌, Bool, true, false, List, [], ◌∷◌, length, Option, Some, None, Result, Ok, Err, IsErrAnd, refl, sym, ap, subst, inl, inr, arith}
 use Rattle.std.specs.Str.{bytes_eq}
 use Rattle.std.proofs.lemmas.Slice.Eq.{bytes_eq-Decides}

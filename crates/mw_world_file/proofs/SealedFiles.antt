@@ -1,6 +1,5 @@
 -- After a seal, settle or cancel of a slot's change, the book (a simulated file) represents the file after that call.
--- Used by: CrashedFiles, the proofs of SimulatedFile::seal, settle, cancel, stop_sealing and stop_settling. It may change
--- freely as long as this crate checks.
+-- Used by: SimulatedFile::seal, settle, cancel, stop_sealing, stop_settling.
 use Rattle.std.proofs.Common.{◌≡◌, ℕ, ◌<◌, ◌&&◌, Bool, true, false, List, [], length, None, Result, Ok, Err, is_err, is_ok, slice_set, get_or, nat_lt, nat_le, refl, sym, ap, subst, ◌∙◌, inl, inr, arith}
 use Rattle.std.specs.List.{list_all}
 use Rattle.std.proofs.lemmas.List.{length-map}

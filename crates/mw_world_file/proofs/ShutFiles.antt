@@ -1,5 +1,5 @@
 -- An opening of a simulated file ends with a book of the opened file, or with one that failed at the named device call.
--- Used by: the proof of SimulatedFile::open. It may change freely as long as this crate checks.
+-- Used by: SimulatedFile::open.
 use Rattle.std.proofs.Common.{◌≡◌, ℕ, zero, suc, ◌+◌, ◌<◌, ◌≤◌, ◌==◌, ◌&&◌, ◌||◌, ◌^◌, nat_le, nat_lt, min, Bool, true, false, if◌then◌else◌, List, [], ◌∷◌, length, take, replicate, Option, Some, None, is_none, Result, Ok, Err, IsSome, IsSomeAnd, MatchResult, refl, sym, ap, subst, ◌∙◌, inl, inr, arith}
 use Rattle.std.proofs.lemmas.Bool.{cases_lt, cond-true, cond-false, and_from, and_right, and_parts, eq-eqb, eqb-true, lt-ltb, le-leb, lt-leb}
 use Rattle.mw_disk.specs.Facts.{MayLeave, IsSynced, most_counted}

@@ -1,5 +1,5 @@
 -- A sound simulated file (it represents a file with its tenant's number of words) stays sound at every call and start.
--- Used by: mw_simulator. Its statements may change with mw_simulator; its proofs may change freely.
+-- Used by: mw_simulator.
 use Rattle.std.specs.Prelude.{ℕ, ◌≡◌, List, length, Bool, Option, Ok}
 use Rattle.std.proofs.Common.{refl, ◌∙◌}
 use Rattle.std.proofs.Math.Logic.{∥∥₁_map}

@@ -1,6 +1,5 @@
 -- What a stop leaves of a simulated file is what a start may find, as the definition of a world says.
--- Used by: the proofs of SimulatedFile::stop, stop_sealing, stop_settling and stop_preparing. It may change freely as long as
--- this crate checks.
+-- Used by: SimulatedFile::stop, stop_sealing, stop_settling, stop_preparing.
 use Rattle.std.proofs.Common.{◌≡◌, ℕ, ◌<◌, ◌≤◌, ◌+◌, ◌==◌, ◌&&◌, min, nat_le, not, Bool, true, false, List, [], ◌∷◌, length, Option, Some, None, Result, Ok, Err, is_err, refl, sym, ap, subst, ◌∙◌, inl, inr, arith}
 use Rattle.std.specs.Str.{bytes_eq}
 use Rattle.std.proofs.lemmas.Slice.Eq.{bytes_eq-Decides}

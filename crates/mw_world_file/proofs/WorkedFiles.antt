@@ -1,6 +1,5 @@
 -- After a call on a simulated file, the new book represents the file after the call.
--- Used by: SealedFiles, StoppedFiles, CalledDisks, CrashedFiles, ShutFiles, the proofs of SimulatedFile::prepare, cancel, seal,
--- settle, stop_preparing and other functions. It may change freely as long as this crate checks.
+-- Used by: SimulatedFile::prepare, cancel, seal, settle, stop_preparing, among others.
 use Rattle.std.proofs.Common.{◌≡◌, ℕ, ◌+◌, ◌<◌, ◌≤◌, Bool, true, false, List, [], ◌∷◌, length, Option, Some, None, Result, Ok, Err, slice_get, slice_set, get_or, nat_lt, min, is_some, IsErrAnd, refl, sym, ap, subst, ◌∙◌, inl, inr, arith}
 use Rattle.std.specs.List.{list_any}
 use Rattle.std.proofs.lemmas.Bool.{cases_Bool, cond-true, cond-false, ltb-true}

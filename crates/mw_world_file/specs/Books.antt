@@ -1,6 +1,6 @@
--- Defines which file a book represents. A book here is a SimulatedFile, the world's file in memory; the book that running
--- threads use is in mw_book. Used by nearly all contracts of this crate, and by those of mw_simulator. A new field of
--- SimulatedFile needs a part in HasParts; if the world knows of it, also in PartsRepresent.
+-- Defines which file a book (here a SimulatedFile, the world's file in memory) represents.
+-- Used by: nearly all contracts of this crate, mw_simulator, mw_table_tests. A new field of SimulatedFile needs a part in
+-- HasParts; if the world knows of it, also in PartsRepresent.
 use Rattle.std.specs.Prelude.{◌≡◌, ◌<◌, ℕ, Bool, List, length, slice_index}
 use Rattle.mw_words.specs.declared.limits.TheConstants.{MAX_POOL}
 use Rattle.mw_words.specs.declared.jobs.Entry.{Entry}

@@ -1,5 +1,5 @@
 -- Defines what a call does to a tenant's simulated file: to the file, to its book (what is kept beside it) and to its disk.
--- Used by: the contracts of src/calls.rt, mw_simulator. A change here changes what these contracts say.
+-- Used by: src/calls.rt, mw_simulator.
 use Rattle.std.specs.Prelude.{◌≡◌, ◌+◌, ℕ, Bool, true, if◌then◌else◌, List, length, slice_index, Option, Some, None, Result, Ok, Err}
 use Rattle.mw_disk.specs.Memory.{Memory as Disk, memory_facts, with_name}
 use Rattle.mw_disk.specs.Runs.{Later, Good as AllWell, Bad as OneFailed}

@@ -1,6 +1,5 @@
 -- Defines when a call on a tenant's file can be made, which device calls it makes, and the file after it.
--- Used by: the contracts of src/calls.rt, specs/CallEffects, specs/Crashes, specs/Recovery, specs/Restarts, many crates above
--- (mostly mw_law_store and mw_rule). A change here changes what these contracts say.
+-- Used by: src/calls.rt, many crates from mw_book on.
 use Rattle.std.specs.Prelude.{ℕ, ◌+◌, ◌&&◌, Bool, true, false, List, [], length, nat_le, nat_lt}
 use Rattle.mw_words.specs.declared.jobs.Entry.{Entry}
 use Rattle.mw_words.specs.Change.{is_change}

@@ -1,5 +1,5 @@
 -- Defines what a crash in the middle of a call leaves of a tenant's file.
--- Used by: the contracts of src/calls.rt, mw_book, mw_core, mw_simulator. A change here changes what these contracts say.
+-- Used by: src/calls.rt, mw_book, mw_core, mw_simulator, mw_law_threads.
 use Rattle.std.specs.Prelude.{ℕ, ◌≡◌, ◌⊎◌, List, Some, Result, Ok, Err}
 use Rattle.mw_words.specs.declared.jobs.Entry.{Entry}
 use Rattle.mw_words.specs.Change.{put}

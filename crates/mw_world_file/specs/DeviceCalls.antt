@@ -1,6 +1,5 @@
 -- Defines the device calls of a call on a simulated file, and the one disk that they lead to.
--- Used by: Recovery, the contracts of src/calls.rt and src/laws.rt. By the laws of src/laws.rt a book and a call
--- determine the new disk, and a book and a stop the image that a start finds. A new call on a file needs its list here.
+-- Used by: src/calls.rt, src/laws.rt, mw_simulator. A new call on a file needs its list here.
 use Rattle.std.specs.Prelude.{◌≤◌, ℕ, Bool, true, false, List, [], length, slice_index, Option, Some, None, Result, Ok, Err}
 use Rattle.mw_words.specs.declared.jobs.Entry.{Entry}
 use Rattle.mw_look.specs.declared.steps.Call.{Call}

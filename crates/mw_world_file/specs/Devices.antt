@@ -1,6 +1,5 @@
 -- Defines a tenant's file on a disk in memory, open or shut, and its record places as a book keeps them.
--- Used by: the contracts of src/book.rt, src/calls.rt, src/opened.rt and other code of this crate, many specs of this crate,
--- mw_book, mw_simulator. A change here changes what these contracts say.
+-- Used by: src/book.rt, src/calls.rt, src/opened.rt, other code of this crate, mw_book, mw_simulator.
 use Rattle.std.specs.Prelude.{◌≡◌, ℕ, Bool, true, false, not, List, [], Option, Some, None, slice_get}
 use Rattle.mw_disk.specs.Facts.{MayLeave}
 use Rattle.mw_disk.specs.Memory.{Memory, memory_facts}

@@ -1,6 +1,5 @@
 -- Defines a tenant's file as a world has it: the words that it represents, and its places for changes.
--- Used by: the contracts of src/changes.rt, src/new_books.rt, src/opened.rt and other code of this crate, many specs of this
--- crate, many crates above (mostly mw_law_store and mw_book). A change here changes what these contracts say.
+-- Used by: src/changes.rt, src/new_books.rt, src/opened.rt, other code of this crate, many crates from mw_book on.
 use Rattle.std.specs.Prelude.{ℕ, zero, suc, ◌+◌, ◌==◌, ◌&&◌, Bool, true, false, not, if◌then◌else◌, List, []}
 use Rattle.std.specs.List.{list_any}
 use Rattle.mw_words.specs.declared.jobs.Entry.{Entry}

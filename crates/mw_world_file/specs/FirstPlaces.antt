@@ -1,6 +1,5 @@
 -- Defines how many record places a tenant's first file has.
--- Used by: the contracts of src/new_books.rt and src/unopened.rt, mw_world, mw_simulator. A change here changes what these
--- contracts say.
+-- Used by: src/new_books.rt, src/unopened.rt, mw_world, mw_simulator.
 use Rattle.std.specs.Prelude.{ℕ, ◌*◌, if◌then◌else◌, nat_le}
 use Rattle.mw_record.specs.declared.layout.TheConstants.{PLACES_GROW}
 use Rattle.mw_words.specs.declared.limits.TheConstants.{MAX_PLACES}

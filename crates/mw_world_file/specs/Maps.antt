@@ -1,6 +1,4 @@
--- Defines maps from numbers, as functions, and how to change them at one place.
--- Used by: specs/Files, many crates above (mostly mw_law_store and mw_law_runs). Contracts use it through these: a change here
--- changes what they say.
+-- Defines maps from numbers, as functions, and how to change them at one place. Used by: many crates from mw_book on.
 use Rattle.std.specs.Prelude.{ℕ, ◌==◌, if◌then◌else◌}
 
 -- the map that gives x at i, and elsewhere what it gave

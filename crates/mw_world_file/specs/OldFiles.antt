@@ -1,5 +1,5 @@
 -- Defines the bytes of an old file: one of the first layout (format version 1) that no start of a server has opened yet.
--- Used by: the contracts of src/unopened.rt. A change here changes what these contracts say.
+-- Used by: src/unopened.rt.
 use Rattle.std.specs.Prelude.{ℕ, ◌-◌, ◌*◌, List, ◌∷◌, ◌++◌, replicate, take}
 use Rattle.mw_words.specs.declared.jobs.Entry.{Entry}
 use Rattle.mw_record.specs.declared.layout.Layout.TheVariants.{First}

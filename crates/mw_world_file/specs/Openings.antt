@@ -1,6 +1,4 @@
--- Defines how an opening makes a tenant's new disk from the bytes that a start found.
--- Used by: specs/Recovery, specs/StoppedFiles, mw_simulator. Contracts use it through these: a change here changes what they
--- say.
+-- Defines how an opening makes a tenant's new disk from the bytes that a start found. Used by: mw_simulator.
 use Rattle.std.specs.Prelude.{ℕ, ◌≡◌, ◌+◌, List, Option, Some, None}
 use Rattle.mw_disk.specs.Facts.{IsSynced}
 use Rattle.mw_disk.specs.Memory.{Memory as Disk, memory_facts}

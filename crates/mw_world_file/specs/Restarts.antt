@@ -1,6 +1,5 @@
 -- Defines what a start may find of a tenant's file: which words, and whether the change in doubt is among them.
--- Used by: the contracts of src/restarts.rt, specs/Recovery, specs/StoppedFiles, mw_world, mw_law_runs, mw_law_store, mw_rule,
--- mw_table, mw_simulator. A change here changes what these contracts say.
+-- Used by: src/restarts.rt, mw_world, mw_law_store, mw_rule, mw_law_threads.
 use Rattle.std.specs.Prelude.{ℕ, ◌==◌, ◌&&◌, ◌||◌, Bool, true, false, if◌then◌else◌, List, [], ◌∷◌, nat_le, bytes_eq, Option, Some, None}
 use Rattle.mw_words.specs.declared.jobs.Entry.{Entry}
 use Rattle.mw_words.specs.Change.{put}

@@ -1,6 +1,6 @@
 -- Defines a sound simulated file: one that represents a file with its tenant's number of words. The simulator's files are
 -- always sound.
--- Used by: mw_world_memory, mw_simulator. A change here changes what contracts there say.
+-- Used by: mw_world_memory, mw_simulator.
 use Rattle.std.specs.Prelude.{ℕ, ◌≡◌, length, slice_index}
 use Rattle.mw_world_file.specs.declared.book.SimulatedFile.{SimulatedFile}
 use Rattle.mw_world_file.specs.Books.{Represents}

@@ -1,5 +1,5 @@
 -- Defines what a simulated file gives at a start: its words, or nothing if it has failed.
--- Used by: the contracts of src/start_values.rt, mw_simulator. A change here changes what these contracts say.
+-- Used by: src/start_values.rt, mw_simulator.
 use Rattle.std.specs.Prelude.{ℕ, ◌≡◌, true, false, Vec, MatchOption}
 use Rattle.std.specs.declared.option.Option.{Option}
 use Rattle.std.specs.declared.alloc.Global.{Global}

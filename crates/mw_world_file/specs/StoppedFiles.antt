@@ -1,5 +1,4 @@
--- Defines what a stop leaves of a tenant's file, and how an opening ends on it.
--- Used by: the contracts of src/opening.rt and src/stops.rt. A change here changes what these contracts say.
+-- Defines what a stop leaves of a tenant's file, and how an opening ends on it. Used by: src/opening.rt, src/stops.rt.
 use Rattle.std.specs.Prelude.{◌≡◌, ℕ, false, true, List, [], ◌∷◌, Option, Some, None, Result, Ok, Err}
 use Rattle.mw_record.specs.Damages.{places_of}
 use Rattle.mw_file.specs.OpeningEnds.{open_calls}

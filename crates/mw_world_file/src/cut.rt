@@ -1,7 +1,7 @@
 //! A call on a simulated file that was interrupted, and what the stop leaves of the file.
 //!
-//! mw_simulator makes a [`Cut`] of a call that was under way. `restarts` gives it to `stops`, which returns what is
-//! left (`Left`). `specs/StoppedFiles` and `specs/Recovery` say what is left: change them with a field.
+//! Used by: mw_simulator, which makes a [`Cut`]; `restarts`, `stops`. `specs/StoppedFiles` and `specs/Recovery` say
+//! what is left: change them with a field.
 
 use mw_look::Call;
 use mw_words::Entries;

@@ -1,8 +1,7 @@
-//! Laws of a simulated file, unless memory is out: a book and a call determine the new disk, and a book and a stop which
-//! words a start finds, and whether it takes the change in doubt. Each is the contract of an empty function.
+//! Laws of a simulated file (contracts of empty functions), unless memory is out. A book and a call determine the new
+//! disk. A book and a stop determine which words a start finds, and whether it takes the change in doubt.
 //!
-//! Nothing that runs calls them. They don't determine the disk after a start: of an opening the contracts only count its
-//! device calls.
+//! They don't determine the disk after a start: of an opening the contracts only count its device calls.
 ghost use Rattle.std.specs.Prelude.{◌≡◌, ℕ, Bool, List, Option, Ok, Err};
 ghost use Rattle.mw_disk.specs.DeviceCalls.{DeviceCall};
 ghost use Rattle.mw_disk.specs.Memory.{Memory as Disk};

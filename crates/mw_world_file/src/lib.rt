@@ -1,13 +1,11 @@
 //! A tenant's file in memory, for the simulator: on a disk in memory, with the words that it represents, its places
-//! and the change in doubt beside it. A book here is such a file with what is kept beside it, a [`SimulatedFile`].
+//! and the change in doubt beside it: a *book* here, a [`SimulatedFile`].
 //!
-//! A call on a book makes a new book of the file after the call, and leaves the old book unchanged. The caller
-//! says which device call fails, if one does. `restart` makes the book after all stopped, also in the middle of
-//! a call, and started again.
+//! A call on a book makes a new book and leaves the old one. The caller says which device call fails, if one does.
+//! `restart` makes the book after all stopped, also in the middle of a call, and started again.
 //!
-//! The code is for mw_simulator. `specs/Files`, `specs/Calls` and `specs/Restarts` define a tenant's file in a world,
-//! whatever disk it is on. mw_book, mw_world, the laws and the shared words use these definitions: a change of them
-//! is a change of what is proved.
+//! `specs/Files`, `specs/Calls` and `specs/Restarts` define a tenant's file in a world, whatever disk it is on.
+//! mw_book, mw_world, the laws and the shared words use them: a change of them is a change of what is proved.
 #![tactic(auto)]
 
 mod book;

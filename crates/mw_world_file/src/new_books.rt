@@ -1,7 +1,7 @@
 //! Makes a simulated file that is new: all its words are 0.
 //!
-//! mw_simulator makes such a book for each tenant of a new world, except for one that has an old file. Its
-//! contracts use `specs/Books`, `specs/Files` and `specs/FirstPlaces`: change them together.
+//! mw_simulator makes such a book for each tenant of a new world, except for one that has an old file. Change it with
+//! `specs/Books`, `specs/Files` and `specs/FirstPlaces`.
 ghost use Rattle.std.specs.Prelude.{◌≡◌, ◌≤◌, length, replicate, IfOk};
 ghost use Rattle.mw_words.specs.declared.limits.TheConstants.{MAX_QUOTA, MAX_WORDS};
 ghost use Rattle.mw_record.specs.declared.layout.TheConstants.{FIRST_PLACES};

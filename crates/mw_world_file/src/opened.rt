@@ -1,8 +1,7 @@
 //! Makes the book (what is kept beside a simulated file) of a file that was just opened.
 //!
-//! Used by: `opening`, when an opening went well; `unopened`, which takes only `empty_places`. A new field of a
-//! book needs its value here and wherever a book is made: in `opening`, `unopened` and `calls`. Its contracts use
-//! `specs/Books`, `specs/Devices` and `specs/Files`: change them together.
+//! Used by: `opening`; `unopened`, which takes only `empty_places`. A new field of a book needs its value in
+//! `opened`, `opening`, `unopened` and `calls`. Change it with `specs/Books`, `specs/Devices` and `specs/Files`.
 ghost use Rattle.std.specs.Prelude.{◌≡◌, ◌≤◌, [], false, length, replicate, IfOk, IsTrue};
 ghost use Rattle.mw_disk.specs.Memory.{memory_facts};
 ghost use Rattle.mw_file.specs.File.{disk_of, has_failed, states_of};

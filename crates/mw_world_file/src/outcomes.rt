@@ -1,7 +1,7 @@
 //! How the device takes a call on a file: no device call fails, or the one with this number.
 //!
-//! mw_world passes it on as a part of an event, and `calls` does what it says. A new kind needs a case there,
-//! and in the definition of a call: `specs/CallEffects`, and `specs/Definition/Calls` of mw_world.
+//! Used by: mw_world, as a part of an event; `calls`. A new kind needs a case there, in `specs/CallEffects`, and in
+//! `specs/Definition/Calls` of mw_world.
 
 /// How the device takes a call on a file.
 #[derive(Clone, Copy, Debug, PartialEq, Eq)]

@@ -1,7 +1,6 @@
 //! The record places of a simulated file, and the change in each.
 //!
-//! Used by: `book`, `calls`, `opened`, `opening`, `stops`. Its contracts use `specs/Devices` and `specs/Files`:
-//! change them together.
+//! Used by: `book`, `calls`, `opened`, `opening`, `stops`. Change it with `specs/Devices` and `specs/Files`.
 ghost use Rattle.std.specs.Prelude.{◌≡◌, IfOk};
 ghost use Rattle.std.specs.List.{list_any};
 ghost use Rattle.mw_world_file.specs.Devices.{told};

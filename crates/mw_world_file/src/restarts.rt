@@ -1,7 +1,7 @@
 //! Stops a simulated file, also in the middle of a call, and opens it again.
 //!
-//! mw_simulator calls `SimulatedFile::restart` for each tenant when all starts again. Its contracts use
-//! `specs/Restarts`, `specs/Books` and `specs/Recovery`: change them together.
+//! mw_simulator calls `SimulatedFile::restart` for each tenant when all starts again. Change it with
+//! `specs/Restarts`, `specs/Books` and `specs/Recovery`.
 ghost use Rattle.std.specs.Prelude.{◌≡◌, ◌≤◌, length, IfOk};
 ghost use Rattle.mw_world_file.specs.Restarts.{takes};
 

@@ -1,7 +1,7 @@
 //! Tells how many words and places a simulated file has, whether it failed, and what it gives the shared words at a
 //! start.
 //!
-//! Used by: mw_simulator, mw_table_tests. Its contracts use `specs/Books` and `specs/StartValues`: change them together.
+//! Used by: mw_simulator, mw_table_tests. Change it with `specs/Books` and `specs/StartValues`.
 ghost use Rattle.std.specs.Prelude.{◌≡◌, length, IfOk};
 ghost use Rattle.mw_world_file.specs.Books.{places_of_file};
 ghost use Rattle.mw_world_file.specs.StartValues.{IsGiven};

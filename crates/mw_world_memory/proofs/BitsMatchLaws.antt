@@ -1,6 +1,5 @@
 -- If bits match the shared words of a world, they still match after the same write of both at one place.
--- Used by: MadeSteps, the proofs of Cells::put and put_word, mw_simulator. Its statements may change with mw_simulator; its
--- proofs may change freely.
+-- Used by: Cells::put, put_word, mw_simulator.
 use Rattle.std.specs.Prelude.{ℕ, zero, suc, ◌≡◌, ◌≢◌, ◌+◌, ◌*◌, ◌<◌, ◌⊎◌, Bool, true, false, cond, nat_lt, List, [], ◌∷◌, length, map, is_some, slice_get, slice_set, slice_index_or, IfSome, Some, None}
 use Rattle.std.specs.declared.option.Option.{Option}
 use Rattle.std.proofs.Common.{refl, sym, ap, subst, ◌∙◌, inl, inr, arith}

@@ -1,5 +1,5 @@
 -- At a start, the bits have exactly the places of the configuration, and match the shared words of the world.
--- Used by: the proof of Cells::new, mw_simulator. Its statements may change with mw_simulator; its proofs may change freely.
+-- Used by: Cells::new, mw_simulator.
 use Rattle.std.specs.Prelude.{ℕ, zero, suc, ◌≡◌, ◌+◌, ◌*◌, ◌<◌, ◌≤◌, ◌&&◌, Bool, true, false, not, cond, if◌then◌else◌, nat_lt, List, [], ◌∷◌, length, map, replicate, is_some, slice_get, slice_index, slice_index_or, IfSome, MatchOption, Some, None, Vec}
 use Rattle.std.specs.declared.option.Option.{Option}
 use Rattle.std.specs.declared.alloc.Global.{Global}

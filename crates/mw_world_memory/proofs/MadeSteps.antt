@@ -1,6 +1,5 @@
 -- A step on the bits does what the definition of a world says of the step on the shared words.
--- Used by: the proofs of Cells::make and Cells::status, mw_simulator. Its statements may change with mw_simulator; its proofs
--- may change freely.
+-- Used by: Cells::make, Cells::status, mw_simulator.
 use Rattle.std.specs.Prelude.{ℕ, ◌≡◌, ◌-◌, ◌==◌, Bool, true, false, cond, is_some, Some, None, IfSome}
 use Rattle.std.specs.declared.option.Option.{Option}
 use Rattle.std.specs.Option.{option_and_then, option_map_or}

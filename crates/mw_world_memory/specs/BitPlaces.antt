@@ -1,5 +1,4 @@
--- Defines which shared words a world in memory has bits for.
--- Used by: the contracts of src/cells/start.rt, mw_simulator. A change here changes what these contracts say.
+-- Defines which shared words a world in memory has bits for. Used by: src/cells/start.rt, mw_simulator.
 use Rattle.std.specs.Prelude.{◌≡◌}
 use Rattle.mw_words.specs.declared.places.At.{At}
 use Rattle.mw_world.specs.declared.config.Config.{Config}

@@ -1,6 +1,5 @@
 -- Defines the bits of a world's shared words, as lists of numbers, and how to read one at a place.
--- Used by: the contracts of src/cells.rt and src/cells/steps.rt, specs/BitPlaces, specs/BitsMatch, specs/StepsInBits,
--- mw_simulator. A change here changes what these contracts say.
+-- Used by: src/cells.rt, src/cells/steps.rt, mw_simulator.
 use Rattle.std.specs.Prelude.{ℕ, ◌≡◌, ◌+◌, ◌*◌, Bool, cond, nat_lt, List, [], None, is_some, slice_get, slice_set, slice_index_or}
 use Rattle.std.specs.declared.option.Option.{Option}
 use Rattle.mw_words.specs.declared.limits.TheConstants.{MAX_ENTRIES}

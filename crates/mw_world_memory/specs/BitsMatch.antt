@@ -1,6 +1,4 @@
--- Defines when the bits of a world in memory match its shared words.
--- Used by: the contracts of src/cells.rt and src/cells/start.rt, specs/StepsInBits, mw_simulator. A change here changes what
--- these contracts say.
+-- Defines when the bits of a world in memory match its shared words. Used by: src/cells.rt, src/cells/start.rt, mw_simulator.
 use Rattle.std.specs.Prelude.{◌≡◌, IfSome}
 use Rattle.mw_words.specs.declared.places.At.{At}
 use Rattle.mw_look.specs.Places.{pack}

@@ -1,7 +1,6 @@
--- Defines what a claim log keeps of a world's history: for which request each slot (a change's descriptor) was claimed, and
--- for which changes the reply FAULT was decided.
--- Used by: the contracts of src/claims.rt, src/lines.rt and src/workers.rt, mw_simulator. A change here changes what these
--- contracts say.
+-- Defines what a claim log keeps of a world's history: for which request each slot was claimed, and for which changes the
+-- reply FAULT was decided.
+-- Used by: src/claims.rt, src/lines.rt, src/workers.rt, mw_simulator.
 use Rattle.std.specs.Prelude.{ℕ, ◌+◌, ◌≡◌, ◌≤◌, ◌==◌, ◌&&◌, Bool, List, reverse, Option, vec_len, vec_capacity}
 use Rattle.std.specs.List.{find, list_any}
 use Rattle.std.specs.Option.{option_map_or}

@@ -1,5 +1,4 @@
--- Defines that the marks of a tenant in memory have room for more.
--- Used by: the contracts of src/lines.rt, mw_simulator. A change here changes what these contracts say.
+-- Defines that the marks of a tenant in memory have room for more. Used by: src/lines.rt, mw_simulator.
 use Rattle.std.specs.Prelude.{ℕ, ◌+◌, ◌≡◌, ◌≤◌, Bool, false, nat_le, vec_len, vec_capacity}
 use Rattle.mw_world_memory.specs.declared.lines.Lines.{Lines}
 

@@ -1,5 +1,4 @@
--- Defines what the tenants' files gave at a start, as a world in memory keeps it.
--- Used by: the contracts of src/cells/start.rt, mw_simulator. A change here changes what these contracts say.
+-- Defines what the tenants' files gave at a start, as a world in memory keeps it. Used by: src/cells/start.rt, mw_simulator.
 use Rattle.std.specs.Prelude.{ℕ, ◌≡◌, ◌<◌, Bool, true, false, List, [], Vec, length, slice_index_or, MatchOption, IfSome, Some, None}
 use Rattle.std.specs.declared.option.Option.{Option}
 use Rattle.std.specs.declared.alloc.Global.{Global}

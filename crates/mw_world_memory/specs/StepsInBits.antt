@@ -1,5 +1,5 @@
 -- Defines a step on the bits of shared words, and states that it does what the step does to the shared words.
--- Used by: the contracts of src/cells/steps.rt, mw_simulator. A change here changes what these contracts say.
+-- Used by: src/cells/steps.rt, mw_simulator.
 use Rattle.std.specs.Prelude.{ℕ, ◌≡◌, ◌-◌, ◌==◌, Bool, true, false, cond, Some, None}
 use Rattle.std.specs.declared.option.Option.{Option}
 use Rattle.std.specs.Option.{option_map_or}

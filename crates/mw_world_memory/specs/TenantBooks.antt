@@ -1,6 +1,6 @@
--- States what always holds of the books (simulated files) of a world's tenants in memory. Each book represents a file of the
--- model, and that has as many words as its tenant.
--- Used by: mw_simulator. A change here changes what contracts there say.
+-- States what always holds of the books of a world's tenants in memory: each represents a file of the model that has as many
+-- words as its tenant.
+-- Used by: mw_simulator.
 use Rattle.std.specs.Prelude.{ℕ, ◌≡◌, List, slice_get, Some}
 use Rattle.mw_world_file.specs.SoundBooks.{HasSound}
 use Rattle.mw_world.specs.declared.config.Config.{Config}

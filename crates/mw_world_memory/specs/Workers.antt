@@ -1,6 +1,5 @@
 -- Defines which worker state of the definition a worker in memory represents.
--- Used by: the contracts of src/lines.rt and src/workers.rt, mw_simulator, mw_table_tests. A change here changes what these
--- contracts say.
+-- Used by: src/lines.rt, src/workers.rt, mw_simulator.
 use Rattle.mw_world.specs.Definition.State.{WorkerState}
 use Rattle.mw_world_memory.specs.declared.workers.WorkerState.{WorkerState as KeptWorkerState}
 

@@ -1,7 +1,7 @@
 //! Keeps the shared words of a world in memory, as 64 bits each.
 //!
-//! A world of mw_simulator has them. `cells/start` makes them, `cells/steps` makes steps on them. Its contracts use
-//! `specs/Bits` and `specs/BitsMatch`: change them together.
+//! A world of mw_simulator has them. `cells/start` makes them, `cells/steps` makes steps on them. Change it with
+//! `specs/Bits` and `specs/BitsMatch`.
 ghost use Rattle.std.specs.Prelude.{◌≡◌, cond, false, map, is_some, slice_get, slice_set, Some, None};
 ghost use Rattle.std.specs.Option.{option_and_then};
 ghost use Rattle.mw_words.specs.declared.places.At.TheVariants.{Status as StatusOf};

@@ -1,8 +1,7 @@
 //! Keeps the request that each slot was claimed for.
 //!
-//! A world of mw_simulator has one [`ClaimLog`], and gives it each step's label. `lines` and `workers` ask it
-//! for the request of a change. `specs/Claims` says what the log keeps of a history (`Recalls`): change it
-//! with a field here.
+//! A world of mw_simulator has one [`ClaimLog`]; `lines` and `workers` ask it. `specs/Claims` says what the log keeps
+//! of a history (`Recalls`): change it with a field here.
 ghost use Rattle.std.specs.Prelude.{◌≡◌, ℕ, OnOk};
 ghost use Rattle.mw_actor.specs.ActorState.{ActorState};
 ghost use Rattle.mw_world.specs.Definition.History.{History, no_history};

@@ -1,11 +1,10 @@
 //! The parts of a world in memory: the shared words in bits, each slot's request, the tenants' marks, the workers,
-//! and the tenants' files. The calls here make one such change each: a step on the shared words, one more mark, or
-//! a label taken in. `mw_simulator` says which event makes which of these changes.
+//! and the tenants' files. The calls here each make one change of these; `mw_simulator` says which event makes which.
 //!
-//! What to read first. `specs/Bits` and `specs/BitsMatch` say which shared words a list of bits represents.
-//! `specs/StepsInBits` says what a step does to them, and `specs/BitPlaces` and `specs/Openings` which words
-//! there are and what they are at a start. `specs/Claims`, `specs/Lines` and `specs/Workers` say what is kept
-//! beside them, and `specs/TenantBooks` what holds of the tenants' files.
+//! Read `specs/Bits` and `specs/BitsMatch` (which shared words a list of bits represents) and `specs/StepsInBits`
+//! (what a step does to them) first. `specs/BitPlaces` and `specs/Openings` say which words there are, and what they
+//! are at a start. `specs/Claims`, `specs/Lines` and `specs/Workers` say what is kept beside them,
+//! `specs/TenantBooks` what holds of the tenants' files.
 #![tactic(auto)]
 
 mod cells;

@@ -1,7 +1,7 @@
 //! Keeps the marks of a tenant, and the places that are reserved among them.
 //!
-//! Each tenant in memory has such lines (`tenants`), and mw_simulator adds the marks of events to them. Its
-//! contracts use `specs/Claims`, `specs/Lines` and `specs/Workers`: change them together.
+//! Each tenant in memory has such lines (`tenants`), and mw_simulator adds the marks of events to them. Change it
+//! with `specs/Claims`, `specs/Lines` and `specs/Workers`.
 ghost use Rattle.std.specs.Prelude.{◌≡◌, [], ◌∷◌, ◌++◌, Option, Some, IfOk, OnOk, length, slice_set};
 ghost use Rattle.mw_world.specs.Definition.History.{History};
 ghost use Rattle.mw_world.specs.Definition.LabelEffects.{late_unless, marked, more, more_unless};

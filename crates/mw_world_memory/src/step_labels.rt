@@ -1,8 +1,7 @@
-//! Computes the label of a request's step: what the step means for its tenant's marks. It is the label of the
-//! definition.
+//! Computes the label of a request's step: what the step means for its tenant's marks.
 //!
-//! mw_simulator asks for the label of each step (`src/world/turns.rt`). A new label also belongs in `claims`,
-//! `lines` and `workers`, if it changes what they keep.
+//! Used by: mw_simulator, for each step. A new label also belongs in `claims`, `lines` and `workers`, if it changes
+//! what they keep.
 ghost use Rattle.std.specs.Prelude.{◌≡◌};
 ghost use Rattle.mw_world.specs.Definition.StepLabels.{answer_label, door_label, exchange_label, give_up_label, inspect_label, label_of, read_door_label, read_label, read_point, read_status_label, read_word_label, recheck_label, release_label, resolve_label, won_label};
 

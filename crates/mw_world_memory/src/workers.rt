@@ -1,6 +1,6 @@
 //! The workers of a world in memory, each with its request.
 //!
-//! Used by: `lines`, mw_simulator. Its contracts use `specs/Claims` and `specs/Workers`: change them together.
+//! Used by: `lines`, mw_simulator. Change it with `specs/Claims` and `specs/Workers`.
 ghost use Rattle.std.specs.Prelude.{◌≡◌, List, Option, length};
 ghost use Rattle.mw_lone.specs.declared.marks.Mark.{Mark};
 ghost use Rattle.mw_world.specs.Definition.History.{History};

@@ -1,6 +1,4 @@
 //! Checks what a test found. Used by: the tests of this crate.
-//!
-//! It may change freely as long as this crate checks and its tests pass.
 
 use crate::fault::Fault;
 use std::process::Abort;

@@ -1,7 +1,6 @@
 //! Makes random choices.
 //!
-//! Used by: `jobs`, `run`, `tests`, `larger/tests`. It may change freely as long as this crate checks and its tests
-//! pass.
+//! Used by: `jobs`, `run`, `tests`, `larger/tests`.
 ghost use Rattle.std.specs.Prelude.{◌<◌, ◌≤◌};
 
 use rand_core::{Rng, SeedableRng};

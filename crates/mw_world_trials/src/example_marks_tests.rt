@@ -1,7 +1,5 @@
 //! Gives the marks of the example runs, which `ComeOut` states, one by one to the store alone, which hands
 //! out the same replies.
-//!
-//! Nothing else uses it: it may change with what it tests.
 
 use crate::checks::{MEMORY, holds};
 use mw_line::{Request, read_line};

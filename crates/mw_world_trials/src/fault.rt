@@ -1,7 +1,6 @@
 //! Says why a random run, or a schedule that is written out, failed.
 //!
-//! Used by: `judge`, `run`, `stale_helper_tests`, `tests`, `larger/tests`. It may change freely as long as this crate
-//! checks and its tests pass.
+//! Used by: `judge`, `run`, `stale_helper_tests`, `tests`, `larger/tests`.
 
 use mw_lone::LoneFault;
 use mw_simulator::WorldFault;

@@ -1,8 +1,7 @@
-//! Makes random jobs (reads and changes), random stops (each with the next opening), and random worlds (models of a
-//! whole server). The trials, which are random runs, are made of them.
+//! Makes random jobs (reads and changes), random stops (each with the next opening), and random worlds, of which the
+//! trials are made.
 //!
-//! Used by: `run`, `tests`, `larger/tests`. A new kind of job needs its case here. Else it may change freely as long as this
-//! crate checks and its tests pass.
+//! Used by: `run`, `tests`, `larger/tests`. A new kind of job needs its case here.
 ghost use Rattle.std.specs.Prelude.{◌≡◌, ◌≤◌, None, IsTrue};
 ghost use Rattle.mw_world.specs.Definition.State.{IsConfig, may_be_old};
 

@@ -1,7 +1,7 @@
 //! Gives a tenant's marks to a store alone (the reference model), and compares its replies and words with the
 //! world's.
 //!
-//! Used by: `run`. It may change freely as long as this crate checks and its tests pass.
+//! Used by: `run`.
 ghost use Rattle.std.specs.Prelude.{◌<◌, length};
 
 use crate::fault::Fault;

@@ -1,8 +1,5 @@
-//! Plays random runs of larger worlds, in which workers take turns in any order, device calls fail, and all stops
-//! and starts again. After every event, all that must hold of a world is checked, as far as the readers of a world
-//! show it.
-//!
-//! This file only lists its modules.
+//! Plays random runs of larger worlds. After every event, all that must hold of a world is checked, as far as the
+//! readers of a world show it. This file only lists its modules.
 
 mod clauses;
 pub(crate) mod past;

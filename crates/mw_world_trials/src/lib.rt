@@ -1,10 +1,9 @@
 //! Tests random runs of worlds, and which schedules a player takes.
 //!
-//! In a trial of a small world workers take turns in any order, device calls fail, and all stops and starts
-//! again, also with other quotas. Then each tenant's marks are given to a new store alone with its words.
-//! The store must take each mark, hand out the replies that the world handed out, and have the words that
-//! the world has after each start. Some tenants begin with an old file. Quotas that don't fit must be
-//! refused.
+//! In a trial of a small world workers take turns in any order, device calls fail, and all stops and starts again,
+//! also with other quotas, or from an old file. Then each tenant's marks are given to a new store alone with its
+//! words. The store must take each mark, hand out the replies that the world handed out, and have the words that the
+//! world has after each start. Quotas that don't fit must be refused.
 //!
 //! Larger worlds are played too. After every event, all that must hold of a world is checked.
 #![tactic(auto)]

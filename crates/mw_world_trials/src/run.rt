@@ -1,7 +1,7 @@
 //! Plays random events on a world. After each start a run of a small world is compared with stores alone; of a larger
 //! world all is seen after each event.
 //!
-//! Used by: `tests`, `larger/tests`. It may change freely as long as this crate checks and its tests pass.
+//! Used by: `tests`, `larger/tests`.
 ghost use Rattle.std.specs.Prelude.{◌≡◌, ◌<◌, ◌≤◌, length};
 ghost use Rattle.mw_world.specs.Definition.State.{IsConfig};
 

@@ -1,6 +1,4 @@
 //! Tests which texts are schedules, and what they say.
-//!
-//! Nothing else uses it: it may change with what it tests.
 use crate::checks::{MEMORY, holds};
 use mw_look::{Call, Kind};
 use mw_schedule::*;

@@ -1,7 +1,5 @@
 //! Tests a stale helper: it plants its attempt after another change has come and gone. The events of that
 //! schedule are given to a world, and the tenant's marks to a new store alone.
-//!
-//! Nothing else uses it: it may change with what it tests.
 ghost use Rattle.std.specs.Prelude.{◌≡◌, ◌<◌, length};
 ghost use Rattle.mw_world.specs.Definition.State.{IsConfig};
 

@@ -1,6 +1,4 @@
 //! Plays twenty thousand trials (random runs of small worlds), and some that are longer.
-//!
-//! Nothing else uses it: it may change with what it tests.
 
 use crate::checks::{fail, holds};
 use crate::dice::Dice;

@@ -1,6 +1,6 @@
--- Defines when the words are right after a load test of a server: each is its old value plus the number of changes of it
--- that were made.
--- Used by: the contracts of src/sums.rt. It may change with src/sums.rt.
+-- Defines when the words are right after a load test of a server: each is its old value plus the number of changes of it that
+-- were made.
+-- Used by: src/sums.rt. It may change with src/sums.rt.
 use Rattle.std.specs.Prelude.{◌≡◌, ℕ, ◌+◌, ◌-◌, ◌^◌, ◌<◌, ◌&&◌, min, List, [], ◌∷◌, length, nat_le, nat_lt, slice_index, if◌then◌else◌}
 use Rattle.mwbench.specs.declared.crowd.Done.{Done}
 

@@ -1,6 +1,6 @@
 //! One client of a load: it sends lines, reads the replies to them, and counts what they say.
 //!
-//! Used by: `crowd`, which runs each in a thread; `run`. It has no contracts, and may change freely.
+//! Used by: `crowd`, which runs each in a thread; `run`. It has no contracts.
 use crate::command_line::MAX_PIPELINE;
 use crate::replies::Replies;
 use arrayvec::ArrayVec;

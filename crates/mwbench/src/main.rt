@@ -1,8 +1,8 @@
-//! `mwbench --connect ADDR --tenant NAME --clients N --words K --seconds S` loads a server and measures how
-//! long its replies take. It checks whether the words are right afterwards.
+//! `mwbench --connect ADDR --tenant NAME --clients N --words K --seconds S` loads a server and measures how long its
+//! replies take.
 //!
 //! Each client adds 1 to each of its words by one change, again and again. So afterwards each word must be its old
-//! value plus the number of replies `YES` to changes of it. docs/BENCH describes it for users: change both together.
+//! value plus the number of replies `YES` to changes of it. Change it with docs/BENCH.
 #![tactic(auto)]
 
 mod client;

@@ -1,6 +1,6 @@
 //! Tells the replies of each kind apart, with how long they took.
 //!
-//! Used by: `client`, `crowd`, `report`. It has no contracts, and may change freely.
+//! Used by: `client`, `crowd`, `report`. It has no contracts.
 use crate::latencies::Latencies;
 use std::alloc::{AllocError, Global};
 

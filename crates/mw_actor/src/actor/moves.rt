@@ -1,7 +1,6 @@
 //! Gives the point to which a change goes from each point of its program, by what its step found.
 //!
-//! Only `actor.rt` calls it. A new point needs a case here and in `specs/Program`, or in the page of it that the
-//! point belongs to.
+//! Only `actor.rt` calls it. A new point needs a case here and in `specs/Program`, or in its part.
 ghost use Rattle.std.specs.Prelude.{◌≡◌, ℕ};
 ghost use Rattle.mw_words.specs.Patterns.{IsGateInRange};
 ghost use Rattle.mw_look.specs.Observations.{IsObservationInRange};

@@ -1,5 +1,4 @@
--- States what stays true from turn to turn in the loop of `entries_of` (src/lib.rt). Used by: the proof of that function alone. It may
--- change freely as long as this crate checks.
+-- Loop invariants of `entries_of` (src/lib.rt).
 use Rattle.std.proofs.Common.{◌≡◌, map, take}
 use Rattle.mw_client_c.specs.Crossing as spec
 use Rattle.mw_client_c.proofs.entries_of.Given as goal

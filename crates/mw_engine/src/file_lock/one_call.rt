@@ -1,11 +1,10 @@
 //! Makes one call on a tenant's file under its lock: the call of the worker's own request, or of another one's.
 //!
-//! All functions that take a file's lock are here and in `file_lock`, and nothing else of the crate can: who takes it is
-//! private to `file_lock`. Each releases it before it returns, and makes calls on the file meanwhile, and nothing else
-//! of a request (`specs/Errands`). So no atomic step is made while a worker has the lock.
+//! Only functions here and in `file_lock` take a file's lock. Each releases it before it returns, and makes nothing
+//! but calls on the file meanwhile (`specs/Errands`). So no atomic step is made under the lock.
 //!
-//! Used by: `serving`, which calls `combine`; `combiner`, which makes calls for others; tests, which call `file`. Its
-//! contracts use `specs/Errands` and `specs/FileCalls`: change them together.
+//! Used by: `serving`, which calls `combine`; `combiner`, which makes calls for others; tests, which call `file`.
+//! Change it with `specs/Errands` and `specs/FileCalls`.
 ghost use Rattle.std.specs.Prelude.{◌≢◌, None};
 ghost use Rattle.mw_world.specs.Definition.Calls.{called_at};
 ghost use Rattle.mw_core.specs.FromTable.{IsCarried, IsSamePass, View as Knowledge};

@@ -1,6 +1,5 @@
--- What each kind of step does to a gate or a door. Both sides of each count change by the same: the number in the word, and the
--- sum over requests.
--- Used by: GateSteps, QuietSteps, Room, ReadSteps, RequestsAndStarts. It may change freely as long as this crate checks.
+-- What each kind of step does to a gate or a door: both sides of each count (the number in the word, and the sum over
+-- requests) change by the same.
 use Rattle.std.specs.Prelude.{ℕ, ◌≡◌, ◌≢◌, ◌<◌, ◌≤◌, ◌+◌, ◌-◌, ◌==◌, ◌&&◌, true, false, Bool, cond, if◌then◌else◌}
 use Rattle.std.proofs.Common.{refl, sym, ap, subst, ◌∙◌, inl, inr, arith}
 use Rattle.std.proofs.lemmas.Bool.{cases_eq}

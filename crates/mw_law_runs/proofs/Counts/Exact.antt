@@ -1,6 +1,6 @@
 -- An exchange of a door or gate that finds the expected bits finds the expected value: values in range with the same bits are
 -- equal.
--- Used by: exchanges_are_exact, mw_law_runs. Its statements may change with mw_law_runs; its proofs may change freely.
+-- Used by: exchanges_are_exact.
 use Rattle.std.specs.Prelude.{ℕ}
 use Rattle.std.proofs.Common.{arith}
 use Rattle.mw_words.specs.declared.places.At.TheVariants.{Door as AtDoor, Gate as AtGate}

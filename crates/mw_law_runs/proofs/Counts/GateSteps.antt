@@ -1,5 +1,4 @@
 -- The steps that change a gate or a door, and the one that leaves a pin behind, keep the invariant of counts (`CountsStand`).
--- Used by: StepsKeepCounts, ReadSteps, mw_law_runs. Its statements may change with mw_law_runs; its proofs may change freely.
 use Rattle.std.specs.Prelude.{ℕ, ◌≡◌, ◌<◌, ◌≤◌, ◌+◌, ◌-◌, ◌==◌, ◌&&◌, Bool, true, false, cond, if◌then◌else◌, nat_lt, Some}
 use Rattle.std.proofs.Common.{refl, ap, subst, arith}
 use Rattle.std.proofs.lemmas.Bool.Decides.{nat_tests}

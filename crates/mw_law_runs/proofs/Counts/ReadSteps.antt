@@ -1,5 +1,4 @@
 -- The steps of a read that change a gate or a door keep the invariant of counts (`CountsStand`).
--- Used by: StepsKeepCounts. It may change freely as long as this crate checks.
 use Rattle.std.specs.Prelude.{ℕ, ◌≡◌, ◌<◌, ◌-◌, ◌==◌, cond, Some}
 use Rattle.std.proofs.Common.{refl, ap, subst, ◌∙◌, arith}
 use Rattle.mw_words.specs.declared.doors.Door.{Door}

@@ -1,7 +1,6 @@
--- No more slots of the pool are taken than the tenants' doors count. If a worker will free a slot, no other request holds a pin
--- of it or will free it.
--- Used by: the laws pool_has_room and who_frees_is_alone, RunsKeepCounts, mw_law_runs, mw_law_store. Its statements may change
--- with mw_law_runs and mw_law_store; its proofs may change freely.
+-- No more slots of the pool are taken than the tenants' doors count. If a worker will free a slot, no other request holds a
+-- pin of it or will free it.
+-- Used by: pool_has_room, who_frees_is_alone, mw_law_store.
 use Rattle.std.specs.Prelude.{ℕ, zero, suc, ◌≡◌, ◌≢◌, ◌<◌, ◌≤◌, ◌+◌, ◌==◌, ◌&&◌, Bool, true, false, if◌then◌else◌, Some}
 use Rattle.std.proofs.Common.{refl, ap, ◌∙◌, inl, inr, arith}
 use Rattle.std.proofs.lemmas.Bool.{cases_eq}

@@ -1,7 +1,6 @@
 -- Every event of a world, and so every run of events, keeps the invariant of counts, if what this invariant rests on
 -- (`CountsRestOn`) holds.
--- Used by: the laws events_keep_counts, runs_keep_counts and starts_count_right, mw_law_runs. Its statements may change with
--- mw_law_runs; its proofs may change freely.
+-- Used by: events_keep_counts, runs_keep_counts, starts_count_right.
 use Rattle.std.specs.Prelude.{◌≡◌, List, [], ◌∷◌, ◌++◌, Option, Some, None}
 use Rattle.std.specs.Option.{option_and_then}
 use Rattle.std.proofs.Common.{refl, ap, subst, ◌∙◌}

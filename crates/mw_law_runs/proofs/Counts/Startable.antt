@@ -1,7 +1,6 @@
 -- The test `may_start`, which lets a restart happen, tells this: a crash may leave what was found of each file, and the new
 -- quotas fit.
--- Used by: RequestsAndStarts, mw_law_runs, mw_law_store. Its statements may change with mw_law_runs and mw_law_store; its
--- proofs may change freely.
+-- Used by: mw_law_store, mw_law_threads.
 use Rattle.std.specs.Prelude.{ℕ, zero, suc, ◌≡◌, ◌<◌, ◌≤◌, ◌==◌, ◌&&◌, Bool, true, nat_le, List, length}
 use Rattle.std.proofs.Common.{refl, sym, subst, inl, inr, arith}
 use Rattle.std.proofs.lemmas.Bool.{and_from, and_parts, cases_eq, eqb-true, le-leb, leb-true}

@@ -1,6 +1,4 @@
 -- A sum over workers or slots, after one worker or one slot changed, is the old sum with one term replaced.
--- Used by: Effects, GateSteps, Room, Shifts, mw_law_runs. Its statements may change with mw_law_runs; its proofs may change
--- freely.
 use Rattle.std.specs.Prelude.{ℕ, zero, suc, ◌≡◌, ◌≢◌, ◌<◌, ◌≤◌, ◌+◌, ◌==◌, ◌&&◌, if◌then◌else◌, Some}
 use Rattle.std.proofs.Common.{refl, ap, ◌∙◌, inl, inr, arith}
 use Rattle.std.proofs.lemmas.Bool.{cases_eq}

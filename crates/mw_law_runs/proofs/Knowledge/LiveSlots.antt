@@ -1,7 +1,6 @@
--- A request's slots stay live if each stays taken that it has pinned or will free. Live: taken under the number by which the
--- request knows it.
--- Used by: live_slots_stay, Knowledge/Updates/Preservation, Knowledge/Updates/Unpins. It may change freely as long as this
--- crate checks.
+-- A request's slots stay live (taken under the number by which it knows them) if each stays taken that it has pinned or will
+-- free.
+-- Used by: live_slots_stay.
 use Rattle.std.specs.Prelude.{ℕ, ◌≡◌, ◌≤◌, ◌+◌, Bool, true, false, cond, Option, Some, None}
 use Rattle.std.proofs.Common.{refl, ◌∙◌, subst, sym, arith}
 use Rattle.std.proofs.lemmas.Bool.Decides.{nat_tests}

@@ -1,7 +1,5 @@
--- If a step takes no pin, the request's slots stay live at its next point. Live: taken under the number by which the request
--- knows it.
--- Used by: the law live_slots_go_on, Knowledge/Updates/Acquisition, Knowledge/Reads/ByPoint, Knowledge/Calls/AfterCalls,
--- Knowledge/Updates/Releases, Knowledge/Updates/Unpins. It may change freely as long as this crate checks.
+-- If a step takes no pin, the request's slots stay live (taken under the number by which it knows them) at its next point.
+-- Used by: live_slots_go_on.
 use Rattle.std.specs.Prelude.{ℕ, ◌==◌, ◌-◌, ◌+◌, Bool, true, false, Option, Some, None, nat_lt, List}
 use Rattle.mw_words.specs.declared.gates.Gate.{Gate}
 use Rattle.mw_words.specs.declared.jobs.Entry.{Entry}

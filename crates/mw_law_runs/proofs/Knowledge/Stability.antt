@@ -1,6 +1,6 @@
--- All that a request knows at its point stays true over any worker's steps, if its pinned slots stay taken and its own is kept.
--- Its own (`KeepsOwn`) is its pin, its draft, its worker's row and next attempt number.
--- Used by: facts_stay, Knowledge/Updates/Preservation, Others. It may change freely as long as this crate checks.
+-- All that a request knows at its point stays true over any worker's steps, if its pinned slots stay taken and its own
+-- (`KeepsOwn`) is kept.
+-- Used by: facts_stay.
 use Rattle.std.specs.Prelude.{ℕ, ◌≡◌, ◌≢◌, true, length}
 use Rattle.std.proofs.Common.{ap, subst, ◌∙◌, sym}
 use Rattle.mw_words.specs.declared.jobs.Entry.{Entry}

@@ -1,7 +1,5 @@
--- Each single fact that a request may know stays true over a worker's steps that keep the request's own. That (`KeepsOwn`) is
--- its pin, its draft, its worker's row and next attempt number.
--- Used by: Knowledge/Stability, Knowledge/Updates/Acquisition, KnowledgeOverSteps, Knowledge/Updates/Releases,
--- Knowledge/Updates/Unpins. It may change freely as long as this crate checks.
+-- Each single fact that a request may know stays true over a worker's steps that keep the request's own (`KeepsOwn`): its
+-- pin, its draft, its worker's row and next attempt number.
 use Rattle.std.specs.Prelude.{ℕ, ◌≡◌, ◌≢◌, ◌≤◌, ◌⊎◌, List, length, is_some}
 use Rattle.std.proofs.Common.{refl, sym, ap, subst, ◌∙◌, inl, inr, arith}
 use Rattle.mw_words.specs.declared.replies.Reply.{Reply}

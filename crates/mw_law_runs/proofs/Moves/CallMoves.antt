@@ -1,7 +1,5 @@
--- A call on a tenant's file changes shared words, history and attempt numbers exactly as its list of moves does. A move is one
--- elementary change of these three.
--- Used by: StepsKeepMemory, steps_are_moves, mw_law_runs. Its statements may change with mw_law_runs; its proofs may change
--- freely.
+-- A call on a tenant's file changes shared words, history and attempt numbers exactly as its list of moves does.
+-- Used by: steps_are_moves.
 use Rattle.std.specs.Prelude.{ℕ, ◌≡◌, Bool, true, false, if◌then◌else◌, List, Option, Some, None}
 use Rattle.std.proofs.Common.{refl, subst, arith}
 use Rattle.std.proofs.lemmas.Bool.Decides.{nat_tests}

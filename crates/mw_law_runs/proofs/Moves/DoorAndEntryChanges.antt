@@ -1,5 +1,4 @@
 -- Setting a door, and writing a status, a count or an entry into a slot, keep the invariant of the shared words (`Memory`).
--- Used by: MovesKeepMemory. It may change freely as long as this crate checks.
 use Rattle.std.proofs.Common.{ℕ, arith}
 use Rattle.std.proofs.lemmas.Bool.Decides.{nat_tests}
 use Rattle.mw_words.specs.declared.places.At.TheVariants.{Door as AtDoor, Status as AtStatus, Count, Addr, Expected, New}

@@ -1,6 +1,5 @@
 -- The entry that a slot has for a word is the entry of its change, so the slot tells the word's expected and new value.
--- Used by: ValuesFromHistory, mw_law_runs, mw_law_store. Its statements may change with mw_law_runs and mw_law_store; its
--- proofs may change freely.
+-- Used by: mw_law_store.
 use Rattle.std.specs.Prelude.{ℕ, suc, zero, ◌≡◌, ◌<◌, ◌+◌, ◌==◌, Bool, true, false, if◌then◌else◌, List, [], ◌∷◌, length, is_some, Option, Some}
 use Rattle.std.specs.Option.{option_map_or}
 use Rattle.std.proofs.Common.{refl, ap, subst, sym, arith, ◌∙◌, ◌≤◌}

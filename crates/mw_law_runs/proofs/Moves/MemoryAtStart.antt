@@ -1,6 +1,5 @@
 -- The invariant of the shared words (`Memory`) holds at each start at which no word of a file is above the greatest value.
--- Used by: starts_have_memory, StepsKeepMemory, mw_law_runs. Its statements may change with mw_law_runs; its proofs may change
--- freely.
+-- Used by: starts_have_memory.
 use Rattle.std.specs.Prelude.{ℕ, ◌≤◌}
 use Rattle.std.proofs.Common.{arith}
 use Rattle.std.proofs.lemmas.Bool.Decides.{nat_tests}

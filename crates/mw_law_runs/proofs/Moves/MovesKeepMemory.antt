@@ -1,7 +1,6 @@
--- Each move (elementary change of shared words, history or attempt numbers) keeps `Memory`, the invariant of the shared
--- words, if its precondition holds. So do several moves in a row.
--- Used by: the law moves_keep_memory, Relied, StepsKeepMemory, ValuesOverMoves, ValuesOverTurns, mw_law_runs, mw_law_store.
--- Its statements may change with mw_law_runs and mw_law_store; its proofs may change freely.
+-- Each move (elementary change of shared words, history or attempt numbers), or several, keeps `Memory`, the invariant of the
+-- shared words, if its precondition holds.
+-- Used by: moves_keep_memory, mw_law_store.
 use Rattle.std.proofs.Common.{[], ◌∷◌}
 use Rattle.mw_law_runs.specs.Moves.Laws.{MoveKeepsMemory, MovesKeepMemory}
 use Rattle.mw_law_runs.specs.Moves.Moves.{SetDoor, FillStatus, FillCount, FillAddr, FillExpected, FillNew, SetRow, Claim, Pin, Unpin, Free, Prepare, SayYes, SayNo, Seal, Settle, Cancel, Plant, SkipNumber, TakeBack, Hold, WriteNew, LetGo, Clean, LeavePin, DecideFault, SetIntent, made}

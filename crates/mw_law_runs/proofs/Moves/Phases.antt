@@ -1,7 +1,6 @@
 -- Lists the phases that a change's word may have (held, never held, ..) by the change's status, and which stay possible after
 -- the next status.
--- Used by: StatusChanges, WordChanges, GateChanges, RelyingOnWords, RowAndPinChanges, ValuesOverMoves, mw_law_runs,
--- mw_law_store. Its statements may change with mw_law_runs and mw_law_store; its proofs may change freely.
+-- Used by: mw_law_store.
 use Rattle.std.proofs.Common.{◌≡◌, ◌≢◌, ℕ, false, refl, subst, arith}
 use Rattle.std.proofs.lemmas.Bool.Decides.{nat_tests}
 use Rattle.mw_words.specs.declared.statuses.Status.{Status}

@@ -1,6 +1,4 @@
 -- If a value in range is written to a shared word, all shared words stay in range.
--- Used by: WordChanges, StatusChanges, GateChanges, AttemptChanges, DoorAndEntryChanges, RowAndPinChanges. It may change freely
--- as long as this crate checks.
 use Rattle.std.proofs.Common.{◌≡◌, ◌≤◌, ℕ, subst, arith}
 use Rattle.std.specs.Prelude.{◌==◌, if◌then◌else◌, Bool, true, false}
 use Rattle.std.proofs.lemmas.Bool.Decides.{nat_tests}

@@ -1,7 +1,6 @@
 -- Each move of one worker (elementary change of shared words, history or attempt numbers) keeps what other workers rely on
 -- (`Rely`); so do several.
--- Used by: others_may_rely, StepsKeepMemory, mw_law_runs. Its statements may change with mw_law_runs; its proofs may change
--- freely.
+-- Used by: others_may_rely.
 use Rattle.std.proofs.Common.{ℕ, [], ◌∷◌, arith}
 use Rattle.std.proofs.lemmas.Bool.Decides.{nat_tests}
 use Rattle.mw_world.specs.Definition.State.{State}

@@ -1,5 +1,4 @@
 -- Giving a change another status keeps what other workers rely on (`Rely`).
--- Used by: Relied. It may change freely as long as this crate checks.
 use Rattle.std.proofs.Common.{ℕ, arith}
 use Rattle.std.proofs.lemmas.Bool.Decides.{nat_tests}
 use Rattle.mw_actor.specs.declared.points.Slot.{Slot}

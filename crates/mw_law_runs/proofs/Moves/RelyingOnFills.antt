@@ -1,7 +1,5 @@
--- Moves that write into doors, slots and rows keep what other workers rely on (`Rely`). So do those that change only the
--- history: a skipped number, a pin left behind, a decided FAULT, a new intent (an attempt in a word, or a permission to hold
--- one).
--- Used by: Relied. It may change freely as long as this crate checks.
+-- Moves that write into doors, slots and rows, and those that change only the history, keep what other workers rely on
+-- (`Rely`).
 use Rattle.std.proofs.Common.{ℕ, arith}
 use Rattle.std.proofs.lemmas.Bool.Decides.{nat_tests}
 use Rattle.mw_words.specs.declared.doors.Door.{Door}

@@ -1,5 +1,4 @@
 -- Changing a data word (planting, taking back, holding, releasing, cleaning) keeps what other workers rely on (`Rely`).
--- Used by: Relied. It may change freely as long as this crate checks.
 use Rattle.std.proofs.Common.{◌≢◌, ℕ, arith}
 use Rattle.std.proofs.lemmas.Bool.Decides.{nat_tests}
 use Rattle.mw_words.specs.declared.statuses.Status.TheVariants.{Open}

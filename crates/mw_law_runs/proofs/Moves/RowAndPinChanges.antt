@@ -1,7 +1,4 @@
--- Setting a row, and the elementary changes (moves) of the history alone, keep the invariant of the shared words (`Memory`).
--- Those are a skipped number, a pin left behind, a decided FAULT, and a new intent (an attempt in a word, or a permission to
--- hold one).
--- Used by: MovesKeepMemory. It may change freely as long as this crate checks.
+-- Setting a row, and the moves that change only the history, keep the invariant of the shared words (`Memory`).
 use Rattle.std.proofs.Common.{ℕ, arith}
 use Rattle.std.proofs.lemmas.Bool.Decides.{nat_tests}
 use Rattle.mw_words.specs.declared.places.At.TheVariants.{Row as AtRow}

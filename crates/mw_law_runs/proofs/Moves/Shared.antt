@@ -1,7 +1,6 @@
 -- The invariant `Memory`, and what others may rely on, depend on nothing but the shared words, the history and the attempt
 -- numbers.
--- Used by: the law memory_is_shared, StepsKeepMemory, mw_law_runs, mw_law_store. Its statements may change with mw_law_runs and
--- mw_law_store; its proofs may change freely.
+-- Used by: memory_is_shared, mw_law_store.
 use Rattle.std.proofs.Common.{◌≡◌, ℕ, subst, sym, arith}
 use Rattle.std.proofs.lemmas.Bool.Decides.{nat_tests}
 use Rattle.mw_world.specs.declared.config.Config.{Config}

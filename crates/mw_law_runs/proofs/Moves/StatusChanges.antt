@@ -1,5 +1,4 @@
 -- Giving a change another status keeps the invariant of the shared words (`Memory`).
--- Used by: MovesKeepMemory. It may change freely as long as this crate checks.
 use Rattle.std.proofs.Common.{ℕ, arith}
 use Rattle.std.proofs.lemmas.Bool.Decides.{nat_tests}
 use Rattle.mw_words.specs.declared.places.At.TheVariants.{Status as AtStatus}

@@ -1,7 +1,6 @@
 -- Steps of requests, calls on files, arrivals, handed-out replies and restarts keep the invariant of the shared words, under
 -- the premises of `specs/Moves/Steps`.
--- Used by: the laws steps_keep_memory, exchanges_are_typed and steps_are_moves, WorkerPermissions, mw_law_runs, mw_law_store.
--- Its statements may change with mw_law_runs and mw_law_store; its proofs may change freely.
+-- Used by: steps_keep_memory, exchanges_are_typed, steps_are_moves, mw_law_store.
 use Rattle.std.specs.Prelude.{ℕ, ◌≡◌, ◌≤◌, ◌==◌, ◌&&◌, Bool, true, false, if◌then◌else◌, List, length, Option, Some, None}
 use Rattle.std.proofs.Common.{refl, subst, arith}
 use Rattle.std.proofs.lemmas.Bool.Decides.{nat_tests}

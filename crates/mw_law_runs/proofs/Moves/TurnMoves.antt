@@ -1,7 +1,5 @@
--- A step that is no call on a file changes shared words, history and attempt numbers exactly as its list of moves does. A move
--- is one elementary change of these three.
--- Used by: the law steps_are_moves, StepsKeepMemory, ValuesOverTurns, mw_law_runs. Its statements may change with mw_law_runs;
--- its proofs may change freely.
+-- A step that is no call on a file changes shared words, history and attempt numbers exactly as its list of moves does.
+-- Used by: steps_are_moves.
 use Rattle.std.specs.Prelude.{ℕ, ◌≡◌, ◌++◌, ◌==◌, Bool, true, false, cond, List, [], ◌∷◌, Some, None}
 use Rattle.std.proofs.Common.{refl, ap, subst, arith}
 use Rattle.std.proofs.lemmas.Bool.Decides.{nat_tests}

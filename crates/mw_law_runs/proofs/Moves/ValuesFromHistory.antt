@@ -1,6 +1,5 @@
 -- Under the invariant of the shared words, the bits and the history tell the same value of each word.
--- Used by: moves_keep_values, ValuesOverMoves, mw_law_store. Its statements may change with mw_law_store; its proofs may change
--- freely.
+-- Used by: moves_keep_values, mw_law_store.
 use Rattle.std.specs.Prelude.{ℕ, ◌≡◌, ◌≢◌, ◌<◌, true, List, length}
 use Rattle.std.specs.Option.{option_map_or}
 use Rattle.std.proofs.Common.{refl, ap, subst, sym, arith, ◌∙◌}

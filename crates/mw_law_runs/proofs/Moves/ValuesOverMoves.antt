@@ -1,7 +1,6 @@
 -- Only a seal (the commit of a change) changes the value that a word represents: it gives each word of the change the new
 -- value.
--- Used by: moves_keep_values, ValuesOverTurns, mw_law_store. Its statements may change with mw_law_store; its proofs may change
--- freely.
+-- Used by: moves_keep_values, mw_law_store.
 use Rattle.std.specs.Prelude.{ℕ, ◌≡◌, ◌≢◌, ◌==◌, ◌&&◌, Bool, true, false, if◌then◌else◌, List}
 use Rattle.std.proofs.Common.{refl, ap, subst, sym, arith, ◌∙◌}
 use Rattle.std.proofs.lemmas.Bool.Decides.{nat_tests}

@@ -1,5 +1,5 @@
 -- A step that is no call on a file seals no change, so it changes no value that a word represents.
--- Used by: moves_keep_values. It may change freely as long as this crate checks.
+-- Used by: moves_keep_values.
 use Rattle.std.specs.Prelude.{ℕ, ◌≡◌, ◌==◌, ◌++◌, Bool, true, false, cond, List, [], ◌∷◌}
 use Rattle.std.proofs.Common.{refl, ap, ◌∙◌}
 use Rattle.mw_words.specs.declared.places.At.{At}

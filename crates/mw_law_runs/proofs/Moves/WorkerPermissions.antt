@@ -1,6 +1,6 @@
--- After every event, the history gives each worker the attempt and the permission to hold a word that its request's point says
--- (`PointsAreTold`).
--- Used by: events_tell_points, mw_law_runs. Its statements may change with mw_law_runs; its proofs may change freely.
+-- After every event, the history gives each worker the attempt and the permission to hold a word that its request's point
+-- says (`PointsAreTold`).
+-- Used by: events_tell_points.
 use Rattle.std.specs.Prelude.{ℕ, ◌≡◌, ◌==◌, ◌&&◌, Bool, true, false, cond, if◌then◌else◌, List, length, not, is_some, is_none, Option, Some, None}
 use Rattle.std.proofs.Common.{refl, subst, arith}
 use Rattle.std.proofs.lemmas.Bool.Decides.{nat_tests}

@@ -1,7 +1,5 @@
 -- Lemmas that two cases exclude each other: kinds of words, won and lost exchanges, statuses of finished and unfinished
 -- changes.
--- Used by: Obligations/Cleaners, Obligations/StepObligations, Obligations/LastPins, Obligations/Cleanups,
--- Obligations/RefusedChanges, Obligations/StepEffectsByPoint. It may change freely as long as this crate checks.
 use Rattle.std.specs.Prelude.{ℕ, ◌≡◌, Bool, true, false}
 use Rattle.mw_law_runs.specs.Obligations.{IsUnfinished}
 use Rattle.mw_words.specs.declared.statuses.Status.{Status}

@@ -1,5 +1,5 @@
 -- A call on a file keeps each held or written word's releaser: the request that will release or clean the word.
--- Used by: calls_keep_releasers, FileCalls. It may change freely as long as this crate checks.
+-- Used by: calls_keep_releasers.
 use Rattle.std.specs.Prelude.{ℕ, ◌≡◌, Bool, true, false, [], ◌∷◌, ◌++◌, Some, None}
 use Rattle.std.proofs.Common.{refl, sym, subst, inl}
 use Rattle.mw_words.specs.declared.replies.Reply.TheVariants.{Fault as SaysFault}

@@ -1,7 +1,6 @@
 -- When a request takes back the last pin of a slot, no word refers to the slot. The reason: whoever will release such a word
 -- holds a pin too.
--- Used by: the law last_pins_are_free, StepsKeepInvariant, Obligations/Cleaners, mw_law_store. Its statements may change with
--- mw_law_store; its proofs may change freely.
+-- Used by: last_pins_are_free, mw_law_store.
 use Rattle.std.specs.Prelude.{ℕ, ◌≡◌, ◌≢◌, ◌<◌, ◌≤◌, ◌⊎◌, ◌+◌, ◌==◌, Bool, true, false, if◌then◌else◌, Option, Some, None}
 use Rattle.std.proofs.Common.{refl, sym, ap, subst, ◌∙◌, inl, inr, arith}
 use Rattle.std.proofs.lemmas.Bool.{cases_eq}

@@ -1,6 +1,4 @@
--- At each of its points, a request knows that its worker claimed the slot of its own change for it.
--- Used by: Obligations/StepObligations, mw_law_store. Its statements may change with mw_law_store; its proofs may change
--- freely.
+-- At each of its points, a request knows that its worker claimed the slot of its own change for it. Used by: mw_law_store.
 use Rattle.std.specs.Prelude.{◌≡◌, Some}
 use Rattle.std.proofs.Common.{subst}
 use Rattle.mw_actor.specs.declared.points.After.TheVariants.{Work, GiveUp as ThenGiveUp, Reply as ThenReply}

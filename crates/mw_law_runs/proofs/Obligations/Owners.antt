@@ -1,6 +1,4 @@
 -- After each step a request still has its own change, except after the last step that it makes for the change.
--- Used by: Obligations/StepObligations, Obligations/Cleaners, Obligations/FileCalls. It may change freely as long as this crate
--- checks.
 use Rattle.std.specs.Prelude.{ℕ, ◌≡◌, List, Some}
 use Rattle.mw_words.specs.declared.jobs.Entry.{Entry}
 use Rattle.mw_look.specs.declared.observations.Observation.{Observation}

@@ -1,6 +1,5 @@
 -- A request holds a pin of its own change's slot, and of the slot of its target (the change that it works on).
--- Used by: Obligations/StepObligations, Callers, BitExactness, Obligations/Cleaners, Obligations/LastPins, other pages,
--- mw_law_store. Its statements may change with mw_law_store; its proofs may change freely.
+-- Used by: mw_law_store.
 use Rattle.std.specs.Prelude.{ℕ, ◌≡◌, ◌≤◌, ◌+◌, Bool, true, false, cond, Some, None}
 use Rattle.std.proofs.Common.{refl, sym, ap, subst, ◌∙◌, arith}
 use Rattle.std.proofs.lemmas.Bool.Decides.{nat_tests}

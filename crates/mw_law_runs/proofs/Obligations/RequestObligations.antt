@@ -1,5 +1,6 @@
--- If words have releasers as this crate defines them (`WordsHaveReleasers`), they have them as the world's invariant requires.
--- Used by: requests_release_their_words, RunsAreSound. It may change freely as long as this crate checks.
+-- If words have releasers as this crate defines them (`WordsHaveReleasers`), they have them as the world's invariant
+-- requires.
+-- Used by: requests_release_their_words.
 use Rattle.std.specs.Prelude.{ℕ, ◌⊎◌}
 use Rattle.std.proofs.Common.{subst, sym, inl, inr}
 use Rattle.mw_words.specs.declared.statuses.Status.{Status}

@@ -1,6 +1,4 @@
 -- What one step of any request may do to gates, words and statuses: pin, hold, refuse or write.
--- Used by: Obligations/StepObligations, Obligations/Cleaners, Obligations/FileCalls, Obligations/RefusedChanges,
--- Obligations/StepEffectsByPoint. It may change freely as long as this crate checks.
 use Rattle.std.specs.Prelude.{ℕ, ◌≡◌, ◌⊎◌, ◌==◌, ◌++◌, Bool, true, false, if◌then◌else◌, [], ◌∷◌, Some}
 use Rattle.std.proofs.Common.{refl, sym, ap, subst, ◌∙◌, inl, inr, arith}
 use Rattle.std.proofs.lemmas.Bool.Decides.{nat_tests}

@@ -1,5 +1,5 @@
 -- A step of a request keeps each held or written word's releaser: the request that will release or clean the word.
--- Used by: steps_keep_releasers, StepsKeepInvariant, Obligations/FileCalls. It may change freely as long as this crate checks.
+-- Used by: steps_keep_releasers.
 use Rattle.std.specs.Prelude.{ℕ, ◌≡◌, ◌≢◌, ◌≤◌, ◌⊎◌, true, Some}
 use Rattle.std.proofs.Common.{refl, sym, ap, subst, ◌∙◌, inl, inr}
 use Rattle.std.proofs.lemmas.Bool.{cases_eq}

@@ -1,7 +1,6 @@
--- After every run, each request's point names only slots of the pool and entries that a change may have. So its next step,
--- unless it is a call on its file, is at a word that exists.
--- Used by: places_are_there, BitExactness, mw_law_store. Its statements may change with mw_law_store; its proofs may change
--- freely.
+-- After every run, each request's point names only slots of the pool and entries that a change may have. So its next step is
+-- at a word that exists.
+-- Used by: places_are_there, mw_law_store.
 use Rattle.std.specs.Prelude.{ℕ, ◌≡◌, ◌≢◌, ◌≤◌, ◌<◌, ◌⊎◌, ◌==◌, ◌&&◌, true, nat_lt, is_none, List, [], ◌∷◌, length, if◌then◌else◌, Option, Some, None}
 use Rattle.std.specs.Option.{option_and_then}
 use Rattle.std.proofs.Common.{refl, sym, ap, subst, ◌∙◌, inl, inr, arith}

@@ -1,6 +1,6 @@
--- A change's request gives back all that it takes: at each point it holds exactly the pins that it won and has not taken back.
--- Used by: the laws replies_give_back, file_calls_are_of_pinned_slots and gates_are_moved_by_the_rules, RisingLaws,
--- mw_law_runs. Its statements may change with mw_law_runs; its proofs may change freely.
+-- A change's request gives back all that it takes: at each point it holds exactly the pins that it won and has not taken
+-- back.
+-- Used by: replies_give_back, file_calls_are_of_pinned_slots, gates_are_moved_by_the_rules.
 use Rattle.std.specs.Prelude.{ℕ, ◌≡◌, ◌+◌, ◌≤◌, ◌==◌, ◌&&◌, Bool, true, false, cond, Some, None, List, [], ◌∷◌}
 use Rattle.std.specs.declared.option.Option.{Option}
 use Rattle.std.proofs.Common.{refl, sym, subst, ap, ◌∙◌, arith, inr}

@@ -1,5 +1,5 @@
 -- The steps of a change's request come in order: before each step it has made those that `specs/Requests/Order` requires.
--- Used by: steps_come_in_turn, RisingLaws. It may change freely as long as this crate checks.
+-- Used by: steps_come_in_turn.
 use Rattle.std.specs.Prelude.{ℕ, zero, suc, ◌≡◌, ◌+◌, ◌≤◌, ◌<◌, true, false, nat_lt, List, [], ◌∷◌, length}
 use Rattle.std.proofs.Common.{refl, sym, subst, ap, ◌∙◌, arith, inl, inr}
 use Rattle.std.proofs.lemmas.Bool.Decides.{nat_tests}

@@ -1,6 +1,6 @@
 -- A change's request holds words in the order of the change's entries, and sees each earlier one held before it plants at the
 -- next.
--- Used by: plants_rise. It may change freely as long as this crate checks.
+-- Used by: plants_rise.
 use Rattle.std.specs.Prelude.{ℕ, suc, ◌≡◌, ◌+◌, ◌≤◌, ◌<◌, Bool, true, false, cond, List, [], ◌∷◌, length}
 use Rattle.std.proofs.Common.{refl, sym, subst, ap, ◌∙◌, arith, inl, inr}
 use Rattle.mw_words.specs.declared.jobs.Entry.{Entry}

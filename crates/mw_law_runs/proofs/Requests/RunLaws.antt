@@ -1,6 +1,6 @@
--- A request makes no step at another tenant's door or word, and each slot of which it holds a pin was won by one of its steps.
--- Used by: the laws requests_stay_with_their_tenant and last_pins_are_freed, BalanceLaws, OrderLaws, RisingLaws. It may change
--- freely as long as this crate checks.
+-- A request makes no step at another tenant's door or word, and each slot of which it holds a pin was won by one of its
+-- steps.
+-- Used by: requests_stay_with_their_tenant, last_pins_are_freed.
 use Rattle.std.specs.Prelude.{ℕ, ◌≡◌, ◌==◌, true, cond, List, [], ◌∷◌}
 use Rattle.std.proofs.Common.{refl, sym, subst, ap, inl, inr}
 use Rattle.mw_words.specs.declared.jobs.Entry.{Entry}

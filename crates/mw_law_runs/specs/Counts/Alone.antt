@@ -1,5 +1,5 @@
 -- Facts that follow from the invariant of counts: a worker that will free a slot is alone with it, and the pool has room.
--- Used by: the laws of src/count_laws.rt, mw_law_runs, mw_law_store. A change here changes what these laws say.
+-- Used by: src/count_laws.rt, mw_law_store.
 use Rattle.std.specs.Prelude.{ℕ, ◌≡◌, ◌≢◌, ◌≤◌, true, false, Some}
 use Rattle.mw_actor.specs.ActorState.{ActorState}
 use Rattle.mw_world.specs.declared.config.Config.{Config}

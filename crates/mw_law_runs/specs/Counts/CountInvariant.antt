@@ -1,7 +1,6 @@
--- The invariant of counts (`CountsStand`): each gate counts its slot's pins, and each door its tenant's slots. Also what the
--- invariant rests on.
--- Used by: specs/Counts/Alone, specs/Counts/Exact, specs/Counts/Laws, mw_law_runs. Contracts use it through these: a change here changes what they
--- say.
+-- The invariant of counts (`CountsStand`): each gate counts its slot's pins, and each door its tenant's slots. Also what it
+-- rests on.
+-- Used by: specs/Counts/Alone, specs/Counts/Exact, specs/Counts/Laws.
 use Rattle.std.specs.Prelude.{ℕ, ◌≡◌, ◌<◌, true, false, Some}
 use Rattle.mw_words.specs.declared.places.At.TheVariants.{Door as AtDoor, Gate as AtGate}
 use Rattle.mw_words.specs.Patterns.{packed_door, packed_gate}

@@ -1,6 +1,6 @@
--- An exchange of a door or gate compares bits. This page states that it finds exactly the expected value, if all values are in
+-- States that an exchange of a door or gate, which compares bits, finds exactly the expected value, if all values are in
 -- range.
--- Used by: the laws of src/count_laws.rt, mw_law_runs. A change here changes what these laws say.
+-- Used by: src/count_laws.rt.
 use Rattle.mw_look.specs.Program.{IsPointInRange as IsReadPointInRange}
 use Rattle.mw_actor.specs.declared.points.Point.{Point}
 use Rattle.mw_actor.specs.declared.points.Point.TheVariants.{Read}

@@ -1,5 +1,5 @@
 -- The statements that this crate proves of counts: starts, events and runs keep them, and the pool has room.
--- Used by: the laws of src/count_laws.rt, mw_law_runs. A change here changes what these laws say.
+-- Used by: src/count_laws.rt.
 use Rattle.std.specs.Prelude.{ℕ, ◌≡◌, ◌≤◌, List, ◌++◌, Some}
 use Rattle.mw_world.specs.declared.config.Config.{Config}
 use Rattle.mw_actor.specs.ActorState.{ActorState}

@@ -1,7 +1,5 @@
--- When a request is ready for its next exchange of a gate or door, by its point: what it saw before allows the exchange. A
--- change of which it will take a pin isn't its own.
--- Used by: specs/Counts/CountInvariant, mw_law_runs, mw_law_store. Contracts use it through these: a change here changes what they
--- say.
+-- When a request is ready for its next exchange of a gate or door, by its point: what it saw before allows the exchange.
+-- Used by: mw_law_store.
 use Rattle.std.specs.Prelude.{ℕ, ◌≡◌, false}
 use Rattle.mw_pool.specs.Moves.{Admits, Claims, Pins}
 use Rattle.mw_look.specs.Program.{seq_of}

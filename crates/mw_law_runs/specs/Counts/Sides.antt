@@ -1,5 +1,5 @@
--- Two terms of the counts of a slot: 1 if its pin was left behind, and 1 if it is taken and has no pin.
--- Only proofs of this crate use these; they may change freely as long as it checks.
+-- Defines two terms of the counts of a slot: 1 if its pin was left behind, and 1 if it is taken and has no pin.
+-- Used by: proofs of this crate.
 use Rattle.std.specs.Prelude.{ℕ, ◌==◌, ◌&&◌, if◌then◌else◌}
 use Rattle.mw_world.specs.Definition.State.{State}
 

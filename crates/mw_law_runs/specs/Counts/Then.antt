@@ -1,5 +1,6 @@
--- The counts of a change after its next step: its pins, the slots that it will free, and those that its door counts for it.
--- Only proofs of this crate use these; they may change freely as long as it checks.
+-- Defines the counts of a change after its next step: its pins, the slots that it will free, and those that its door counts
+-- for it.
+-- Used by: proofs of this crate.
 use Rattle.std.specs.Prelude.{ℕ, ◌+◌, ◌==◌, cond}
 use Rattle.mw_look.specs.declared.observations.Observation.{Observation}
 use Rattle.mw_look.specs.declared.observations.Observation.TheVariants.{SawDoor, SawGate, SawStatus, Won}

@@ -1,6 +1,6 @@
 -- States that an informed request (it knows its point's facts) meets the preconditions of its call on a file, and knows its
 -- next point's facts.
--- Used by: the laws of src/knowledge_laws.rt, specs/ObligationLaws, mw_law_store. A change here changes what these laws say.
+-- Used by: src/knowledge_laws.rt, mw_law_store.
 use Rattle.std.specs.Prelude.{◌≡◌, Some}
 use Rattle.mw_look.specs.declared.observations.Observation.{Observation}
 use Rattle.mw_actor.specs.ActorState.{ActorState}

@@ -1,7 +1,5 @@
--- Defines the facts that a request may know of changes, entries and words. Steps of other workers' requests leave such a fact
--- true.
--- Used by: specs/Knowledge/OwnKnowledge, specs/Knowledge/Points, mw_law_store. Contracts use it through these: a change here
--- changes what they say.
+-- Defines the facts that a request may know of changes, entries and words. Others' steps leave such a fact true.
+-- Used by: mw_law_store.
 use Rattle.std.specs.Prelude.{ℕ, ◌≡◌, ◌≢◌, ◌<◌, ◌≤◌, ◌⊎◌, true, false, List, [], ◌∷◌, length}
 use Rattle.mw_words.specs.declared.jobs.Entry.{Entry}
 use Rattle.mw_words.specs.declared.replies.Reply.{Reply}

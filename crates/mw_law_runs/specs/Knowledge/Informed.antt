@@ -1,5 +1,4 @@
--- Defines an informed request: one that is as a worker may have it, and knows the facts of its point. Also how a step may end.
--- Used by: many specs of this crate, mw_law_store. Contracts use it through these: a change here changes what they say.
+-- Defines an informed request: one that is as a worker may have it, and knows the facts of its point. Used by: mw_law_store.
 use Rattle.std.specs.Prelude.{◌≡◌, ◌≢◌}
 use Rattle.mw_words.specs.declared.jobs.Job.{Job}
 use Rattle.mw_words.specs.declared.jobs.Job.TheVariants.{Get, Cas}

@@ -1,6 +1,5 @@
 -- Defines that, when a request takes back the last pin of a slot, no word refers to the slot.
--- Used by: specs/Knowledge/MoveGuards, specs/ObligationLaws. Contracts use it through these: a change here changes what they
--- say.
+-- Used by: specs/Knowledge/MoveGuards, specs/ObligationLaws.
 use Rattle.std.specs.Prelude.{ℕ, ◌≡◌}
 use Rattle.mw_look.specs.declared.points.Point.{Point as ReadPoint}
 use Rattle.mw_look.specs.declared.points.Point.TheVariants.{Unpin as UnpinOfRead}

@@ -1,5 +1,5 @@
 -- States which steps leave a request's knowledge true, and its slots live (taken under the number by which it knows them).
--- Used by: the laws of src/knowledge_laws.rt. A change here changes what these laws say.
+-- Used by: src/knowledge_laws.rt.
 use Rattle.std.specs.Prelude.{ℕ, ◌≡◌, ◌≢◌, ◌≤◌, ◌+◌, true}
 use Rattle.mw_actor.specs.declared.points.Point.{Point}
 use Rattle.mw_look.specs.declared.observations.Observation.{Observation}

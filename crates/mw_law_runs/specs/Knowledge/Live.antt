@@ -1,7 +1,6 @@
--- Defines a request's live slots. They are those of which it holds a pin and the one that it will free, each taken under the
--- number by which it knows it.
--- Used by: specs/Knowledge/Informed, specs/Knowledge/Laws, specs/Knowledge/NextState, mw_law_store. Contracts use it through
--- these: a change here changes what they say.
+-- Defines a request's live slots: those of which it holds a pin and the one that it will free, each taken under the number by
+-- which it knows it.
+-- Used by: mw_law_store.
 use Rattle.std.specs.Prelude.{Option, Some, None}
 use Rattle.mw_look.specs.declared.observations.Observation.{Observation}
 use Rattle.mw_look.specs.declared.observations.Observation.TheVariants.{Won}

@@ -1,6 +1,5 @@
--- States that each move (elementary change) of an informed request's step has its precondition. Informed: the request knows the
--- facts of its point.
--- Used by: the laws of src/knowledge_laws.rt. A change here changes what these laws say.
+-- States that each move (elementary change) of an informed request's step has its precondition.
+-- Used by: src/knowledge_laws.rt.
 use Rattle.std.specs.Prelude.{◌≡◌, true, Some}
 use Rattle.mw_look.specs.declared.observations.Observation.{Observation}
 use Rattle.mw_actor.specs.ActorState.{ActorState}

@@ -1,5 +1,4 @@
--- Defines a request after its step, and the world after that step.
--- Used by: many specs of this crate, mw_law_store. Contracts use it through these: a change here changes what they say.
+-- Defines a request after its step, and the world after that step. Used by: mw_law_store.
 use Rattle.mw_look.specs.declared.observations.Observation.{Observation}
 use Rattle.mw_actor.specs.ActorState.{ActorState}
 use Rattle.mw_world.specs.Definition.State.{State}

@@ -1,5 +1,5 @@
 -- Defines the part of a request's knowledge that is its worker's own: only a few steps, all of this worker, change it.
--- Used by: specs/Knowledge/Laws. Contracts use it through these: a change here changes what they say.
+-- Used by: specs/Knowledge/Laws.
 use Rattle.std.specs.Prelude.{◌≡◌}
 use Rattle.mw_words.specs.declared.statuses.Status.TheVariants.{Draft}
 use Rattle.mw_actor.specs.declared.points.Slot.{Slot}

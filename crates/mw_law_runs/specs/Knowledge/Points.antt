@@ -1,6 +1,5 @@
 -- Lists what a request knows at each point of its program, as far as the invariant of the shared words needs it.
--- Used by: specs/Knowledge/Informed, specs/Knowledge/Laws, specs/Knowledge/NextState, mw_law_store. Contracts use it through
--- these: a change here changes what they say.
+-- Used by: mw_law_store.
 use Rattle.std.specs.Prelude.{ℕ, ◌≡◌, ◌≢◌, ◌≤◌, false, length}
 use Rattle.mw_words.specs.declared.statuses.Status.TheVariants.{Draft}
 use Rattle.mw_look.specs.declared.points.Point.{Point as ReadPoint}

@@ -1,6 +1,6 @@
--- States that an informed request (it knows its point's facts) knows those of its next point after a step that changes a shared
--- word.
--- Used by: the laws of src/knowledge_laws.rt. A change here changes what these laws say.
+-- States that an informed request (it knows its point's facts) knows those of its next point after a step that changes a
+-- shared word.
+-- Used by: src/knowledge_laws.rt.
 use Rattle.std.specs.Prelude.{◌≡◌, Some}
 use Rattle.mw_look.specs.declared.observations.Observation.{Observation}
 use Rattle.mw_actor.specs.ActorState.{ActorState}

@@ -1,7 +1,6 @@
 -- Defines the precondition of each move (elementary change by a worker's step): what the shared words and the history must be
--- then. It also requires that what a move writes is in range.
--- Used by: specs/Moves/Laws, specs/Moves/Rely, specs/Moves/Steps, specs/Moves/Values, mw_law_runs, mw_law_store. Contracts use it through these: a
--- change here changes what they say.
+-- then, and that what it writes is in range.
+-- Used by: mw_law_store.
 use Rattle.std.specs.Prelude.{ℕ, ◌≡◌, ◌≢◌, ◌<◌, ◌≤◌, ◌+◌, ◌^◌, true, false, List, [], ◌∷◌, length}
 use Rattle.mw_words.specs.declared.limits.TheConstants.{MAX_VALUE}
 use Rattle.mw_words.specs.declared.jobs.Entry.{Entry}

@@ -1,6 +1,6 @@
--- The statements that this crate proves of moves, the elementary changes: each start has the invariant of the shared words, and
+-- The statements that this crate proves of moves (elementary changes): each start has the invariant of the shared words, and
 -- each move keeps it.
--- Used by: the laws of src/move_laws.rt. A change here changes what these laws say.
+-- Used by: src/move_laws.rt.
 use Rattle.std.specs.Prelude.{ℕ, ◌≤◌, List}
 use Rattle.mw_words.specs.declared.limits.TheConstants.{MAX_VALUE}
 use Rattle.mw_words.specs.Change.{word_at}

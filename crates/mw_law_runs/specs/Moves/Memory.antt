@@ -1,8 +1,6 @@
--- Defines `Memory`, the invariant of the shared words, which holds at every moment of a run. It speaks of the shared words, of
--- the history and of the numbers of the workers' attempts; these three are called *memory* here. It is the part of the world's
--- invariant that speaks of neither requests nor files, and what else each step needs to keep it.
--- Used by: specs/Moves/Laws, specs/Moves/Rely, specs/Moves/Steps, specs/Moves/Values, mw_law_runs, mw_law_store. Contracts use it through these: a
--- change here changes what they say.
+-- Defines `Memory`, the invariant of the shared words, which holds at every moment of a run, and what else each step needs to
+-- keep it. Memory is here the shared words, the history and the numbers of the workers' attempts.
+-- Used by: mw_law_store.
 use Rattle.std.specs.Prelude.{ℕ, ◌≡◌}
 use Rattle.mw_world.specs.declared.config.Config.{Config}
 use Rattle.mw_world.specs.declared.step_labels.Phase.TheVariants.{Written}

@@ -1,7 +1,6 @@
 -- Defines the moves: the elementary changes that a worker's step makes to the shared words, the history and the attempt
--- numbers. No move depends on the point of a request or changes it.
--- Used by: many specs of this crate, mw_law_runs, mw_law_store. Contracts use it through these: a change here changes what they
--- say.
+-- numbers. No move depends on a request's point or changes it.
+-- Used by: mw_law_store.
 use Rattle.std.specs.Prelude.{ℕ, ◌+◌, List, [], ◌∷◌}
 use Rattle.mw_words.specs.declared.jobs.Entry.{Entry}
 use Rattle.mw_words.specs.declared.places.At.{At}

@@ -1,6 +1,5 @@
--- Defines what other workers may rely on while one worker makes steps (a rely condition), and states that each elementary
--- change keeps it.
--- Used by: the laws of src/move_laws.rt, specs/Moves/Steps, mw_law_runs, mw_law_store. A change here changes what these laws say.
+-- Defines what other workers may rely on while one worker makes steps (a rely condition), and states that each move keeps it.
+-- Used by: src/move_laws.rt, mw_law_store.
 use Rattle.std.specs.Prelude.{ℕ, ◌≡◌, ◌≢◌, ◌<◌, ◌≤◌, ◌⊎◌, true, List}
 use Rattle.mw_words.specs.declared.statuses.Status.TheVariants.{Draft, Open, Yes, No, DoneYes, DoneNo}
 use Rattle.mw_words.specs.declared.words.Word.TheVariants.{Planted}

@@ -1,7 +1,5 @@
--- Lists the moves (elementary changes of the shared words and the history) that each step of a request and each call on a file
--- makes.
--- Used by: the laws of src/move_laws.rt, specs/Moves/Steps, specs/Moves/Values, mw_law_runs, mw_law_store. A change here changes what these laws
--- say.
+-- Lists the moves (elementary changes of the shared words and the history) of each step of a request and each call on a file.
+-- Used by: src/move_laws.rt, mw_law_store.
 use Rattle.std.specs.Prelude.{ℕ, ◌≡◌, ◌-◌, ◌++◌, Bool, true, false, List, [], ◌∷◌, length, Some}
 use Rattle.mw_words.specs.declared.statuses.Status.{Status}
 use Rattle.mw_words.specs.declared.statuses.Status.TheVariants.{No}

@@ -1,6 +1,6 @@
--- The statements that this crate proves of a world's steps: they keep the invariant of the shared words and what other workers
--- rely on.
--- Used by: the laws of src/move_laws.rt, mw_law_runs. A change here changes what these laws say.
+-- The statements that this crate proves of a world's steps: they keep the invariant of the shared words and what other
+-- workers rely on.
+-- Used by: src/move_laws.rt.
 use Rattle.std.specs.Prelude.{ℕ, ◌≡◌, ◌≤◌, ◌==◌, true, List, Some, None}
 use Rattle.mw_words.specs.declared.limits.TheConstants.{MAX_VALUE}
 use Rattle.mw_words.specs.declared.jobs.Job.{Job}

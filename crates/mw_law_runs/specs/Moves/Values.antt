@@ -1,5 +1,6 @@
--- Defines the value that each word represents according to the history, and states that only the commit of a change changes it.
--- Used by: the laws of src/move_laws.rt, mw_law_store. A change here changes what these laws say.
+-- Defines the value that each word represents according to the history, and states that only the commit of a change changes
+-- it.
+-- Used by: src/move_laws.rt, mw_law_store.
 use Rattle.std.specs.Prelude.{ℕ, ◌≡◌, ◌==◌, ◌&&◌, Bool, true, false, if◌then◌else◌, List, [], ◌∷◌, Some}
 use Rattle.mw_words.specs.declared.words.Word.{Word}
 use Rattle.mw_words.specs.declared.words.Word.TheVariants.{Plain, Planted, Held, Dirty}

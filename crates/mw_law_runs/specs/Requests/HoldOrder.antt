@@ -1,5 +1,5 @@
 -- Defines the order in which a change's request holds the words: one after another, from the first entry on.
--- Used by: the laws of src/request_laws.rt. A change here changes what these laws say.
+-- Used by: src/request_laws.rt.
 use Rattle.std.specs.Prelude.{ℕ, zero, suc, ◌≡◌, ◌≤◌, ◌<◌, Bool, true, false, cond, List, [], ◌∷◌, length}
 use Rattle.arrayvec.specs.ArrayVec.{ArrayVec}
 use Rattle.mw_words.specs.declared.jobs.Entry.{Entry}

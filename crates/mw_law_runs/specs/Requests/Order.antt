@@ -1,6 +1,6 @@
--- Defines the order of the steps of a change's request: admission, claim of a slot, its entries, prepare. Only then does it
--- hold or decide anything.
--- Used by: the laws of src/request_laws.rt. A change here changes what these laws say.
+-- Defines the order of the steps of a change's request: admission, claim of a slot, its entries, prepare, and only then holds
+-- and decisions.
+-- Used by: src/request_laws.rt.
 use Rattle.std.specs.Prelude.{ℕ, zero, suc, ◌≡◌, ◌≤◌, true, List, [], ◌∷◌, length}
 use Rattle.arrayvec.specs.ArrayVec.{ArrayVec}
 use Rattle.mw_words.specs.declared.doors.Door.{Door}

@@ -1,6 +1,6 @@
--- Defines the runs of one request: its steps and what each of them found. States what holds of every such run, of tenant, pins
+-- Defines the runs of one request (its steps and what each found), and states what holds of every such run: of tenant, pins
 -- and slots.
--- Used by: the laws of src/request_laws.rt, specs/Requests/HoldOrder, specs/Requests/Order. A change here changes what these laws say.
+-- Used by: src/request_laws.rt.
 use Rattle.std.specs.Prelude.{ℕ, ◌≡◌, ◌+◌, ◌<◌, ◌==◌, false, Some, None, List, [], ◌∷◌, ◌⊎◌}
 use Rattle.arrayvec.specs.ArrayVec.{ArrayVec}
 use Rattle.mw_words.specs.declared.places.At.{At}

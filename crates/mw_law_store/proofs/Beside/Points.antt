@@ -1,5 +1,4 @@
 -- Each move (elementary change of shared words) of a request's step is made for the tenant of that request.
--- Used by: Beside/Tenants. It may change freely as long as this crate checks.
 use Rattle.std.specs.Prelude.{ℕ, ◌≡◌, ◌++◌, Bool, true, false, [], ◌∷◌}
 use Rattle.std.proofs.Common.{refl, subst}
 use Rattle.mw_words.specs.declared.replies.Reply.TheVariants.{Fault as SaysFault}

@@ -1,6 +1,4 @@
 -- Lists the ends that a step of a request may have, for each label. The label is what the step adds to the history.
--- Used by: Dues/Steps, Dues/Noted, SimulationSteps/Turns, Dues/Reads, SimulationSteps/ChangeSteps, SimulationSteps/Turned. It
--- may change freely as long as this crate checks.
 use Rattle.std.specs.Prelude.{ℕ, ◌≡◌, ◌⊎◌, true, false, Some, None}
 use Rattle.std.proofs.Common.{sym, ap, ◌∙◌, inl}
 use Rattle.mw_words.specs.declared.doors.Door.{Door}

@@ -1,7 +1,5 @@
--- A request that comes, a reply that is handed out, and a start keep `HasFiles`: the shared words agree with the tenants'
--- files.
--- Used by: the laws comes_keep_files, hands_keep_files and starts_have_files, Files/RunsKeepFiles, RestartSimulation,
--- WorldFactLaws. It may change freely as long as this crate checks.
+-- A request that comes, a reply that is handed out, and a start keep `HasFiles`.
+-- Used by: comes_keep_files, hands_keep_files, starts_have_files.
 use Rattle.std.specs.Prelude.{ℕ, zero, suc, ◌≡◌, ◌<◌, ◌==◌, ◌&&◌, ◌||◌, not, Bool, true, false, if◌then◌else◌, is_none, List, [], ◌∷◌, length, bytes_eq, Option, Some, None}
 use Rattle.std.proofs.Common.{refl, sym, ap, subst, ◌∙◌, arith}
 use Rattle.std.proofs.lemmas.Bool.Decides.{nat_tests}

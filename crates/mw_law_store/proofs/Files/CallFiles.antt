@@ -1,6 +1,5 @@
 -- A call on a file keeps `HasFiles` (the shared words agree with the tenants' files), however it ends.
--- Used by: the law calls_keep_files, Files/RunsKeepFiles, WorldFactLaws/Calls, TakenNumbers. It may change freely as long as
--- this crate checks.
+-- Used by: calls_keep_files.
 use Rattle.std.specs.Prelude.{ℕ, ◌≡◌, ◌<◌, ◌&&◌, Bool, true, false, if◌then◌else◌, nat_lt, Option, Some, None}
 use Rattle.std.proofs.Common.{refl, sym, ap, subst, ◌∙◌, arith}
 use Rattle.std.proofs.lemmas.Bool.Decides.{nat_tests}

@@ -1,6 +1,5 @@
--- If a request has come to a call on its file, the file can make the call. At each start there are words that may be found.
--- Used by: the laws calls_can_be_made and starts_find_words, Files/EnabledEvents, mw_rule. Its statements may change with
--- mw_rule; its proofs may change freely.
+-- If a request has come to a call on its file, the file can make the call.
+-- Used by: calls_can_be_made, starts_find_words, mw_rule.
 use Rattle.std.specs.Prelude.{ℕ, zero, suc, ◌≡◌, ◌<◌, ◌&&◌, not, Bool, true, false, if◌then◌else◌, nat_lt, List, length, bytes_eq, Some}
 use Rattle.std.proofs.Common.{refl, sym, ap, subst, ◌∙◌, inl, inr, arith}
 use Rattle.std.proofs.lemmas.Bool.Decides.{nat_tests}

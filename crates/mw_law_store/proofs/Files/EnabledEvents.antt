@@ -1,6 +1,6 @@
--- After every run, the tests in the definition of a world refuse nothing that a request asks for. So all of `HoldsOfRun` holds.
--- Used by: the laws every_run_holds and runs_are_enabled, Files/Readiness, mw_simulator. Its statements may change with
--- mw_simulator; its proofs may change freely.
+-- After every run, the tests in the definition of a world refuse nothing that a request asks for. So all of `HoldsOfRun`
+-- holds.
+-- Used by: every_run_holds, runs_are_enabled, mw_simulator.
 use Rattle.mw_world.specs.Claim.Headline.{EveryRunHolds}
 use Rattle.mw_law_runs.proofs.RunsAreSound.{room_is_left, runs_are_sound}
 use Rattle.mw_law_runs.proofs.Places.PlaceInvariant.{places_are_there}

@@ -1,6 +1,6 @@
--- A tenant's file after a call on it: which record places hold changes, by each slot's status, and which values its words have.
--- Used by: Files/CallFiles, Files/SuccessfulCalls, Files/Room, mw_rule. Its statements may change with mw_rule; its proofs may
--- change freely.
+-- A tenant's file after a call on it: which record places hold changes, by each slot's status, and which values its words
+-- have.
+-- Used by: mw_rule.
 use Rattle.std.specs.Prelude.{ℕ, zero, suc, ◌≡◌, ◌≢◌, ◌<◌, ◌+◌, ◌==◌, Bool, true, false, if◌then◌else◌, List, [], ◌∷◌, length, set, Option, Some, None}
 use Rattle.std.specs.Option.{option_map_or}
 use Rattle.std.proofs.Common.{refl, sym, ap, subst, ◌∙◌, arith}

@@ -1,6 +1,5 @@
--- Each move (elementary change of shared words) keeps `HasFiles`: the shared words agree with the tenants' files. There are
--- three exceptions: a fault set at a door, a slot freed while its change is in its file, and the moves of a call on a file.
--- Used by: Files/TurnFiles, Files/CallFiles. It may change freely as long as this crate checks.
+-- Each move (elementary change of shared words) keeps `HasFiles`. Exceptions: a fault set at a door, a slot freed while its
+-- change is in its file, and the moves of a call on a file.
 use Rattle.std.specs.Prelude.{ℕ, ◌≡◌, false, List, [], ◌∷◌}
 use Rattle.std.proofs.Common.{refl, sym, ap, ◌∙◌, arith}
 use Rattle.std.proofs.lemmas.Bool.Decides.{nat_tests}

@@ -1,5 +1,5 @@
 -- After a run an event can happen exactly if it is ready: it passes the simple conditions of `specs/Files/Ready`.
--- Used by: the law ready_events_happen, mw_rule. Its statements may change with mw_rule; its proofs may change freely.
+-- Used by: ready_events_happen, mw_rule.
 use Rattle.std.specs.Prelude.{ℕ, ◌≡◌, ◌<◌, ◌&&◌, ◌==◌, not, is_none, is_some, Bool, true, false, if◌then◌else◌, nat_lt, List, length, Option, Some, None}
 use Rattle.std.proofs.Common.{refl, sym, ap, subst, arith}
 use Rattle.std.proofs.lemmas.Bool.Decides.{nat_tests}

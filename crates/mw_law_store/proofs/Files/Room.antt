@@ -1,5 +1,5 @@
 -- While a slot is taken for a tenant, and the slot's change isn't in the tenant's file, a record place of that file is empty.
--- Used by: Files/CallsCanBeMade, the law outside_leaves_room. It may change freely as long as this crate checks.
+-- Used by: outside_leaves_room.
 use Rattle.std.specs.Prelude.{ℕ, zero, suc, ◌≡◌, ◌<◌, ◌≤◌, ◌+◌, ◌⊎◌, ◌==◌, ◌&&◌, Bool, true, false, if◌then◌else◌}
 use Rattle.std.proofs.Common.{refl, ap, subst, inl, inr, arith}
 use Rattle.std.proofs.lemmas.Bool.Decides.{nat_tests}

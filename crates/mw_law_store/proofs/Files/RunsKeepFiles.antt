@@ -1,7 +1,6 @@
 -- Every event keeps `HasFiles` (the shared words agree with the tenants' files), so the world's whole invariant holds after
 -- every run.
--- Used by: the laws events_keep_files and runs_have_files, Files/EnabledEvents, ServiceLaws, WorldFactLaws, mw_rule. Its
--- statements may change with mw_rule; its proofs may change freely.
+-- Used by: events_keep_files, runs_have_files, mw_rule, mw_law_threads.
 use Rattle.std.specs.Prelude.{◌≡◌, [], ◌∷◌, Option, Some, None}
 use Rattle.std.specs.Option.{option_and_then}
 use Rattle.std.proofs.Common.{refl, subst}

@@ -1,7 +1,5 @@
--- A step keeps `HasFiles` (the shared words agree with the tenants' files) if it leaves what that speaks of. These are the
--- faults of doors, the values of words, the tenants' files, and what is due to each slot there.
--- Used by: Files/MovesKeepFiles, Files/CallFiles, Files/TurnFiles, Files/ArrivalsAndStarts, Files/SuccessfulCalls,
--- WorldFactLaws/Turns. It may change freely as long as this crate checks.
+-- A step keeps `HasFiles` (the shared words agree with the tenants' files) if it leaves the faults of doors, the values of
+-- words, the tenants' files, and what is due to each slot there.
 use Rattle.std.specs.Prelude.{ℕ, ◌≡◌, ◌≢◌, ◌⊎◌, Bool}
 use Rattle.std.proofs.Common.{refl, sym, subst, ◌∙◌, inl, inr}
 use Rattle.mw_world_file.specs.Files.{File}

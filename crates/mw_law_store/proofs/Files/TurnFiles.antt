@@ -1,6 +1,5 @@
 -- A step of a request that is no call on a file keeps `HasFiles`: the shared words agree with the tenants' files.
--- Used by: the law turns_keep_files, Files/RunsKeepFiles, MarksOfEvents, WorldFactLaws/Turns, Beside/Tenants. It may change
--- freely as long as this crate checks.
+-- Used by: turns_keep_files.
 use Rattle.std.specs.Prelude.{ℕ, ◌≡◌, ◌≤◌, ◌⊎◌, ◌&&◌, ◌==◌, ◌++◌, not, Bool, true, false, cond, is_some, if◌then◌else◌, List, [], ◌∷◌, Option, Some, None}
 use Rattle.std.proofs.Common.{refl, sym, ap, subst, ◌∙◌, inl, inr, arith}
 use Rattle.mw_words.specs.declared.jobs.Entry.{Entry}

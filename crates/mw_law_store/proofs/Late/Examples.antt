@@ -1,6 +1,6 @@
--- The example of `specs/Late/Examples` comes out: a late mark (put in before other marks) is legal at its place and illegal at the
--- end.
--- Used by: a_late_mark_comes_out. It may change freely as long as this crate checks.
+-- The example of `specs/Late/Examples` comes out: a late mark (put in before other marks) is legal at its place and illegal
+-- at the end.
+-- Used by: a_late_mark_comes_out.
 use Rattle.std.proofs.Common.{◌≡◌, ◌≢◌, ℕ, ◌<◌, true, List, [], ◌∷◌, refl, ap, ◌∙◌, arith, Option, Some}
 use Rattle.std.specs.Prelude.{slice_set}
 use Rattle.std.specs.Option.{option_and_then, option_map}

@@ -1,6 +1,5 @@
 -- A mark (event of a tenant's history) may be put in late at its reserved place, if its request has no reply at the end.
--- Used by: the law late_marks_are_legal, ReservedPlaces, Examples, mw_law_store. Its statements may change with mw_law_store;
--- its proofs may change freely.
+-- Used by: late_marks_are_legal.
 use Rattle.std.proofs.Common.{◌≡◌, ◌≢◌, ℕ, zero, suc, ◌<◌, ◌≤◌, Bool, true, false, List, [], ◌∷◌, take, drop, refl, sym, ap, subst, ◌∙◌, arith, Option, Some, None, is_none, inl, inr}
 use Rattle.std.specs.Prelude.{◌&&◌, ◌==◌, not, slice_set}
 use Rattle.std.proofs.lemmas.Bool.{cases_eq}

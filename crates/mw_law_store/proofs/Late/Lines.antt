@@ -1,6 +1,4 @@
--- Running a list of lines, each one mark or an empty place, is running its marks.
--- Used by: the law lines_are_run, LateAnswers, ReservedPlaces, mw_law_store. Its statements may change with mw_law_store; its
--- proofs may change freely.
+-- Running a list of lines, each one mark or an empty place, is running its marks. Used by: lines_are_run, mw_law_threads.
 use Rattle.std.proofs.Common.{◌≡◌, ℕ, List, [], ◌∷◌, ◌++◌, refl, sym, ap, ◌∙◌, append-nil, Option, Some, None}
 use Rattle.std.proofs.Math.ListN.{take, drop}
 use Rattle.std.specs.Option.{option_and_then, option_to_list}

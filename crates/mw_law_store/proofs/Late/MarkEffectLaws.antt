@@ -1,7 +1,6 @@
--- Each mark of a store alone is legal exactly if the conditions in `specs/Late/MarkEffects` hold, and leaves the store that is
--- listed there.
--- Used by: the law marks_do, LateAnswers, RequestNumbers, RequestsOfMarks, mw_law_store. Its statements may change with
--- mw_law_store; its proofs may change freely.
+-- Each mark of a store alone is legal exactly if the conditions in `specs/Late/MarkEffects` hold, and leaves the store that
+-- is listed there.
+-- Used by: marks_do, mw_law_threads.
 use Rattle.std.proofs.Common.{◌≡◌, ◌≢◌, ℕ, Bool, true, false, not, List, [], ◌∷◌, length, refl, sym, ap, ◌∙◌, arith, Option, Some, None, is_some, is_none}
 use Rattle.std.specs.Prelude.{◌&&◌, ◌||◌, ◌==◌, if◌then◌else◌, nat_lt}
 use Rattle.std.proofs.lemmas.Bool.Decides.{nat_tests}

@@ -1,6 +1,4 @@
--- After every legal run of a store alone, each request that was asked has a number below the next one.
--- Used by: the law runs_number, LateAnswers, Examples, ReservedPlaces, mw_law_store. Its statements may change with
--- mw_law_store; its proofs may change freely.
+-- After every legal run of a store alone, each request that was asked has a number below the next one. Used by: runs_number.
 use Rattle.std.proofs.Common.{◌≡◌, ℕ, ◌+◌, ◌<◌, ◌≤◌, Bool, true, false, List, [], ◌∷◌, sym, ap, subst, ◌∙◌, arith, Some, is_none, inl, inr}
 use Rattle.std.proofs.lemmas.Bool.{cases_eq}
 use Rattle.std.proofs.lemmas.Option.{same_Some, none-some, option_and_then_some}

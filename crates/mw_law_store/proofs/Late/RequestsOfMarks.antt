@@ -1,6 +1,5 @@
 -- A mark that isn't about a request commutes with a reply to that request, and leaves the request as it was.
--- Used by: the law replies_commute, LateAnswers, RequestNumbers, mw_law_store. Its statements may change with mw_law_store; its
--- proofs may change freely.
+-- Used by: replies_commute.
 use Rattle.std.proofs.Common.{◌≡◌, ◌≢◌, ℕ, ◌+◌, ◌-◌, true, false, sym, ap, ◌∙◌, arith, Option, Some, inl, inr}
 use Rattle.std.specs.Prelude.{◌==◌}
 use Rattle.std.proofs.lemmas.Bool.{cases_eq}

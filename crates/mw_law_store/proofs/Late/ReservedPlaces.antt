@@ -1,5 +1,5 @@
 -- A place reserved in a history for a late mark stays reserved when a line is added or another late mark is put in.
--- Used by: places_stay_reserved, mw_law_store. Its statements may change with mw_law_store; its proofs may change freely.
+-- Used by: places_stay_reserved.
 use Rattle.std.proofs.Common.{◌≡◌, ◌≢◌, ℕ, zero, suc, List, [], ◌∷◌, ◌++◌, length, take, drop, refl, sym, ap, subst, ◌∙◌, arith, Option, Some, None, inl, inr}
 use Rattle.std.specs.Prelude.{slice_set}
 use Rattle.std.proofs.Math.Seq.{take-append_seam}

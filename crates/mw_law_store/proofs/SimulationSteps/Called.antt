@@ -1,5 +1,4 @@
--- Each tenant's store alone simulates a call on a file, however the call ends.
--- Used by: RunSimulation. It may change freely as long as this crate checks.
+-- Each tenant's store alone simulates a call on a file, however the call ends. Used by: mw_law_threads.
 use Rattle.std.specs.Prelude.{ℕ, ◌≡◌, ◌≢◌, Bool, true, false, Option, Some, None}
 use Rattle.std.proofs.Common.{refl, sym, ap, subst, ◌∙◌, inl, inr}
 use Rattle.std.proofs.lemmas.Bool.{cases_eq}

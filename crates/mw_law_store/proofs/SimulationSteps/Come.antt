@@ -1,5 +1,5 @@
 -- Each tenant's store alone simulates a request that comes: its own store is asked, and another tenant's store stays.
--- Used by: RunSimulation. It may change freely as long as this crate checks.
+-- Used by: mw_law_threads.
 use Rattle.std.specs.Prelude.{ℕ, ◌≡◌, ◌≢◌, ◌<◌, ◌&&◌, true, false, is_none, nat_lt, Some}
 use Rattle.std.proofs.Common.{refl, sym, ap, subst, ◌∙◌, inl, inr}
 use Rattle.std.proofs.lemmas.Bool.{cases_eq}

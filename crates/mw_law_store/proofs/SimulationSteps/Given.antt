@@ -1,7 +1,4 @@
--- Defines what a step gives the simulation besides its end: what it found at the tenant's file, door and gates. This depends on
--- its label, the addition to the history.
--- Used by: SimulationSteps/Turns, SimulationSteps/ReadSteps, SimulationSteps/ChangeSteps, SimulationSteps/ReplySteps,
--- SimulationSteps/StepsByPoint. It may change freely as long as this crate checks.
+-- Defines what a step gives the simulation besides its end, by its label: what it found at the tenant's file, door and gates.
 use Rattle.std.specs.Prelude.{ℕ, ◌≡◌, ◌≢◌, ◌<◌, true, false, List, slice_get, Some, None}
 use Rattle.mw_words.specs.declared.jobs.Entry.{Entry}
 use Rattle.mw_words.specs.declared.jobs.Job.TheVariants.{Get}

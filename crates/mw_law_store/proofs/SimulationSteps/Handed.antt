@@ -1,6 +1,6 @@
--- Each tenant's store alone simulates a reply that is handed out: its own store hands out the same, and another tenant's store
--- stays.
--- Used by: RunSimulation. It may change freely as long as this crate checks.
+-- Each tenant's store alone simulates a reply that is handed out: its own store hands out the same, and another tenant's
+-- store stays.
+-- Used by: mw_law_threads.
 use Rattle.std.specs.Prelude.{ℕ, ◌≡◌, ◌≢◌, ◌==◌, Bool, true, false, if◌then◌else◌, Option, Some, None}
 use Rattle.std.specs.Option.{option_and_then, option_map}
 use Rattle.std.proofs.Common.{refl, sym, ap, subst, ◌∙◌, inl, inr, arith}

@@ -1,7 +1,4 @@
--- Reduces the simulation of an event that is no start to a list of facts about that event. If the tenant's marks were legal,
--- they still are.
--- Used by: RunSimulation, SimulationSteps/Turns, SimulationSteps/Called, SimulationSteps/Come, SimulationSteps/Handed, other
--- pages. It may change freely as long as this crate checks.
+-- Reduces the simulation of an event that is no start to a list of facts about that event. Used by: mw_law_threads.
 use Rattle.std.specs.Prelude.{ℕ, ◌≡◌, ◌≢◌, true, false, List, Option, Some}
 use Rattle.std.proofs.Common.{sym, ap, subst, ◌∙◌, inl, inr}
 use Rattle.std.proofs.lemmas.Bool.{cases_eq}

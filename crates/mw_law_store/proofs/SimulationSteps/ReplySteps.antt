@@ -1,5 +1,4 @@
 -- When a request is about to take back its own change's pin and then reply, that change is finished and has this reply.
--- Used by: SimulationSteps/StepsByPoint, SimulationSteps/Turned. It may change freely as long as this crate checks.
 use Rattle.std.specs.Prelude.{◌≡◌, ◌≢◌, ◌⊎◌, Bool, true, false, List, Some}
 use Rattle.std.proofs.Common.{refl, sym, ap, subst, ◌∙◌, inl, inr}
 use Rattle.mw_words.specs.declared.jobs.Entry.{Entry}

@@ -1,5 +1,5 @@
 -- At each start, the first or a later one, some store alone simulates each tenant, and tells the tenant's words and file.
--- Used by: RunSimulation. It may change freely as long as this crate checks.
+-- Used by: mw_law_threads.
 use Rattle.std.specs.Prelude.{ℕ, ◌≡◌, ◌++◌, Bool, List, [], ◌∷◌, is_none, Option, Some}
 use Rattle.std.specs.FinMap as map
 use Rattle.std.specs.Ordering.{nat_cmp}

@@ -1,6 +1,5 @@
--- A step after which its request has no reserved place: what it adds to one tenant's history, and how that tenant's store alone
--- steps.
--- Used by: SimulationSteps/Called, SimulationSteps/EndsOfCalls. It may change freely as long as this crate checks.
+-- A step after which its request has no reserved place: what it adds to one tenant's history, and how that tenant's store
+-- alone steps.
 use Rattle.std.specs.Prelude.{ℕ, ◌≡◌, ◌≢◌, true, false, Some, None}
 use Rattle.std.proofs.Common.{refl, sym, ap, ◌∙◌}
 use Rattle.mw_lone.specs.declared.marks.Mark.{Mark}

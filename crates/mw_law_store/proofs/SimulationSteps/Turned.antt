@@ -1,5 +1,4 @@
--- Each tenant's store alone simulates a step of a request that is no call on a file.
--- Used by: RunSimulation, MarksOfEvents. It may change freely as long as this crate checks.
+-- Each tenant's store alone simulates a step of a request that is no call on a file. Used by: mw_law_threads.
 use Rattle.std.specs.Prelude.{ℕ, ◌≡◌, ◌≢◌, ◌&&◌, not, Bool, true, false, is_some, if◌then◌else◌, Option, Some, None}
 use Rattle.std.proofs.Common.{refl, sym, ap, subst, ◌∙◌, inl, inr}
 use Rattle.std.proofs.lemmas.Bool.{cases_eq}

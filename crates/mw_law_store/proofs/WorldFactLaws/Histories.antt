@@ -1,6 +1,4 @@
 -- A worker's moves (elementary changes) keep the world facts about decided faults and about the tenants of changes.
--- Used by: WorldFactLaws, WorldFactLaws/Turns, WorldFactLaws/Calls, WorldFactLaws/Requests. It may change freely as long as
--- this crate checks.
 use Rattle.std.specs.Prelude.{ℕ, ◌≡◌, ◌⊎◌, Bool, true, false, List, [], ◌∷◌}
 use Rattle.std.proofs.Common.{refl, sym, ◌∙◌, inl, inr, arith}
 use Rattle.std.proofs.lemmas.Bool.Decides.{nat_tests}

@@ -1,6 +1,4 @@
 -- A request passes its tenant's door only if the door has no fault; and a change's request is never at a point of a read.
--- Used by: WorldFactLaws/Requests, WorldFactLaws/Turns, EndsRead, SimulationSteps/ChangeSteps, SimulationSteps/StepsByPoint,
--- WorldFactLaws/Calls. It may change freely as long as this crate checks.
 use Rattle.std.specs.Prelude.{ℕ, ◌≡◌, ◌⊎◌, ◌+◌, Bool, true, false, cond, nat_lt}
 use Rattle.std.proofs.Common.{refl, ap, inl, inr}
 use Rattle.mw_words.specs.declared.doors.Door.{Door}

@@ -1,5 +1,4 @@
 -- A step of one worker's request keeps the world facts about each request's tenant and about what a read has loaded.
--- Used by: WorldFactLaws, WorldFactLaws/Turns, WorldFactLaws/Calls. It may change freely as long as this crate checks.
 use Rattle.std.specs.Prelude.{ℕ, ◌≡◌, ◌≢◌, ◌<◌, ◌⊎◌, Bool, true, false, Some}
 use Rattle.std.proofs.Common.{refl, sym, ap, subst, ◌∙◌, inl, inr, arith}
 use Rattle.std.proofs.lemmas.Bool.Decides.{nat_tests}

@@ -1,5 +1,4 @@
--- States that the world's own tests refuse nothing that a request or a start asks for.
--- Used by: the laws of src/file_laws.rt. A change here changes what these laws say.
+-- States that the world's own tests refuse nothing that a request or a start asks for. Used by: src/file_laws.rt.
 use Rattle.std.specs.Prelude.{ℕ, ◌≡◌, List, Option, Some}
 use Rattle.mw_actor.specs.ActorState.{ActorState}
 use Rattle.mw_world.specs.declared.config.Config.{Config}

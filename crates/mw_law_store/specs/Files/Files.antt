@@ -1,7 +1,6 @@
 -- Defines `HasFiles`: the shared words agree with each tenant's file, and each change in a file has a record place of its own
 -- there.
--- Used by: specs/Files/Enabled, specs/Files/Laws, specs/Files/Room, specs/Laws, mw_rule. Contracts use it through these: a
--- change here changes what they say.
+-- Used by: mw_rule.
 use Rattle.std.specs.Prelude.{ℕ, ◌≡◌, List, length, is_none, Option}
 use Rattle.mw_world_file.specs.Restarts.{opened_file}
 use Rattle.mw_world.specs.declared.config.Config.{Config}

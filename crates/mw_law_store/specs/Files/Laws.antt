@@ -1,5 +1,5 @@
 -- States which worlds have `HasFiles` (the shared words agree with the tenants' files), and that every event keeps it.
--- Used by: the laws of src/file_laws.rt. A change here changes what these laws say.
+-- Used by: src/file_laws.rt.
 use Rattle.std.specs.Prelude.{ℕ, ◌≡◌, ◌<◌, List, Some}
 use Rattle.mw_words.specs.declared.jobs.Job.{Job}
 use Rattle.mw_world_file.specs.declared.outcomes.Outcome.{Outcome}

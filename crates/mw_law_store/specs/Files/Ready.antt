@@ -1,6 +1,5 @@
--- Defines when an event is ready, by simple conditions, and states that after a run exactly the ready events can happen. The
--- other tests of the definition, of places and of a file's records, refuse none of these.
--- Used by: the laws of src/file_laws.rt, mw_rule. A change here changes what these laws say.
+-- Defines when an event is ready, by simple conditions, and states that after a run exactly the ready events can happen.
+-- Used by: src/file_laws.rt, mw_rule.
 use Rattle.std.specs.Prelude.{ℕ, ◌≡◌, ◌<◌, true, false, List, length, Some, None}
 use Rattle.mw_words.specs.declared.jobs.Job.{Job}
 use Rattle.mw_words.specs.declared.replies.Reply.{Reply}

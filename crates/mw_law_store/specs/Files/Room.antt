@@ -1,5 +1,5 @@
 -- States that a tenant's file has an empty record place while a slot is taken for the tenant without its change in the file.
--- Used by: the laws of src/file_laws.rt. A change here changes what these laws say.
+-- Used by: src/file_laws.rt.
 use Rattle.std.specs.Prelude.{ℕ, ◌≡◌, ◌<◌, ◌≤◌, true, false}
 use Rattle.mw_world_file.specs.Files.{File, is_empty, empty_from}
 use Rattle.mw_world.specs.declared.config.Config.{Config}

@@ -1,5 +1,5 @@
 -- An example: in a history of one word, a refusal is legal at a place that was reserved for it, and illegal at the end.
--- Used by: the laws of src/late_laws.rt. A change here changes what these laws say.
+-- Used by: src/late_laws.rt.
 use Rattle.std.specs.Prelude.{ℕ, ◌≡◌, List, [], ◌∷◌, slice_set, Option, Some, None}
 use Rattle.std.specs.Option.{option_and_then, option_map}
 use Rattle.mw_words.specs.declared.jobs.Job.{Job}

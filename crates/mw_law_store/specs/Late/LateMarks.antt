@@ -1,6 +1,6 @@
--- Defines histories with room for late marks: each line is a mark or an empty place. Defines when a place is reserved for a
+-- Defines histories with room for late marks (each line is a mark or an empty place), and when a place is reserved for a
 -- mark.
--- Used by: specs/Late/Examples, specs/Late/Laws, mw_law_store. Contracts use it through these: a change here changes what they say.
+-- Used by: specs/Late/Examples, specs/Late/Laws, mw_law_threads.
 use Rattle.std.specs.Prelude.{ℕ, ◌<◌, ◌≡◌, ◌≢◌, ◌==◌, ◌++◌, Bool, true, false, List, [], ◌∷◌, slice_get, Option, Some, None}
 use Rattle.std.specs.List.{flat_map}
 use Rattle.std.specs.Option.{option_and_then, option_to_list}

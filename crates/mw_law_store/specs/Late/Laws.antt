@@ -1,5 +1,5 @@
 -- The statements that this crate proves of marks: what each does to a store alone, and that a mark may be put in late.
--- Used by: the laws of src/late_laws.rt. A change here changes what these laws say.
+-- Used by: src/late_laws.rt.
 use Rattle.std.specs.Prelude.{ℕ, ◌≡◌, ◌≢◌, ◌++◌, true, false, not, List, length, Option, Some, None, slice_set}
 use Rattle.std.specs.List.{list_all}
 use Rattle.std.proofs.Math.ListN.{drop}

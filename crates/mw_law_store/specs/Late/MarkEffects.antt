@@ -1,6 +1,6 @@
--- Lists for each mark the conditions under which it is legal in a store alone, and the store that it leaves. The store's own
--- functions say what a well-formed job is, when entries fit, and what writing and starting leave.
--- Used by: specs/Late/Laws, mw_law_store. Contracts use it through these: a change here changes what they say.
+-- Lists for each mark the conditions under which it is legal in a store alone, and the store that it leaves, by the store's
+-- own functions.
+-- Used by: specs/Late/Laws, mw_law_threads.
 use Rattle.std.specs.Prelude.{ℕ, ◌+◌, ◌-◌, ◌<◌, ◌≡◌, ◌≢◌, Bool, true, false, [], slice_get, length, Option, Some, None, if◌then◌else◌}
 use Rattle.mw_words.specs.declared.jobs.Entry.{Entry}
 use Rattle.mw_words.specs.declared.jobs.Job.{Job}

@@ -1,6 +1,6 @@
--- A crash leaves of a tenant's file the words of the latest start with whole changes put over them. If a pass was answered YES, its
--- change is one of these; if it was answered otherwise, its change is there wholly or not at all.
--- Used by: the laws of src/durable_laws.rt, mw_law_threads. It may change freely as long as both crates check.
+-- A crash leaves of a tenant's file the words of the latest start with whole changes put over them. That of a YES is one of
+-- these; any other is there wholly or not at all.
+-- Used by: src/durable_laws.rt.
 use Rattle.std.specs.Prelude.{ℕ, zero, suc, ◌≡◌, ◌<◌, ◌++◌, List, [], ◌∷◌, map, slice_get, Option, Some}
 use Rattle.std.proofs.Common.{refl, sym, ap, subst, ◌∙◌, inl, inr, append_assoc}
 use Rattle.std.proofs.lemmas.Option.{none-some}

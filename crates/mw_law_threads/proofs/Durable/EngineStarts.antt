@@ -1,5 +1,5 @@
 -- The words that an engine's start gives a tenant are those that the opening of its file found.
--- Used by: the law engines_start_with_changes. It may change freely as long as this crate checks.
+-- Used by: engines_start_with_changes.
 use Rattle.std.specs.Prelude.{ℕ, zero, suc, ◌≡◌, ◌⊎◌, List, [], ◌∷◌, slice_get, Option, Some, Vec, Ok}
 use Rattle.std.specs.declared.alloc.Global.{Global}
 use Rattle.std.proofs.Common.{ap, ◌∙◌, inl, inr}

@@ -1,5 +1,4 @@
--- A start that opens what a crash left finds the words that the crash left, and no damage.
--- Used by: the law starts_find_changes. It may change freely as long as this crate checks.
+-- A start that opens what a crash left finds the words that the crash left, and no damage. Used by: starts_find_changes.
 use Rattle.std.specs.Prelude.{ℕ, ◌≡◌, is_none, if◌then◌else◌, List, [], Option, Some, None, Vec, Result, Ok, Err, IsTrue}
 use Rattle.std.specs.declared.alloc.Global.{Global}
 use Rattle.std.proofs.Common.{sym, ap, ◌∙◌, inl, inr}

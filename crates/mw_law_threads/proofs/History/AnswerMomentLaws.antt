@@ -1,6 +1,6 @@
--- A request that was answered has its moment in each run that goes on from the one that its thread knew and hands its reply out. The
--- reply is handed out after the request came, because before that its number was not given; so the model's law on moments applies.
--- Used by: the law answers_have_moments, mw_law_threads. It may change freely as long as both crates check.
+-- A request that was answered has its moment in each run that goes on from the one that its thread knew and hands its reply
+-- out.
+-- Used by: answers_have_moments.
 use Rattle.std.specs.Prelude.{ℕ, zero, suc, ◌≡◌, ◌++◌, List, [], ◌∷◌, slice_get, Option, Some}
 use Rattle.std.proofs.Common.{refl, sym, ap, subst, ◌∙◌, inl, inr, arith, append_assoc}
 use Rattle.std.proofs.lemmas.List.{append_cancel_left}

@@ -1,5 +1,5 @@
--- A reply that a pass gave is handed out in every run that goes on from the one that the pass knew with it. So the laws of one run apply.
--- Used by: the law answers_are_in_one_run, OwnRequestLaws. It may change freely as long as this crate checks.
+-- A reply that a pass gave is handed out in every run that goes on from the one that the pass knew with it.
+-- Used by: answers_are_in_one_run.
 use Rattle.std.specs.Prelude.{ℕ, ◌≡◌, ◌<◌, ◌++◌, List, [], ◌∷◌, map, slice_get, Option, Some}
 use Rattle.std.proofs.Common.{refl, sym, ap, subst, ◌∙◌, inl, inr}
 use Rattle.atomic_table.specs.Table.{State as Table}

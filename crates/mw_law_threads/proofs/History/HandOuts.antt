@@ -1,6 +1,4 @@
--- The event of a run that hands out a reply. No reply is handed out before its request comes, because until then its number is not
--- given.
--- Used by: AnswerMomentLaws. It may change freely as long as this crate checks.
+-- The event of a run that hands out a reply. No reply is handed out before its request comes.
 use Rattle.std.specs.Prelude.{ℕ, zero, suc, ◌≡◌, ◌⊎◌, ◌++◌, List, [], ◌∷◌, slice_get, Option, Some, None}
 use Rattle.std.specs.Option.{option_and_then, option_map, option_to_list, unwrap_or}
 use Rattle.std.proofs.Common.{refl, sym, ap, ◌∙◌, inl, inr, arith}

@@ -1,6 +1,6 @@
--- The rule of the shared words has one run behind all views. What each view has finished is right among the changes that it has seen,
--- so also among all sealed changes of that run; and the rule counts each request once over all views.
--- Used by: the law every_moment_has_one_history. It may change freely as long as this crate checks.
+-- The rule of the shared words has one run behind all views. What each view has finished is right among all sealed changes of
+-- that run, and each request counts once over all views.
+-- Used by: every_moment_has_one_history.
 use Rattle.std.specs.Prelude.{ℕ, zero, suc, ◌≡◌, ◌≢◌, ◌≤◌, ◌⊎◌, ◌++◌, List, [], ◌∷◌, slice_get, Some}
 use Rattle.std.proofs.Common.{refl, sym, ap, subst, ◌∙◌, inl, inr, arith}
 use Rattle.std.proofs.lemmas.Bool.{cases_eq}

@@ -1,6 +1,4 @@
--- From the arrival of a request on, no other worker has a request of its tenant under its number. So the reply that is handed out under
--- this number is handed out by the worker to which the request came.
--- Used by: AnswerMomentLaws, CauseMoments. It may change freely as long as this crate checks.
+-- The reply that is handed out under a request's number is handed out by the worker to which the request came.
 use Rattle.std.specs.Prelude.{ℕ, ◌≡◌, ◌≢◌, ◌<◌, ◌≤◌, ◌==◌, ◌++◌, if◌then◌else◌, Bool, true, false, List, [], ◌∷◌, Option, Some, None}
 use Rattle.std.specs.Option.{option_map}
 use Rattle.std.proofs.Common.{refl, sym, ap, subst, ◌∙◌, inl, inr, arith}

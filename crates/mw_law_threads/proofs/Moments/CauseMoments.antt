@@ -1,6 +1,5 @@
--- BUSY and FAULT have a moment of the call: what the request's own steps found was so in the world at a moment between its arrival and
--- its reply. The findings are collected event by event, in a token as mw_rule has it, so that its laws on evidence apply.
--- Used by: MomentLaws. It may change freely as long as this crate checks.
+-- BUSY and FAULT have a moment of the call: what the request's own steps found was so in the world at a moment between its
+-- arrival and its reply.
 use Rattle.std.specs.Prelude.{ℕ, zero, suc, ◌≡◌, ◌<◌, ◌⊎◌, ◌++◌, ◌&&◌, if◌then◌else◌, not, Bool, true, false, is_none, is_some, List, [], ◌∷◌, slice_get, Option, Some, None}
 use Rattle.std.proofs.Common.{refl, sym, ap, subst, ◌∙◌, inl, inr, arith, append-nil, append_assoc}
 use Rattle.std.proofs.lemmas.Option.{none-some, option_and_then_some, same_Some}

@@ -1,7 +1,6 @@
--- Each reply was true at a moment of its call. The number of sealed changes grows one by one from the arrival of the request to
--- its reply. So it is at some moment the number of changes that are sealed before the request's mark. Of BUSY and FAULT see CauseMoments.
--- Used by: the law replies_have_moments, mw_law_threads. Its statements may change with mw_law_threads; its proofs may change
--- freely.
+-- Each reply was true at a moment of its call: when as many changes are sealed as before the request's mark. Of BUSY and
+-- FAULT see CauseMoments.
+-- Used by: replies_have_moments.
 use Rattle.std.specs.Prelude.{ℕ, zero, suc, ◌≡◌, ◌<◌, ◌≤◌, ◌⊎◌, ◌+◌, ◌==◌, ◌++◌, if◌then◌else◌, Bool, true, false, List, [], ◌∷◌, length, slice_get, Option, Some, None}
 use Rattle.std.proofs.Common.{refl, sym, ap, subst, ◌∙◌, inl, inr, arith, append_assoc, append-nil, length-append}
 use Rattle.std.proofs.Math.ListN.{take}

@@ -1,6 +1,6 @@
--- What a start finds after a crash of running threads is what the model's stop may have left: the words of the file in the run's last
--- world are those of the latest start with all sealed changes put over them. A crash in a seal is a stop in that seal.
--- Used by: the law crashes_leave_next_runs. It may change freely as long as this crate checks.
+-- What a start finds after a crash of running threads is what the model's stop may have left. A crash in a seal is a stop in
+-- that seal.
+-- Used by: crashes_leave_next_runs.
 use Rattle.std.specs.Prelude.{ℕ, ◌≡◌, ◌<◌, ◌⊎◌, ◌++◌, true, false, length, List, Option, Some, None}
 use Rattle.std.proofs.Common.{refl, sym, ap, subst, ◌∙◌, inl, inr}
 use Rattle.atomic_table.specs.Table.{State as Table}

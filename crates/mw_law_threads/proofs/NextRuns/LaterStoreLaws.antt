@@ -1,5 +1,6 @@
--- A store alone goes on over a start: what a new store takes from there on, the old one takes too, with later numbers of requests.
--- Used by: the law stores_go_on, OneStoreLaws. It may change freely as long as this crate checks.
+-- A store alone goes on over a start: what a new store takes from there on, the old one takes too, with later numbers of
+-- requests.
+-- Used by: stores_go_on.
 use Rattle.std.specs.Prelude.{ℕ, ◌+◌, ◌≡◌, ◌==◌, ◌&&◌, ◌||◌, not, Bool, true, false, is_none, length, if◌then◌else◌, List, [], ◌∷◌, ◌++◌, map, slice_get, Option, Some, None}
 use Rattle.std.specs.Option.{option_and_then, option_map, option_map_or, option_to_list, unwrap_or}
 use Rattle.std.specs.FinMap as maps

@@ -1,5 +1,6 @@
--- The run of the next server's table begins with what its threads know of the start: no event but a start changes what the latest start gave.
--- Used by: the law next_tables_are_of_one_store. It may change freely as long as this crate checks.
+-- The run of the next server's table begins with what its threads know of the start: no event but a start changes what the
+-- latest start gave.
+-- Used by: next_tables_are_of_one_store.
 use Rattle.std.specs.Prelude.{ℕ, ◌≡◌, ◌<◌, ◌++◌, List, [], ◌∷◌, Some}
 use Rattle.std.proofs.Common.{refl, sym, ap, subst, ◌∙◌}
 use Rattle.std.proofs.lemmas.Option.{option_and_then_some, same_Some}

@@ -1,6 +1,4 @@
--- Two servers' runs, with a start between them, are of one store alone: the start is a legal mark of the first run's store, and what it
--- leaves is the second run's first store, with later numbers.
--- Used by: the law next_runs_are_of_one_store, ServersInTurnLaws. It may change freely as long as this crate checks.
+-- Two servers' runs, with a start between them, are of one store alone. Used by: next_runs_are_of_one_store.
 use Rattle.std.specs.Prelude.{ℕ, ◌≡◌, ◌<◌, ◌≤◌, ◌⊎◌, ◌++◌, not, Bool, true, false, if◌then◌else◌, nat_le, List, [], ◌∷◌, map, Option, Some, None}
 use Rattle.std.proofs.Common.{refl, sym, ap, subst, ◌∙◌, inl, inr, append_assoc}
 use Rattle.std.proofs.lemmas.Bool.{and_from, le-leb}

@@ -1,6 +1,5 @@
--- A call that seals a change is cut off: in the run's last world its worker's request is at this call, which can be made. So the model's
--- stop may cut it off there, and what is in doubt then is the change that the call seals.
--- Used by: FoundAfterCrashLaws. It may change freely as long as this crate checks.
+-- A call that seals a change is cut off: the model's stop may cut it off there, and what is in doubt then is the change that
+-- the call seals.
 use Rattle.std.specs.Prelude.{ℕ, ◌≡◌, ◌<◌, ◌&&◌, ◌==◌, if◌then◌else◌, not, nat_le, Bool, true, false, List, Some}
 use Rattle.std.specs.Option.{option_map}
 use Rattle.std.proofs.Common.{sym, ap, subst, ◌∙◌, arith}

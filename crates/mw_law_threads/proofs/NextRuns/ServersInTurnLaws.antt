@@ -1,6 +1,4 @@
--- Servers that ran one after the other are of one store alone: the store of the first one takes its marks, the start, and all that the
--- later servers' one store takes.
--- Used by: the law servers_in_turn_are_of_one_store. It may change freely as long as this crate checks.
+-- Servers that ran one after the other are of one store alone. Used by: servers_in_turn_are_of_one_store.
 use Rattle.std.specs.Prelude.{ℕ, ◌+◌, ◌≡◌, ◌++◌, not, List, [], ◌∷◌, map}
 use Rattle.std.proofs.Common.{refl, sym, ap, subst, ◌∙◌, arith}
 use Rattle.mw_words.specs.declared.replies.Reply.{Reply}

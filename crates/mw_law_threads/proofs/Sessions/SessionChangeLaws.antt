@@ -1,6 +1,5 @@
--- What a session's note tells goes on from what the pass knew that answered it, whichever passes the session borrows later. So the law
--- of all passes on durable changes holds of the session.
--- Used by: the law sessions_keep_changes. It may change freely as long as this crate checks.
+-- What a session's note tells goes on from what the pass knew that answered it, whichever passes the session borrows later.
+-- Used by: sessions_keep_changes.
 use Rattle.std.specs.Prelude.{ℕ, ◌≡◌, List, [], ◌∷◌, Option, Some, None, MatchOption}
 use Rattle.std.proofs.Common.{refl, sym, subst, ◌∙◌}
 use Rattle.mw_disk.specs.Facts.{Facts}

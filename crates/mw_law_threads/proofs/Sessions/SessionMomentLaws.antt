@@ -1,6 +1,5 @@
--- The replies of a session that borrows its passes (handles to the engine) have their moments one after the other: each pass first
--- learned the run that the session's note tells, and the session's new note tells the run that the pass knew last.
--- Used by: the law replies_have_moments_in_order. It may change freely as long as this crate checks.
+-- The replies of a session that borrows its passes (handles to the engine) have their moments one after the other.
+-- Used by: replies_have_moments_in_order.
 use Rattle.std.specs.Prelude.{ℕ, ◌≡◌, List, [], ◌∷◌, Option, Some, None}
 use Rattle.std.proofs.Common.{refl, sym, ap, subst, ◌∙◌}
 use Rattle.std.proofs.lemmas.Option.{same_Some}

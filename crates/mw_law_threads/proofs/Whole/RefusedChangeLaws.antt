@@ -1,6 +1,5 @@
 -- A request that was answered VAL, NO or BUSY makes no change, at any moment from the reply on.
--- Used by: the law refused_requests_make_no_change, mw_law_threads. Its statements may change with mw_law_threads; its proofs
--- may change freely.
+-- Used by: refused_requests_make_no_change.
 use Rattle.std.specs.Prelude.{ℕ, ◌≡◌, ◌≢◌, ◌⊎◌, false, []}
 use Rattle.std.proofs.Common.{refl, sym, ap, ◌∙◌, inl, inr}
 use Rattle.std.proofs.lemmas.Option.{same_Some, none-some}

@@ -1,6 +1,5 @@
--- In each store alone that simulates a tenant, the change in doubt is that of a request which was answered FAULT. The file has failed
--- since, so the words are still those that the change fits.
--- Used by: WholeChangeLaws. It may change freely as long as this crate checks.
+-- In each store alone that simulates a tenant, the change in doubt is that of a request which was answered FAULT, and the
+-- words are still those that it fits.
 use Rattle.std.specs.Prelude.{ℕ, ◌≡◌, ◌≢◌, ◌⊎◌, true, false, List, [], Option, Some, None}
 use Rattle.std.proofs.Common.{refl, sym, ap, subst, ◌∙◌, inl, inr, arith}
 use Rattle.std.proofs.lemmas.Option.{same_Some, none-some}

@@ -1,6 +1,4 @@
--- After every run some store alone simulates a tenant, of which this holds too: its change in doubt is that of a request which was
--- answered FAULT, and each request that was handed a reply other than WORN has that reply, or a start has dropped it.
--- Used by: WholeChangeLaws, RefusedChangeLaws. It may change freely as long as this crate checks.
+-- After every run some store alone simulates a tenant, of which AnsweredRequests and StoresInDoubt hold too.
 use Rattle.std.specs.Prelude.{ℕ, ◌≡◌, ◌<◌, false, ◌++◌, List, [], ◌∷◌, length, slice_get, Option, Some, None}
 use Rattle.std.proofs.Common.{refl, sym, ap, ◌∙◌, inl, inr, arith}
 use Rattle.std.proofs.lemmas.Option.{none-some}

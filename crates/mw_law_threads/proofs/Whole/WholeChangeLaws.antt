@@ -1,7 +1,5 @@
--- The changes in a tenant's file, its change in doubt and its sealed changes are just what requests asked for. The lines of its
--- history say so of the entries of each request, and its store ties them to the file.
--- Used by: the law changes_are_whole, mw_law_threads. Its statements may change with mw_law_threads; its proofs may change
--- freely.
+-- The changes in a tenant's file, its change in doubt and its sealed changes are just what requests asked for.
+-- Used by: changes_are_whole.
 use Rattle.std.specs.Prelude.{ℕ, ◌≡◌, ◌≢◌, ◌<◌, ◌⊎◌, true, false, Bool, ◌++◌, List, [], ◌∷◌, length, slice_get, Option, Some, None}
 use Rattle.std.proofs.Common.{refl, sym, ap, subst, ◌∙◌, inl, inr}
 use Rattle.std.proofs.lemmas.Option.{same_Some, none-some}

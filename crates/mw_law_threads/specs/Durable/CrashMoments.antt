@@ -1,6 +1,6 @@
--- Defines the moments at which a crash may come, of one tenant's file: while no call on the file is under way, in a call before its
--- event, and in a call after its event. A call's event is its one step on the shared words, by which the run goes on.
--- Used by: specs/Durable/Durable, specs/Sessions/SessionChanges. A change here changes what their laws say.
+-- Defines the moments at which a crash may come, of one tenant's file: between two calls, in a call before its event (its one
+-- step on the shared words), and in a call after it.
+-- Used by: specs/Durable/Durable, specs/Sessions/SessionChanges.
 use Rattle.std.specs.Prelude.{ℕ, ◌≡◌, List, [], ◌∷◌, Option}
 use mathlib.Core.Option.{some}
 use lib.ListN.{get_elem?}

@@ -1,6 +1,6 @@
--- Defines what a crash may leave of a tenant's file: words that come from whole changes, each just what one request asked for. A
--- change that was answered YES is one of these. One that was answered FAULT or nothing is there wholly or not at all.
--- Used by: the laws of src/durable_laws.rt, mw_law_threads. A change here changes what these laws say.
+-- Defines what a crash may leave of a tenant's file: words that come from whole changes, each just what one request asked
+-- for. A change that was answered YES is one of these. One that was answered FAULT or nothing is there wholly or not at all.
+-- Used by: src/durable_laws.rt.
 use Rattle.std.specs.Prelude.{ℕ, ◌≡◌, ◌⊎◌, ◌++◌, List, [], slice_get, Option, Some}
 use mathlib.Core.Option.{some}
 use lib.ListN.{get_elem?}

@@ -1,5 +1,5 @@
 -- Defines what a start finds of what a crash left, and gives its engine: the words with whole changes.
--- Used by: the laws starts_find_changes and engines_start_with_changes (src/durable_laws.rt). A change here changes what these laws say.
+-- Used by: starts_find_changes, engines_start_with_changes (src/durable_laws.rt).
 use Rattle.std.specs.Prelude.{ℕ, true, ◌≡◌, ◌⊎◌, List, [], slice_get, Option, Some, Vec, Result, Ok, Err, IsTrue}
 use Rattle.std.specs.declared.alloc.Global.{Global}
 use Rattle.mw_words.specs.declared.jobs.Entry.{Entry}

@@ -1,6 +1,6 @@
--- Defines the moment of a reply in one run: between the arrival of its request and the event that hands the reply out, the tenant's
+-- Defines the moment of a reply in one run: between the arrival of its request and the event that hands it out, the tenant's
 -- words, or its door, were as the reply says.
--- Used by: the laws of src/history_laws.rt, mw_law_threads. A change here changes what these laws say.
+-- Used by: src/history_laws.rt.
 use Rattle.std.specs.Prelude.{ℕ, ◌≡◌, ◌++◌, true, List, [], ◌∷◌, slice_get, Some}
 use mathlib.Core.Option.{some}
 use lib.ListN.{get_elem?}

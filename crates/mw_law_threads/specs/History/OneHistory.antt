@@ -1,5 +1,5 @@
 -- Defines the one history in which the replies of all passes are right at a moment of the shared words.
--- Used by: the law of src/history_laws.rt. A change here changes what this law says.
+-- Used by: src/history_laws.rt.
 use Rattle.std.specs.Prelude.{ℕ, ◌≡◌, ◌≢◌, ◌<◌, ◌≤◌, ◌⊎◌, ◌++◌, List, length, slice_get, Some}
 use mathlib.Core.Option.{some}
 use lib.ListN.{get_elem?}

@@ -1,7 +1,7 @@
--- Defines the moment of a reply, between the arrival of the request and the reply. Of a VAL, a NO or a YES: the tenant's words were as
--- the reply says. A mark of the request, which is an entry of the tenant's history, stands where as many changes are sealed as at this
--- moment. Of BUSY and FAULT: the tenant's door, the shared word that counts its slots, had the cause.
--- Used by: the law of src/moment_laws.rt, mw_law_threads. A change here changes what their laws say.
+-- Defines the moment of a reply, between the arrival of the request and the reply. VAL, NO and YES: the tenant's words were
+-- as the reply says, and the request's mark has its place where as many changes are sealed as at this moment. BUSY and FAULT:
+-- the tenant's door had the cause.
+-- Used by: src/moment_laws.rt.
 use Rattle.std.specs.Prelude.{ℕ, ◌≡◌, ◌≢◌, ◌<◌, ◌++◌, true, false, List, [], ◌∷◌, slice_get, Some}
 use Rattle.mw_words.specs.declared.jobs.Entry.{Entry}
 use Rattle.mw_words.specs.declared.jobs.Job.{Job}

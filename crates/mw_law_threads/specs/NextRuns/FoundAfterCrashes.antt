@@ -1,6 +1,5 @@
--- Defines that a start after a crash of running threads finds what the model's stop may have left. So the next server's run is of the same
--- store alone.
--- Used by: the law crashes_leave_next_runs (src/next_run_laws.rt). A change here changes what this law says.
+-- Defines that a start after a crash of running threads finds what the model's stop may have left.
+-- Used by: crashes_leave_next_runs (src/next_run_laws.rt).
 use Rattle.std.specs.Prelude.{ℕ, ◌≡◌, ◌⊎◌, List}
 use mathlib.Core.Option.{some}
 use lib.ListN.{get_elem?}

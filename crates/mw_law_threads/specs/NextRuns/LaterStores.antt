@@ -1,6 +1,6 @@
--- Defines how one store alone goes on over a start. A new server numbers a tenant's requests from 0; one store alone goes on counting,
--- so the numbers of the new server's requests are greater there.
--- Used by: specs/NextRuns/OneStore, the laws of src/next_run_laws.rt. A change here changes what these laws say.
+-- Defines how one store alone goes on over a start. It goes on counting a tenant's requests, which a new server numbers from
+-- 0.
+-- Used by: src/next_run_laws.rt.
 use Rattle.std.specs.Prelude.{ℕ, ◌+◌, ◌≡◌, Bool, not, List, ◌∷◌, ◌++◌, map, Option, Some}
 use Rattle.std.specs.Option.{option_map}
 use Rattle.mw_words.specs.declared.replies.Reply.{Reply}

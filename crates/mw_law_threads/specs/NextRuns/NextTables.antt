@@ -1,5 +1,5 @@
 -- Defines that the run of the next server's table goes on from this server's crash: both tables' runs are of one store alone.
--- Used by: the law next_tables_are_of_one_store (src/next_run_laws.rt). A change here changes what it says.
+-- Used by: next_tables_are_of_one_store (src/next_run_laws.rt).
 use Rattle.std.specs.Prelude.{ℕ, ◌≡◌, ◌<◌, ◌++◌, List, []}
 use mathlib.Core.Option.{some}
 use lib.ListN.{get_elem?}

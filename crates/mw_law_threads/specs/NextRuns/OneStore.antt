@@ -1,6 +1,6 @@
--- Defines that a tenant's marks of two servers' runs, with the start between them, are those of one store alone. The second server may
--- have other tenants, workers, slots and quotas than the first.
--- Used by: the laws of src/next_run_laws.rt. A change here changes what they say.
+-- Defines that a tenant's marks of two servers' runs, with the start between them, are those of one store alone, whatever
+-- other tenants, workers, slots and quotas they have.
+-- Used by: src/next_run_laws.rt.
 use Rattle.std.specs.Prelude.{ℕ, ◌≡◌, ◌<◌, ◌⊎◌, ◌++◌, true, Bool, List, ◌∷◌, map, Option, Some}
 use Rattle.mw_words.specs.Change.{put}
 use Rattle.mw_lone.specs.declared.marks.Mark.{Mark}

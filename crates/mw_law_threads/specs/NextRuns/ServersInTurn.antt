@@ -1,6 +1,6 @@
--- Defines that a tenant's marks of any number of servers, one after the other, are those of one store alone, with the starts between them.
--- The servers may have other tenants, workers, slots and quotas.
--- Used by: the law servers_in_turn_are_of_one_store (src/next_run_laws.rt). A change here changes what it says.
+-- Defines that a tenant's marks of any number of servers, one after the other, are those of one store alone, with the starts
+-- between them.
+-- Used by: servers_in_turn_are_of_one_store (src/next_run_laws.rt).
 use Rattle.std.specs.Prelude.{ℕ, ◌+◌, ◌≡◌, ◌<◌, ◌++◌, Bool, List, [], ◌∷◌, map, Option, Some}
 use Rattle.mw_words.specs.declared.replies.Reply.{Reply}
 use Rattle.mw_lone.specs.declared.marks.Mark.{Mark}

@@ -1,6 +1,6 @@
--- Defines what a crash may leave of the changes of a session that borrows its passes (handles to the engine): a change that the session
--- was answered YES is there; any other that it was answered is there wholly or not at all.
--- Used by: the law sessions_keep_changes (src/session_laws.rt). A change here changes what this law says.
+-- Defines what a crash may leave of the changes of a session that borrows its passes (handles to the engine). A YES's change
+-- is there; any other that was answered is there wholly or not at all.
+-- Used by: sessions_keep_changes (src/session_laws.rt).
 use Rattle.std.specs.Prelude.{ℕ, ◌≡◌, List, Option, Some}
 use mathlib.Core.Option.{some}
 use lib.ListN.{get_elem?}

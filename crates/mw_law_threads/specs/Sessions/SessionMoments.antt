@@ -1,6 +1,6 @@
--- Defines when the replies of a session that borrows its passes (handles to the engine) were true: each at a moment of its own call,
--- and each call after the one before it.
--- Used by: the law replies_have_moments_in_order (src/session_laws.rt). A change here changes what this law says.
+-- Defines when the replies of a session that borrows its passes (handles to the engine) were true: each at a moment of its
+-- own call, and the calls in order.
+-- Used by: replies_have_moments_in_order (src/session_laws.rt).
 use Rattle.std.specs.Prelude.{ℕ, ◌≡◌, List, [], ◌∷◌, slice_get, Option, Some, None}
 use mathlib.Core.Option.{some}
 use lib.ListN.{get_elem?}

@@ -1,5 +1,5 @@
--- Defines that no change of a request is in its tenant's file. It is so from each reply on that tells of no change.
--- Used by: the law of src/whole_laws.rt, mw_law_threads. A change here changes what their laws say.
+-- Defines that no change of a request is in its tenant's file, from each reply on that tells of no change.
+-- Used by: src/whole_laws.rt.
 use Rattle.std.specs.Prelude.{ℕ, ◌≡◌, ◌≢◌, ◌<◌, ◌⊎◌, List, [], slice_get, Some}
 use Rattle.mw_words.specs.declared.replies.Reply.{Reply}
 use Rattle.mw_words.specs.declared.replies.Reply.TheVariants.{Val, No as SaysNo, Busy as SaysBusy}

@@ -1,5 +1,4 @@
--- Defines what a request asked for, and when a change in a tenant's file is just that.
--- Used by: the law of src/whole_laws.rt, mw_law_threads. A change here changes what their laws say.
+-- Defines what a request asked for, and when a change in a tenant's file is just that. Used by: src/whole_laws.rt.
 use Rattle.std.specs.Prelude.{ℕ, ◌≡◌, ◌≢◌, ◌<◌, ◌⊎◌, true, List, [], slice_get, Option, Some}
 use Rattle.mw_words.specs.declared.jobs.Entry.{Entry}
 use Rattle.mw_words.specs.declared.jobs.Job.{Job}

@@ -1,5 +1,4 @@
--- A call on a tenant's file ends by one step on one shared word, and this step is the call's event.
--- Used by: CallsByTokenLaws, the law calls_end, mw_rule. Its statements may change with mw_rule; its proofs may change freely.
+-- A call on a tenant's file ends by one step on one shared word, and this step is the call's event. Used by: calls_end.
 use Rattle.std.specs.Prelude.{ℕ, ◌+◌, ◌^◌, ◌<◌, ◌≡◌, ◌==◌, ◌&&◌, Bool, true, false, not, cond, if◌then◌else◌, Option, Some, None}
 use Rattle.std.specs.Int.Bits.{bit_or}
 use Rattle.std.proofs.Common.{refl, sym, ap, subst, ◌∙◌, arith}

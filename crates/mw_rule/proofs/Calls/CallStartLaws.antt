@@ -1,6 +1,5 @@
 -- When a request's call on its file starts, the file can make it, and the change's record place is as the call needs it.
--- Used by: the laws calls_can_start and calls_have_words, TokenLaws, CallEndLaws, CallsByTokenLaws, mw_rule, mw_table. Its
--- statements may change with mw_rule and mw_table; its proofs may change freely.
+-- Used by: calls_can_start, calls_have_words, mw_table, mw_law_threads.
 use Rattle.std.specs.Prelude.{ℕ, zero, suc, ◌≡◌, ◌+◌, ◌<◌, ◌≤◌, ◌&&◌, if◌then◌else◌, ◌==◌, ◌⊎◌, Bool, true, false, not, nat_lt, List, length}
 use Rattle.std.proofs.Common.{refl, sym, ap, subst, ◌∙◌, inl, inr, arith}
 use Rattle.std.proofs.lemmas.Bool.Decides.{nat_tests}

@@ -1,6 +1,6 @@
--- A thread with a file's token (the ghost capability to call that file) may end its call in each way that the token allows.
--- Until then, what the call relies on stays true.
--- Used by: the law calls_end_by_file_token. It may change freely as long as this crate checks.
+-- A thread with a file's token may end its call in each way that the token allows. Until then, what the call relies on stays
+-- true.
+-- Used by: calls_end_by_file_token.
 use Rattle.std.specs.Prelude.{ℕ, ◌≡◌, ◌≢◌, ◌<◌, ◌⊎◌, true, List, length, Some}
 use Rattle.std.proofs.Common.{refl, sym, ap, subst, ◌∙◌, inl, inr}
 use Rattle.mw_words.specs.declared.places.At.TheVariants.{Status as AtStatus}

@@ -1,5 +1,4 @@
--- A proof rule: what each kind of update of a world keeps, each event of a worker keeps.
--- Used by: OtherEventLaws, StableStatusLaws. It may change freely as long as this crate checks.
+-- A proof rule: what each kind of update of a world keeps, each event of a worker keeps. Used by: mw_law_threads.
 use Rattle.std.specs.Prelude.{ℕ, ◌≡◌, ◌&&◌, ◌==◌, Bool, true, false, not, cond, if◌then◌else◌, is_some, Option, Some, None}
 use Rattle.std.proofs.Common.{subst}
 use Rattle.std.proofs.lemmas.Option.{none-some, same_Some}

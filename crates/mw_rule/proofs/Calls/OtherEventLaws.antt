@@ -1,6 +1,4 @@
--- An event that is no start and no call on a tenant's file leaves that file unchanged.
--- Used by: the law others_leave_files, StableStatusLaws, TokenLaws, mw_rule. Its statements may change with mw_rule; its proofs
--- may change freely.
+-- An event that is no start and no call on a tenant's file leaves that file unchanged. Used by: others_leave_files.
 use Rattle.std.specs.Prelude.{ℕ, ◌≡◌, ◌≢◌, ◌⊎◌, [], ◌∷◌, Some}
 use Rattle.std.proofs.Common.{refl, sym, subst, ◌∙◌, inl, inr}
 use Rattle.std.proofs.lemmas.Option.{option_and_then_some, same_Some}

@@ -1,6 +1,5 @@
 -- While a call is under way that has found its change's status, the request, that status and the file stay unchanged.
--- Used by: the law statuses_wait, CallsByTokenLaws, WorldAfterCalls, mw_rule. Its statements may change with mw_rule; its
--- proofs may change freely.
+-- Used by: statuses_wait.
 use Rattle.std.specs.Prelude.{ℕ, ◌≡◌, ◌≢◌, ◌++◌, true, List, [], ◌∷◌, Some, None}
 use Rattle.std.specs.Option.{option_and_then}
 use Rattle.std.proofs.Common.{refl, sym, ap, subst, ◌∙◌, inl, inr}

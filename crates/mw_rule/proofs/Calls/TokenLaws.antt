@@ -1,7 +1,6 @@
--- What a file token says of its file stays true over events of others, and over calls by the thread that has it. The token is
--- the ghost capability to call that file.
--- Used by: the laws file_tokens_tell_tenants and calls_are_made_by_file_token, CallsByTokenLaws, mw_rule, mw_table. Its
--- statements may change with mw_rule and mw_table; its proofs may change freely.
+-- What a file token (the ghost capability to call that file) says of its file stays true over others' events, and over calls
+-- by the thread that has it.
+-- Used by: file_tokens_tell_tenants, calls_are_made_by_file_token, mw_table.
 use Rattle.std.specs.Prelude.{ℕ, ◌≡◌, ◌<◌, ◌≤◌, ◌⊎◌, not, nat_lt, true, false, List, length, Option}
 use Rattle.std.proofs.Common.{refl, sym, ap, subst, ◌∙◌, inl, inr, arith}
 use Rattle.std.proofs.lemmas.Bool.Decides.{nat_tests}

@@ -1,6 +1,5 @@
 -- After a call on a file, what the new token (the ghost capability to call it) says is true of the new file.
--- Used by: the law file_tokens_follow_files, TokenLaws, mw_rule, mw_table, mw_core. Its statements may change with mw_rule,
--- mw_table and mw_core; its proofs may change freely.
+-- Used by: file_tokens_follow_files, mw_table.
 use Rattle.std.specs.Prelude.{ℕ, ◌≡◌, ◌≢◌, ◌<◌, ◌⊎◌, List, length, slice_index, slice_set}
 use Rattle.std.proofs.Common.{refl, sym, ap, ◌∙◌, inl, inr, arith}
 use Rattle.std.proofs.lemmas.Bool.{cases_eq}

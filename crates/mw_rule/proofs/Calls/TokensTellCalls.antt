@@ -1,6 +1,5 @@
 -- What a file's token (the ghost capability to call it) says of calls on the file is true, and every file has a token.
--- Used by: the law file_tokens_tell_files, TokenLaws, TokensAfterCalls, mw_rule, mw_table, mw_core. Its statements may change
--- with mw_rule, mw_table and mw_core; its proofs may change freely.
+-- Used by: file_tokens_tell_files, mw_table, mw_law_threads.
 use Rattle.std.specs.Prelude.{ℕ, zero, suc, ◌+◌, ◌≡◌, ◌<◌, ◌≤◌, ◌&&◌, ◌⊎◌, Bool, true, false, not, nat_lt, if◌then◌else◌, List, length, replicate, slice_get, Some, None}
 use Rattle.std.proofs.Common.{refl, sym, ap, ◌∙◌, inl, inr, arith}
 use Rattle.std.proofs.lemmas.Bool.Decides.{nat_tests}

@@ -1,6 +1,5 @@
 -- What a call's event leaves of its request, and of the world besides the shared words.
--- Used by: the laws requests_go_on_from_calls and calls_change_no_more, CallsByTokenLaws, mw_rule, mw_table, mw_core,
--- mw_engine. Its statements may change with mw_rule, mw_table, mw_core and mw_engine; its proofs may change freely.
+-- Used by: requests_go_on_from_calls, calls_change_no_more, mw_table, mw_law_threads.
 use Rattle.std.specs.Prelude.{ℕ, ◌≡◌, Bool, true, false, cond, if◌then◌else◌, List, Option, Some, None}
 use Rattle.std.proofs.Common.{refl, ap, subst, ◌∙◌}
 use Rattle.std.proofs.lemmas.Option.{none-some, same_Some}

@@ -1,6 +1,5 @@
--- Defines how a call on a tenant's file ends: the step on one shared word that is its event, and the world after it. Used by
--- the laws of this crate, by CallsByToken, and by the specs of mw_rule (Laws, RunEvents, WordActions, FromLaws). A change here
--- changes these laws; a new Call needs a case in kind_of.
+-- Defines how a call on a tenant's file ends: the step on one shared word that is its event, and the world after it.
+-- Used by: src/call_laws.rt, mw_table, mw_law_threads. A change here changes these laws; a new Call needs a case in kind_of.
 use Rattle.std.specs.Prelude.{ℕ, ◌≡◌, ◌≢◌, Bool, true, false, List, Some, None}
 use Rattle.mw_words.specs.declared.places.At.TheVariants.{Door as AtDoor, Status as AtStatus}
 use Rattle.mw_words.specs.declared.statuses.Status.{Status}

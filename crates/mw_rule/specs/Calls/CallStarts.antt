@@ -1,6 +1,4 @@
--- Defines what is true of a tenant's file when a call on it starts.
--- Used by: the laws of src/call_laws.rt, specs/Calls/CallEnds, specs/Calls/CallsByToken, specs/Calls/StableStatuses, specs/Calls/TokensInWorlds, mw_rule,
--- mw_table. A change here changes what these laws say.
+-- Defines what is true of a tenant's file when a call on it starts. Used by: src/call_laws.rt, mw_table, mw_law_threads.
 use Rattle.std.specs.Prelude.{ℕ, ◌≡◌, ◌<◌, true, false, List, length, Some}
 use Rattle.mw_words.specs.declared.jobs.Entry.{Entry}
 use Rattle.mw_words.specs.declared.places.At.TheVariants.{Door as AtDoor, Status as AtStatus}

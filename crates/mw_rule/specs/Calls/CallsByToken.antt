@@ -1,6 +1,6 @@
--- Defines a call by the thread that has the file's token: what stays while it is under way, and how it may end. The token is
--- the ghost capability to call that file.
--- Used by: the laws of src/call_laws.rt, mw_rule, mw_table, mw_core, mw_engine. A change here changes what these laws say.
+-- Defines a call by the thread that has the file's token (the ghost capability to call it): what stays while it is under way,
+-- and how it may end.
+-- Used by: src/call_laws.rt, mw_table, mw_law_threads.
 use Rattle.std.specs.Prelude.{ℕ, ◌≡◌, ◌≢◌, Bool, true, false, List, Some}
 use Rattle.mw_words.specs.declared.places.At.TheVariants.{Door as AtDoor, Status as AtStatus}
 use Rattle.mw_words.specs.declared.statuses.Status.{Status}

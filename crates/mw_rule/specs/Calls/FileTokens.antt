@@ -1,6 +1,5 @@
--- Defines what a file token says of its file. The token is the ghost capability to call that file.
--- Used by: the laws of src/call_laws.rt, specs/Calls/CallsByToken, specs/Calls/TokensInWorlds, mw_rule, mw_table, mw_core, mw_engine. A change
--- here changes what these laws say.
+-- Defines what a file token (the ghost capability to call that file) says of its file.
+-- Used by: src/call_laws.rt, mw_table, mw_law_threads.
 use Rattle.std.specs.Prelude.{ℕ, zero, suc, ◌+◌, ◌≡◌, ◌<◌, Bool, true, List, [], ◌∷◌, length, replicate, slice_get, slice_index, slice_set, is_some, Option, Some, None}
 use Rattle.mw_words.specs.declared.jobs.Entry.{Entry}
 use Rattle.mw_words.specs.Change.{put}

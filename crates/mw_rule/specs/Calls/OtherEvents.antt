@@ -1,6 +1,4 @@
--- States what of a tenant's file stays over all events but a start and calls on that file.
--- Used by: the laws of src/call_laws.rt, specs/Calls/CallsByToken, specs/Calls/StableStatuses, specs/Calls/TokensInWorlds, mw_rule. A change here
--- changes what these laws say.
+-- States what of a tenant's file stays over all events but a start and calls on that file. Used by: src/call_laws.rt.
 use Rattle.std.specs.Prelude.{ℕ, ◌≡◌, ◌≢◌, List, [], ◌∷◌, Some}
 use Rattle.mw_actor.specs.ActorState.{ActorState}
 use Rattle.mw_world.specs.declared.config.Config.{Config}

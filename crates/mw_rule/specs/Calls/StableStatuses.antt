@@ -1,5 +1,5 @@
 -- States what stays while a call is under way that has found its change's status: the request, that status and the file.
--- Used by: the laws of src/call_laws.rt. A change here changes what these laws say.
+-- Used by: src/call_laws.rt.
 use Rattle.std.specs.Prelude.{ℕ, ◌≡◌, ◌++◌, true, List, Some}
 use Rattle.mw_actor.specs.ActorState.{ActorState}
 use Rattle.mw_world.specs.declared.config.Config.{Config}

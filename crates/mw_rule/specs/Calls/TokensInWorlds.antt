@@ -1,6 +1,4 @@
--- Defines when a file token (the ghost capability to call a file) is true in a world, and states that others' events leave it
--- true.
--- Used by: the laws of src/call_laws.rt, specs/Calls/CallsByToken. A change here changes what these laws say.
+-- Defines when a file token is true in a world, and states that others' events leave it true. Used by: src/call_laws.rt.
 use Rattle.std.specs.Prelude.{ℕ, ◌≡◌, not, true, false, List, length, Some}
 use Rattle.mw_actor.specs.ActorState.{ActorState, own_entries}
 use Rattle.mw_world_file.specs.Files.{entries_at}

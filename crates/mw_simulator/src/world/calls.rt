@@ -1,8 +1,7 @@
 //! Makes calls on a tenant's simulated file, for requests.
 //!
 //! `World::step` calls it for an event that is a call on a file (`events.rt`). `stopped_calls.rt` uses the tests
-//! here. Its contracts use `specs/Crashes`, `specs/CallEnds`, `specs/Representation` and others: change them
-//! together.
+//! here. Change it with `specs/Crashes`, `specs/CallEnds` and `specs/Representation`.
 ghost use Rattle.std.specs.Option.{option_map};
 ghost use Rattle.std.specs.Prelude.{◌≡◌, ◌≢◌, ◌<◌, ℕ, true, false, if◌then◌else◌, IfSome, IsTrue, OnErr, OnOk, Option, Some, None, length, slice_get};
 ghost use Rattle.mw_words.specs.Change.{is_change};

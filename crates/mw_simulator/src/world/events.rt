@@ -1,7 +1,7 @@
 //! Makes the events of a simulated world, and tells its state: the public calls.
 //!
-//! Used by: mw_player, mw_table_tests, mw_world_trials. Its clauses are in `specs/Events`, `specs/ServiceAlone` and
-//! `specs/Crashes`. PROMISES, THEOREM and HOW-IT-IS-PROVED cite `step` or `run`: a change there changes what these say.
+//! Used by: mw_player, mw_table_tests, mw_world_trials. Change it with `specs/Events`, `specs/ServiceAlone` and
+//! `specs/Crashes`. PROMISES, THEOREM and HOW-IT-IS-PROVED cite `step` or `run`.
 ghost use Rattle.std.specs.Prelude.{◌≡◌, ◌<◌, ◌++◌, List, Some, None, IfOk, IsTrue, MatchOption, OnErr, slice_get, length};
 ghost use Rattle.std.specs.Option.{option_and_then};
 ghost use Rattle.mw_world.specs.Definition.Extent.{has_place};

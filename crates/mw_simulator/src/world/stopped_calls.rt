@@ -1,7 +1,6 @@
 //! Tells which calls on the tenants' files may have been under way when all stopped.
 //!
-//! Used by: `restarts.rt`. Its contracts use `specs/CallEnds`, `specs/Representation` and `specs/Stops`: change
-//! them together.
+//! Used by: `restarts.rt`. Change it with `specs/CallEnds`, `specs/Representation` and `specs/Stops`.
 ghost use Rattle.std.specs.Prelude.{◌≡◌, ◌≤◌, IfSome, Some, None, length, slice_get};
 ghost use Rattle.mw_world_file.specs.Recovery.{PreparesChange};
 ghost use Rattle.mw_world.specs.Definition.State.{State};

@@ -1,7 +1,7 @@
 //! Makes a request come, make its next step, or hand out its reply.
 //!
-//! `World::step` calls these for its events (`events.rt`); `calls.rt` uses some for a call on a file. Its contracts
-//! use `specs/Representation`, `specs/UnchangedParts` and `specs/StepParts`: change them together.
+//! `World::step` calls these for its events (`events.rt`); `calls.rt` uses some for a call on a file. Change it with
+//! `specs/Representation`, `specs/UnchangedParts` and `specs/StepParts`.
 ghost use Rattle.std.specs.Prelude.{◌≡◌, ◌<◌, true, IfSome, OnErr, OnOk, length};
 ghost use Rattle.mw_look.specs.Observations.{observation_of};
 ghost use Rattle.mw_look.specs.Steps.{place};

@@ -1,6 +1,6 @@
 //! Copies the tenants and the workers of a simulated world, for a table.
 //!
-//! Used by: `of_world`. Its contracts use `specs/Worlds`: change them together.
+//! Used by: `of_world`. Change it with `specs/Worlds`.
 ghost use Rattle.std.specs.Prelude.{◌≡◌, IfOk, map};
 ghost use Rattle.mw_simulator.specs.FromMemory.{worker_state_of};
 ghost use Rattle.mw_table.specs.Runs.{last_start, worker_state_so_far};

@@ -1,6 +1,6 @@
 //! Makes a table (array of shared words) of a simulated world, so that threads go on from it.
 //!
-//! Used by: the tests of mw_table_tests. Its contracts use `specs/Worlds`: change them together.
+//! Used by: the tests of mw_table_tests. Change it with `specs/Worlds`.
 ghost use Rattle.std.specs.Prelude.{◌≡◌, All, IfOk, length};
 ghost use Rattle.mw_world.specs.Definition.State.{State};
 ghost use Rattle.mw_simulator.specs.Events.{IsAfterRun};

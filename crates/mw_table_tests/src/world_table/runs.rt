@@ -1,6 +1,6 @@
 //! Gives the run that led to a simulated world, for a table.
 //!
-//! Used by: the tests of mw_table_tests, which give it to `of_world`. It may change freely as long as this crate checks.
+//! Used by: the tests of mw_table_tests, which give it to `of_world`.
 ghost use Rattle.std.specs.Prelude.{List};
 ghost use Rattle.mw_world.specs.Definition.Events.{WorldEvent};
 ghost use Rattle.mw_simulator.specs.Events.{IsAfterRun};

@@ -1,6 +1,6 @@
 //! Copies the shared words of a simulated world, in the order of a table.
 //!
-//! Used by: `of_world`. `place_at` of mw_table gives that order. It may change freely as long as this crate checks.
+//! Used by: `of_world`. `place_at` of mw_table gives that order.
 ghost use Rattle.std.specs.Prelude.{◌≡◌, ◌<◌, IfOk, length};
 ghost use Rattle.mw_world.specs.Definition.State.{State};
 ghost use Rattle.mw_rule.specs.Layout as layout;

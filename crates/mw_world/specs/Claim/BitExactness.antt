@@ -1,6 +1,6 @@
--- Claims that a world's steps are bit-exact: made on words of 64 bits, they do what the definition says. This must hold of
--- every run, also when numbers are used up.
--- Used by: mw_law_runs, mw_rule. A change here changes what contracts there say.
+-- Claims that a world's steps are bit-exact: made on words of 64 bits, they do what the definition says, in every run, also
+-- when numbers are used up.
+-- Used by: mw_law_runs, mw_rule.
 use Rattle.std.specs.Prelude.{ℕ, ◌≡◌, ◌≢◌, ◌⊎◌, ◌+◌, ◌-◌, ◌%◌, ◌^◌, true, List, Some, None}
 use Rattle.std.specs.Int.Bits.{bit_or}
 use Rattle.mw_words.specs.declared.places.At.{At}

@@ -1,5 +1,5 @@
 -- States the results of some short runs of a world, which schedules (which worker goes on, and how far) describe.
--- Used by: the laws of src/laws.rt. A change here changes what these laws say.
+-- Used by: src/laws.rt.
 use Rattle.std.specs.Prelude.{ℕ, ◌≡◌, true, false, List, [], ◌∷◌, is_none, Option, Some, None}
 use Rattle.std.specs.Option.{option_map}
 use Rattle.mw_words.specs.declared.jobs.Entry.{Entry}

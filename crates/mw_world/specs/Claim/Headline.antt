@@ -1,7 +1,6 @@
--- Claims what must hold of every run of a world. The theorem (docs/THEOREM.md) is among it: in a run with numbers left, each
--- tenant is served as its store alone (the reference model) would serve it.
--- Used by: the laws of src/laws.rt, specs/Claim/BitExactness, many crates above (mostly mw_law_store and mw_rule). A change
--- here changes what these laws say.
+-- Claims what must hold of every run of a world, with the theorem (docs/THEOREM.md): in a run with numbers left, each tenant
+-- is served as its store alone (the reference model) would serve it.
+-- Used by: src/laws.rt, many crates from mw_law_runs on.
 use Rattle.std.specs.Prelude.{ℕ, ◌≡◌, ◌≢◌, ◌<◌, ◌≤◌, ◌+◌, true, false, List, All, ◌++◌, length, Option, Some, None}
 use Rattle.mw_words.specs.declared.limits.TheConstants.{WORN_NUMBER}
 use Rattle.mw_words.specs.declared.replies.Reply.TheVariants.{Worn}

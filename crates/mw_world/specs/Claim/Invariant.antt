@@ -1,8 +1,7 @@
--- Defines the world's invariant: what holds of the shared words, the requests and the tenants' files at every moment of a run.
--- It says why no step of a stale helper does harm. A slot and its sequence number name a change. Its status is the one in the
--- history, which keeps it when the slot is used again.
--- Used by: the laws of src/laws.rt, specs/Claim/Headline, mw_law_runs, mw_law_store, mw_rule. A change here changes what these
--- laws say.
+-- Defines the world's invariant: what holds of the shared words, the requests and the tenants' files at every moment of a
+-- run, and why no step of a stale helper does harm. A slot and its sequence number name a change. Its status is the one in
+-- the history, which keeps it when the slot is used again.
+-- Used by: src/laws.rt, mw_law_runs, mw_law_store, mw_rule, mw_law_threads.
 use Rattle.std.specs.Prelude.{ℕ, ◌≡◌, ◌≢◌, ◌<◌, ◌≤◌, ◌⊎◌, ◌+◌, ◌==◌, ◌&&◌, true, false, if◌then◌else◌, List, [], length, Some, None}
 use Rattle.mw_words.specs.declared.gates.Gate.{Gate}
 use Rattle.mw_words.specs.declared.jobs.Entry.{Entry}

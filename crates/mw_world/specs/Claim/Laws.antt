@@ -1,5 +1,5 @@
 -- States laws of the definitions: what a shared word holds after a write, and what one event more does to a run.
--- Used by: the laws of src/laws.rt. A change here changes what these laws say.
+-- Used by: src/laws.rt.
 use Rattle.std.specs.Prelude.{◌≡◌, ◌≢◌, List, [], ◌∷◌, ◌++◌}
 use Rattle.std.specs.Option.{option_and_then}
 use Rattle.mw_words.specs.declared.places.At.{At}

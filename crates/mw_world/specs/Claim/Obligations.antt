@@ -1,7 +1,6 @@
 -- Defines which request will release a word that is held for a refused change, and which will clean a word that a change has
 -- written.
--- Used by: specs/Claim/Invariant, mw_law_runs, mw_law_store. Contracts use it through these: a change here changes what they
--- say.
+-- Used by: mw_law_runs, mw_law_store.
 use Rattle.std.specs.Prelude.{ℕ, ◌≡◌, ◌<◌, ◌≤◌, ◌+◌, List, length, Some}
 use Rattle.mw_words.specs.declared.jobs.Entry.{Entry}
 use Rattle.mw_actor.specs.declared.points.Slot.{Slot}

@@ -1,5 +1,4 @@
--- Defines runs of a world by schedules, which say which worker goes on and how far.
--- Used by: specs/Claim/Examples. Contracts use it through these: a change here changes what they say.
+-- Defines runs of a world by schedules, which say which worker goes on and how far. Used by: specs/Claim/Examples.
 use Rattle.std.specs.Prelude.{ℕ, zero, suc, Bool, true, false, is_some, List, [], ◌∷◌, reverse, Option, Some, None}
 use Rattle.std.specs.Option.{option_map}
 use Rattle.mw_words.specs.declared.jobs.Job.{Job}

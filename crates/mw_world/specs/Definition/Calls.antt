@@ -1,6 +1,5 @@
 -- Defines a call on a tenant's file, with the change of a shared word that ends it.
--- Used by: the contracts of src/statuses.rt, many specs of this crate, many crates above (mostly mw_law_store and mw_law_runs).
--- A change here changes what these contracts say.
+-- Used by: src/statuses.rt, many crates from mw_law_runs on.
 use Rattle.std.specs.Prelude.{ℕ, ◌&&◌, Bool, true, false, not, if◌then◌else◌, Option, Some, None}
 use Rattle.mw_words.specs.declared.places.At.TheVariants.{Door as AtDoor, Status as AtStatus}
 use Rattle.mw_words.specs.declared.statuses.Status.{Status}

@@ -1,6 +1,5 @@
 -- Defines the shared words as values in place of bits. `pack` of mw_look gives their bits.
--- Used by: many specs of this crate, many crates above (mostly mw_law_store and mw_law_runs). A change here changes what
--- contracts there say.
+-- Used by: many crates from mw_law_runs on.
 use Rattle.std.specs.Prelude.{ℕ}
 use Rattle.mw_words.specs.declared.places.At.{At}
 use Rattle.mw_words.specs.declared.places.At.TheVariants.{Door as AtDoor, Gate as AtGate, Row as AtRow, Data, Status as AtStatus, Count, Addr, Expected, New}

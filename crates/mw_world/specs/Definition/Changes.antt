@@ -1,6 +1,5 @@
 -- Defines what a step of a request does to its shared word, and what it observes there.
--- Used by: specs/Claim/BitExactness, specs/Definition/Calls, specs/Definition/Turns, many crates above (mostly mw_law_store and
--- mw_law_runs). Contracts use it through these: a change here changes what they say.
+-- Used by: many crates from mw_law_runs on.
 use Rattle.std.specs.Prelude.{◌-◌, ◌==◌, true, cond}
 use Rattle.mw_words.specs.declared.places.At.{At}
 use Rattle.mw_words.specs.declared.places.At.TheVariants.{Door as AtDoor, Gate as AtGate}

@@ -1,6 +1,5 @@
 -- Defines how many pins of a slot requests hold, and how many slots a tenant's door counts.
--- Used by: specs/Claim/Headline, specs/Claim/Invariant, specs/Claim/Obligations, mw_law_runs, mw_law_store. Contracts use it
--- through these: a change here changes what they say.
+-- Used by: mw_law_runs, mw_law_store.
 use Rattle.std.specs.Prelude.{ℕ, zero, suc, ◌+◌, ◌==◌, ◌&&◌, if◌then◌else◌, Option, Some, None}
 use Rattle.mw_look.specs.Runs.{Hold, holds_at, if_same}
 use Rattle.mw_look.specs.declared.points.Point.{Point as ReadPoint}

@@ -1,6 +1,5 @@
 -- Defines the events of a world: its transitions, for example one worker's step or a whole call on a file.
--- Used by: many specs of this crate, many crates above (mostly mw_law_store and mw_rule). A change here changes what contracts
--- there say.
+-- Used by: many crates from mw_law_runs on.
 use Rattle.std.specs.Prelude.{ℕ, List, Option}
 use Rattle.mw_words.specs.declared.jobs.Job.{Job}
 use Rattle.mw_world_file.specs.declared.outcomes.Outcome.{Outcome}

@@ -1,6 +1,4 @@
--- Defines which shared words a world has, by its configuration.
--- Used by: specs/Claim/Headline, specs/Definition/Calls, specs/Definition/Restarts, specs/Definition/Turns, many crates above
--- (mostly mw_law_store and mw_rule). A change here changes what contracts there say.
+-- Defines which shared words a world has, by its configuration. Used by: many crates from mw_law_runs on.
 use Rattle.std.specs.Prelude.{ℕ, ◌&&◌, Bool, nat_lt}
 use Rattle.mw_words.specs.declared.limits.TheConstants.{MAX_ENTRIES}
 use Rattle.mw_words.specs.declared.places.At.{At}

@@ -1,7 +1,6 @@
--- Defines the history, a ghost state: what has happened to each change since the last start, and what each worker may still do.
--- No step depends on it. The claims about runs use it.
--- Used by: specs/Claim/Invariant, specs/Definition/LabelEffects, specs/Definition/State, many crates above (mostly mw_law_runs
--- and mw_law_store). A change here changes what contracts there say.
+-- Defines the history, a ghost state for the claims about runs: what has happened to each change since the last start, and
+-- what each worker may still do. No step depends on it.
+-- Used by: mw_law_runs, mw_law_store, mw_rule, mw_world_memory, mw_simulator.
 use Rattle.std.specs.Prelude.{ℕ, ◌==◌, Bool, true, false, if◌then◌else◌, List, [], ◌∷◌, Option, Some, None, is_some}
 use Rattle.std.specs.Option.{option_map_or}
 use Rattle.mw_words.specs.declared.jobs.Entry.{Entry}

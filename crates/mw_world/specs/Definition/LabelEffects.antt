@@ -1,7 +1,6 @@
 -- Defines what a step's label (what the step means for its tenant's marks) does to the history, the tenant's marks and the
 -- worker's state.
--- Used by: specs/Definition/Requests, specs/Definition/Turns, specs/Definition/World, mw_law_runs, mw_law_store, mw_rule,
--- mw_world_memory, mw_simulator. A change here changes what contracts there say.
+-- Used by: many crates from mw_law_runs on.
 use Rattle.std.specs.Prelude.{ℕ, Bool, true, false, List, [], ◌∷◌, ◌++◌, length, slice_set, Option, Some, None}
 use Rattle.mw_words.specs.declared.jobs.Entry.{Entry}
 use Rattle.mw_words.specs.declared.statuses.Status.{Status}

@@ -1,6 +1,5 @@
 -- Defines the value that each word of a tenant represents, also while a change works on it.
--- Used by: specs/Claim/Examples, specs/Claim/Headline, specs/Claim/Invariant, mw_law_runs, mw_law_store. Contracts use it
--- through these: a change here changes what they say.
+-- Used by: mw_law_runs, mw_law_store, mw_law_threads.
 use Rattle.std.specs.Prelude.{ℕ, zero, suc, ◌+◌, ◌==◌, if◌then◌else◌}
 use Rattle.mw_words.specs.declared.statuses.Status.{Status}
 use Rattle.mw_words.specs.declared.statuses.Status.TheVariants.{Yes}

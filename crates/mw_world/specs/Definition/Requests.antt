@@ -1,5 +1,4 @@
--- Defines the world after a request came, and after its reply was handed out.
--- Used by: mw_law_runs, mw_law_store, mw_rule, mw_table, mw_simulator. A change here changes what contracts there say.
+-- Defines the world after a request came, and after its reply was handed out. Used by: many crates from mw_law_runs on.
 use Rattle.std.specs.Prelude.{ℕ, Some, None}
 use Rattle.mw_words.specs.declared.jobs.Job.{Job}
 use Rattle.mw_lone.specs.declared.marks.Mark.TheVariants.{Reply as HandOut}

@@ -1,7 +1,6 @@
--- Defines a restart of a world (the model of a whole server): the calls on tenants' files that may have been under way, what
--- may be found of each file, the quotas, and the world after it.
--- Used by: specs/Claim/Headline, specs/Definition/World, mw_law_runs, mw_law_store, mw_table, mw_simulator. Contracts use it
--- through these: a change here changes what they say.
+-- Defines a restart of a world (the model of a whole server): calls on files that may have been under way, what may be found
+-- of each file, the quotas, and the world after it.
+-- Used by: many crates from mw_law_runs on.
 use Rattle.std.specs.Prelude.{ℕ, zero, suc, ◌==◌, ◌&&◌, Bool, true, false, if◌then◌else◌, List, [], ◌∷◌, ◌++◌, nat_le, is_none, length, slice_index_or, Option, Some, None}
 use Rattle.std.specs.Option.{option_map, unwrap_or}
 use Rattle.mw_words.specs.declared.jobs.Entry.{Entry}

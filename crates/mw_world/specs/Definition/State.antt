@@ -1,6 +1,5 @@
 -- Defines the state of a world (shared words, workers, tenants, history), its configurations, and its states at a start.
--- Used by: the laws of src/laws.rt, many specs of this crate, many crates above (mostly mw_law_store and mw_law_runs). A change
--- here changes what these laws say.
+-- Used by: src/laws.rt, many crates from mw_law_runs on.
 use Rattle.std.specs.Prelude.{ℕ, zero, suc, ◌+◌, ◌≡◌, ◌≤◌, ◌<◌, All, sum_by, Bool, true, false, not, if◌then◌else◌, List, [], ◌++◌, length, replicate, slice_index_or, is_none, nat_le, ◌&&◌, IsTrue, Option, Some, None, Vec}
 use Rattle.std.specs.declared.alloc.Global.{Global}
 use Rattle.std.specs.Option.{option_to_list}

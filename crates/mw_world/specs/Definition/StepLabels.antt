@@ -1,6 +1,5 @@
 -- Defines the label of each step of a request: what the step means for its target and its tenant's marks.
--- Used by: specs/Definition/Turns, mw_law_runs, mw_law_store, mw_world_memory, mw_simulator. A change here changes what
--- contracts there say.
+-- Used by: mw_law_runs, mw_law_store, mw_world_memory, mw_simulator, mw_law_threads.
 use Rattle.std.specs.Prelude.{ℕ, Bool, true, false}
 use Rattle.mw_words.specs.declared.statuses.Status.TheVariants.{YesDirty}
 use Rattle.mw_words.specs.declared.replies.Reply.TheVariants.{Busy as SaysBusy, Fault as SaysFault}

@@ -1,6 +1,4 @@
--- Defines one step of a worker's request that is no call on a file.
--- Used by: specs/Claim/BitExactness, specs/Claim/Headline, specs/Definition/Calls, specs/Definition/World, many crates above
--- (mostly mw_law_store and mw_law_runs). A change here changes what contracts there say.
+-- Defines one step of a worker's request that is no call on a file. Used by: many crates from mw_law_runs on.
 use Rattle.std.specs.Prelude.{ℕ, ◌+◌, ◌&&◌, Bool, false, not, Option, Some, None, is_some, if◌then◌else◌}
 use Rattle.mw_look.specs.declared.observations.Observation.{Observation}
 use Rattle.mw_look.specs.Steps.{Step, Load, Change, File as FileStep}

@@ -1,6 +1,4 @@
--- Defines what each event does to a world, and whole runs of events.
--- Used by: many specs of this crate, many crates above (mostly mw_law_store and mw_rule). A change here changes what contracts
--- there say.
+-- Defines what each event does to a world, and whole runs of events. Used by: many crates from mw_law_runs on.
 use Rattle.std.specs.Prelude.{ℕ, ◌+◌, ◌==◌, ◌&&◌, Bool, if◌then◌else◌, List, [], ◌∷◌, ◌++◌, nat_lt, is_none, Option, Some, None}
 use Rattle.std.specs.Option.{option_and_then, option_map, option_to_list, unwrap_or}
 use Rattle.mw_words.specs.declared.jobs.Job.{Job}

@@ -1,7 +1,7 @@
 //! Makes the shared words of a world at a start.
 //!
-//! mw_simulator calls `Cells::new` for a new world and at each start. Its contracts use `specs/BitsMatch`,
-//! `specs/BitPlaces` and `specs/Openings`: change them together.
+//! mw_simulator calls `Cells::new` for a new world and at each start. Change it with `specs/BitsMatch`,
+//! `specs/BitPlaces` and `specs/Openings`.
 ghost use Rattle.std.specs.Prelude.{◌≡◌, ℕ, Bool, List, length, map, replicate, IfOk};
 ghost use Rattle.mw_words.specs.declared.limits.TheConstants.{MAX_ENTRIES};
 ghost use Rattle.mw_world.specs.Definition.State.{IsConfig, first_cells, words_given};

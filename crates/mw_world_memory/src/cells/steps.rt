@@ -1,7 +1,7 @@
 //! Makes steps on the shared words of a world in memory.
 //!
-//! mw_simulator calls `Cells::make` for each step of a request that is no call on a file. Its contracts use
-//! `specs/Bits` and `specs/StepsInBits`: change them together.
+//! mw_simulator calls `Cells::make` for each step of a request that is no call on a file. Change it with `specs/Bits`
+//! and `specs/StepsInBits`.
 ghost use Rattle.std.specs.Prelude.{◌≡◌, ◌==◌, IfSome, None, cond, is_some};
 ghost use Rattle.mw_look.specs.declared.steps.Shape.TheVariants.{Exchange};
 ghost use Rattle.mw_look.specs.Shapes.{shape_of};

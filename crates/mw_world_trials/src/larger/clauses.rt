@@ -1,8 +1,8 @@
 //! Checks what must hold of a larger world at every moment, group by group, as far as what is seen shows it.
 //!
-//! Used by: `larger/planted_faults`, `larger/tests`. Each module below checks what groups say of one kind of thing.
-//! Nothing is proved of these checks. They may change freely if they stay true of every run, and still refuse the
-//! planted faults of their groups (`planted_faults.rt`).
+//! Used by: `larger/planted_faults`, `larger/tests`. Each module below checks one kind of thing. Nothing is proved of
+//! these checks: they must stay true of every run, and refuse the planted faults of their groups
+//! (`planted_faults.rt`).
 
 use crate::larger::clauses::changes::changes_hold;
 use crate::larger::clauses::slots::{shares_hold, slots_hold};

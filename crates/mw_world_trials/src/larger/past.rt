@@ -1,7 +1,6 @@
 //! Keeps what has happened to each change since the last start, from the steps of requests.
 //!
-//! Used by: `larger/clauses/changes`, `larger/clauses/words`, `larger/seen`, `larger/tests`, `run`. It may change
-//! freely as long as this crate checks and its tests pass.
+//! Used by: `larger/clauses/changes`, `larger/clauses/words`, `larger/seen`, `larger/tests`, `run`.
 ghost use Rattle.std.specs.Prelude.{◌<◌, IfSome, length};
 
 use crate::larger::seen::{Datum, Seen};

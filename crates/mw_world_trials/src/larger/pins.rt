@@ -1,8 +1,7 @@
 //! Computes what a request holds at its point (program counter): its pins, and the words that it will release or
 //! clean.
 //!
-//! Used by: `larger/clauses/changes`, `larger/clauses/slots`, `larger/clauses/words`. It may change freely as long as
-//! this crate checks and its tests pass.
+//! Used by: `larger/clauses/changes`, `larger/clauses/slots`, `larger/clauses/words`.
 
 use crate::larger::seen::{Seen, WorkerState};
 use mw_actor::{Actor, After, Point, Slot, Sweep, Task};

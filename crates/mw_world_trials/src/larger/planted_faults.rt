@@ -1,6 +1,6 @@
 //! Makes something wrong in what is seen of a world, for each group of checks, to see that the group refuses it.
 //!
-//! Used by: `larger/tests`. It may change freely as long as this crate checks and its tests pass.
+//! Used by: `larger/tests`.
 
 use crate::larger::clauses::Group;
 use crate::larger::seen::Seen;

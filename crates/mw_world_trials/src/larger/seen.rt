@@ -1,7 +1,7 @@
 //! Keeps what can be seen of a world between two events.
 //!
 //! Used by: `larger/clauses` and its modules, `larger/past`, `larger/pins`, `larger/planted_faults`, `larger/tests`,
-//! `run`. It may change freely as long as this crate checks and its tests pass.
+//! `run`.
 ghost use Rattle.std.specs.Prelude.{◌<◌, ◌≤◌, length};
 
 use crate::larger::past::Past;

@@ -1,12 +1,12 @@
 //! Tests random runs of larger worlds. After every event, all that must hold of a world is checked, as far as the
 //! readers of a world show it.
 //!
-//! The steps of the events tell what a change has come to: see `past`. These tests leave out what no reader shows
-//! of the invariant of mw_world: - a request's quota and pool; - that the worker's attempt, and what it may still
-//! do in the history, are those of its point; here they are taken from the point; - whether a file has failed,
-//! except by its door, what is in doubt in it, and how long it is; - in which place of its file a change is; the
-//! tests only check that there are as many places as changes. Nothing else uses it: it may change with what it
-//! tests.
+//! These tests leave out what no reader shows of the invariant of mw_world:
+//!
+//! - a request's quota and pool;
+//! - that the worker's attempt, and what it may still do in the history, are those of its point: here they are taken from it;
+//! - whether a file has failed, except by its door, what is in doubt in it, and how long it is;
+//! - in which place of its file a change is: only that there are as many places as changes.
 //!
 //! The words of a file are those with which the tenant started and what was sealed since.
 

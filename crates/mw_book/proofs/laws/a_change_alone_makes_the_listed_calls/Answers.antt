@@ -1,5 +1,4 @@
--- Proves the law `a_change_alone_makes_the_listed_calls` (src/laws.rt): if no other change is sealed, a call makes just the device
--- calls that the world lists, and leaves none settled or prepared ahead. Used by: that law alone. It may change freely as long as this crate checks.
+-- Proves the law `a_change_alone_makes_the_listed_calls`.
 use Rattle.mw_book.proofs.AloneChanges.{makes_listed, leaves_none_ahead, leaves_none_prepared, runs_listed}
 use Rattle.mw_book.proofs.laws.a_change_alone_makes_the_listed_calls.Goals as goal
 

@@ -1,5 +1,4 @@
--- Proves the law `calls_that_can_be_made` (src/laws.rt): if a call can be made on a file, it may be made on each book that
--- represents the file. Used by: that law alone. It may change freely as long as this crate checks.
+-- Proves the law `calls_that_can_be_made`.
 use Rattle.mw_book.proofs.PermittedCalls.{permits}
 use Rattle.mw_book.proofs.laws.calls_that_can_be_made.Goals as goal
 

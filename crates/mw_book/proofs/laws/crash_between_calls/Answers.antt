@@ -1,5 +1,4 @@
--- Proves the law `crash_between_calls` (src/laws.rt): a crash between two calls leaves the words that a book represents, or
--- these with the change in doubt. Used by: that law alone. It may change freely as long as this crate checks.
+-- Proves the law `crash_between_calls`.
 use Rattle.mw_book.proofs.RepresentedFiles.{untouched}
 use Rattle.mw_book.proofs.laws.crash_between_calls.Goals as goal
 

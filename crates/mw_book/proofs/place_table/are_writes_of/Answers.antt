@@ -1,5 +1,4 @@
--- Proves a goal of `are_writes_of` (src/place_table.rt) that the check does not prove by itself. Used by: the proof of that function
--- alone. It may change freely as long as this crate checks.
+-- Goals of `are_writes_of` (src/place_table.rt).
 use Rattle.std.proofs.Common.{sym}
 use Rattle.mw_book.proofs.WrittenPlaces.{unlike}
 use Rattle.mw_book.proofs.place_table.are_writes_of.Goals as goal

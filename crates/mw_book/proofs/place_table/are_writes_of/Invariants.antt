@@ -1,5 +1,4 @@
--- States what stays true from turn to turn in the loop of `are_writes_of` (src/place_table.rt). Used by: the proof of that function
--- alone. It may change freely as long as this crate checks.
+-- Loop invariants of `are_writes_of` (src/place_table.rt).
 use Rattle.std.proofs.Common.{◌≡◌, drop}
 use Rattle.mw_book.specs.PreparedAhead.{are_writes_of}
 use Rattle.mw_book.proofs.place_table.are_writes_of.Given as goal

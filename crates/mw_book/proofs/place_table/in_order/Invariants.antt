@@ -1,5 +1,4 @@
--- States what stays true from turn to turn in the loop of `in_order` (src/place_table.rt). Used by: the proof of that function alone. It
--- may change freely as long as this crate checks.
+-- Loop invariants of `in_order` (src/place_table.rt).
 use Rattle.std.proofs.Common.{◌≡◌, ◌<◌, ℕ, length, get_or}
 use Rattle.mw_words.specs.declared.limits.TheConstants.{MAX_PLACES}
 use Rattle.mw_book.proofs.place_table.in_order.Given as goal

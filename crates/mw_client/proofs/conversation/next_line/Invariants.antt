@@ -1,5 +1,4 @@
--- States what stays true from turn to turn in the loops of `next_line` (src/conversation.rt). Used by: the proof of that
--- function alone. It may change freely as long as this crate checks.
+-- Loop invariants of `next_line` (src/conversation.rt).
 use Rattle.std.proofs.Common.{◌≤◌, length}
 use Rattle.std.specs.Io.KnownBytes.{Consumes}
 use Rattle.mw_client.proofs.conversation.next_line.Given as goal

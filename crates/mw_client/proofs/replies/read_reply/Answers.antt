@@ -1,5 +1,4 @@
--- Proves goals of `read_reply` (src/replies.rt) that the check does not prove by itself. Used by: the proof of that function
--- alone. It may change freely as long as this crate checks.
+-- Goals of `read_reply` (src/replies.rt).
 use Rattle.std.proofs.Common.{◌≡◌, List, ℕ, Option, Some, None, refl, ◌∙◌}
 use Rattle.std.specs.Prelude.{IfSome}
 use Rattle.mw_line.specs.declared.replies.Say.{Say}

@@ -1,5 +1,4 @@
 -- The invariant of the loop of next_report (src/report.rt), which reads a report line by line.
--- Only the proof of next_report uses it. It may change freely as long as the crate checks.
 use Rattle.std.specs.Prelude.{All}
 use Rattle.std.specs.Io.KnownBytes.{Consumes}
 use Rattle.mw_report.specs.Table.{IsWithinLimits}

@@ -1,5 +1,4 @@
--- Proves goals of `put_line` (src/report.rt) that the check does not prove by itself. Used by: the proof of that function
--- alone. It may change freely as long as this crate checks.
+-- Goals of `put_line` (src/report.rt).
 use Rattle.std.specs.Prelude.{◌≡◌, ◌≤◌, ◌+◌, ◌∷◌, [], length}
 use Rattle.std.specs.Io.KnownBytes.{Consumes}
 use Rattle.std.proofs.Common.{ap, arith, length-append, refl, subst, sym, ◌∙◌}

@@ -1,5 +1,4 @@
--- States what stays true from turn to turn in the loops of `put_line` (src/report.rt). Used by: the proof of that function
--- alone. It may change freely as long as this crate checks.
+-- Loop invariants of `put_line` (src/report.rt).
 use Rattle.std.specs.Prelude.{◌≤◌, length, true}
 use Rattle.mw_client.specs.Exchanges.{GoesOn}
 use Rattle.mw_client.proofs.report.put_line.Given as goal

@@ -1,5 +1,4 @@
--- States what stays true from turn to turn in the loops of `put_entries` (src/requests.rt). Used by: the proof of that function
--- alone. It may change freely as long as this crate checks.
+-- Loop invariants of `put_entries` (src/requests.rt).
 use Rattle.std.proofs.Common.{◌≡◌, ◌+◌, ◌≤◌, ◌*◌, ◌++◌, drop, flat_map, length}
 use Rattle.mw_line.specs.Grammar.{spaced}
 use Rattle.mw_client.specs.declared.requests.TheConstants.{COMMAND, MAX_ENTRY}

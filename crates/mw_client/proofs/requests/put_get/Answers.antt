@@ -1,5 +1,4 @@
--- Proves goals of `put_get` (src/requests.rt) that the check does not prove by itself. Used by: the proof of that function
--- alone. It may change freely as long as this crate checks.
+-- Goals of `put_get` (src/requests.rt).
 use Rattle.std.proofs.Common.{arith}
 use Rattle.mw_client.proofs.Printed.{get_from}
 use Rattle.mw_client.proofs.requests.put_get.Goals as goal

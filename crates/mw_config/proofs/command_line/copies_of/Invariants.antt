@@ -1,5 +1,4 @@
--- States what stays true from turn to turn in the loop of `copies_of` (src/command_line.rt). Used by: the proof of that function
--- alone. It may change freely as long as this crate checks.
+-- Loop invariants of `copies_of` (src/command_line.rt).
 use Rattle.std.proofs.Common.{◌≡◌, vec_len}
 use Rattle.mw_config.proofs.command_line.copies_of.Given as goal
 

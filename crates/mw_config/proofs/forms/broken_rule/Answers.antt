@@ -1,5 +1,4 @@
--- Proves goals of `broken_rule` (src/forms.rt) that the check does not prove by itself. Used by: the proof of that function
--- alone. It may change freely as long as this crate checks.
+-- Goals of `broken_rule` (src/forms.rt).
 use Rattle.std.proofs.Common.{Some}
 use Rattle.mw_config.specs.declared.forms.FormRule.TheVariants as rule
 use Rattle.mw_config.proofs.FormRules.{first_line, text_by_line, no_line_feed, begins}

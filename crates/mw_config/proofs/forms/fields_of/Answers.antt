@@ -1,5 +1,4 @@
--- Proves goals of `fields_of` (src/forms.rt) that the check does not prove by itself. Used by: the proof of that function
--- alone. It may change freely as long as this crate checks.
+-- Goals of `fields_of` (src/forms.rt).
 use Rattle.std.proofs.Common.{sym}
 use Rattle.mw_config.proofs.FormRules.{no_name, no_words, no_quota, no_fields, fields_are}
 use Rattle.mw_config.proofs.forms.fields_of.Goals as goal

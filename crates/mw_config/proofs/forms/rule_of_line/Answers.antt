@@ -1,5 +1,4 @@
--- Proves goals of `rule_of_line` (src/forms.rt) that the check does not prove by itself. Used by: the proof of that function
--- alone. It may change freely as long as this crate checks.
+-- Goals of `rule_of_line` (src/forms.rt).
 use Rattle.std.proofs.Common.{sym}
 use Rattle.mw_config.specs.Forms.{as_fields}
 use Rattle.mw_config.proofs.FormRules.{line_by_fields}

@@ -1,5 +1,4 @@
--- Proves goals of `read_path` (src/lines.rt) that the check does not prove by itself. Used by: the proof of that function
--- alone. It may change freely as long as this crate checks.
+-- Goals of `read_path` (src/lines.rt).
 use Rattle.std.proofs.Common.{sym}
 use Rattle.std.specs.List.{list_all}
 use Rattle.std.proofs.lemmas.Str.{IsUtf8-from_ascii}

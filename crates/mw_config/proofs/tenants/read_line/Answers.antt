@@ -1,5 +1,4 @@
--- Proves goals of `read_line` (src/tenants.rt) that the check does not prove by itself. Used by: the proof of that function
--- alone. It may change freely as long as this crate checks.
+-- Goals of `read_line` (src/tenants.rt).
 use Rattle.std.proofs.Common.{sym, arith}
 use Rattle.mw_line.specs.LineReader.{narrow}
 use Rattle.mw_config.specs.LineTexts.{lines_of}

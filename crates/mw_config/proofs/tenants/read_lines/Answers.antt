@@ -1,5 +1,4 @@
--- Proves goals of `read_lines` (src/tenants.rt) that the check does not prove by itself. Used by: the proof of that function
--- alone. It may change freely as long as this crate checks.
+-- Goals of `read_lines` (src/tenants.rt).
 use Rattle.std.proofs.Common.{◌≡◌, List, subst, rules}
 use Rattle.mw_config.specs.declared.lines.TenantLine.{TenantLine}
 use Rattle.mw_config.specs.LineTexts.{line_of, lines_of}

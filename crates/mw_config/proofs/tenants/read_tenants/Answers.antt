@@ -1,5 +1,4 @@
--- Proves goals of `read_tenants` (src/tenants.rt) that the check does not prove by itself. Used by: the proof of that function
--- alone. It may change freely as long as this crate checks.
+-- Goals of `read_tenants` (src/tenants.rt).
 use Rattle.std.proofs.Common.{◌≤◌, length, sum_by, rules}
 use Rattle.mw_config.proofs.FirstLines.{file_of, permitted}
 use Rattle.mw_config.proofs.tenants.read_tenants.Goals as goal

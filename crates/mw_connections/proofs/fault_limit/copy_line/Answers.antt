@@ -1,5 +1,4 @@
--- Proves goals of `copy_line` (src/fault_limit.rt) that the check does not prove by itself. Used by: the proof of that function
--- alone. It may change freely as long as this crate checks.
+-- Goals of `copy_line` (src/fault_limit.rt).
 use Rattle.std.proofs.Common.{arith}
 use Rattle.mw_connections.proofs.OneEnds.{one_end}
 use Rattle.mw_connections.proofs.fault_limit.copy_line.Goals as goal

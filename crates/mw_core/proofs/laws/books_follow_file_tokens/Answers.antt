@@ -1,5 +1,4 @@
--- Proves the law `books_follow_file_tokens` (src/laws.rt): if a call starts by a file token, it may be made on a book that
--- agrees with the token. Used by: that law alone. It may change freely as long as this crate checks.
+-- Proves the law `books_follow_file_tokens`.
 use Rattle.mw_core.proofs.Agreement.{books_follow_file_tokens, books_take_calls}
 use Rattle.mw_core.proofs.laws.books_follow_file_tokens.Goals as goal
 

@@ -1,5 +1,4 @@
--- Proves the law `new_books_agree` (src/laws.rt): the book of a file that just opened agrees with the file token that there is
--- then. Used by: that law alone. It may change freely as long as this crate checks.
+-- Proves the law `new_books_agree`.
 use Rattle.mw_core.proofs.Agreement.{opened_books_agree, unopened_books_agree}
 use Rattle.mw_core.proofs.laws.new_books_agree.Goals as goal
 

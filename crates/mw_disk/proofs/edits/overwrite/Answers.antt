@@ -1,5 +1,4 @@
--- Proves goals of `overwrite` (src/edits.rt) that the check does not prove by itself. Used by: the proof of that function
--- alone. It may change freely as long as this crate checks.
+-- Goals of `overwrite` (src/edits.rt).
 use Rattle.std.proofs.Common.{◌≡◌, ℕ, ◌+◌, length, List, ap, ◌∙◌, arith}
 use Rattle.std.proofs.lemmas.List.{take_at}
 use Rattle.mw_disk.specs.Facts.{patched}

@@ -1,5 +1,4 @@
--- Proves the law `calls_determine_the_disk` (src/laws.rt). Used by: that law alone. It may change freely as long as this crate
--- checks.
+-- Proves the law `calls_determine_the_disk`.
 use Rattle.mw_disk.proofs.Determined.{same_disk}
 use Rattle.mw_disk.proofs.laws.calls_determine_the_disk.Goals as goal
 

@@ -1,5 +1,4 @@
--- Proves the law `torn_bytes_determine_the_image` (src/laws.rt). Used by: that law alone. It may change freely as long as this
--- crate checks.
+-- Proves the law `torn_bytes_determine_the_image`.
 use Rattle.std.proofs.Common.{length}
 use Rattle.mw_disk.specs.Memory.{memory_facts}
 use Rattle.mw_disk.specs.Crash.{unsynced}

@@ -1,5 +1,4 @@
--- Proves goals of `tear` (src/spans.rt) that the check does not prove by itself. Used by: the proof of that function alone. It
--- may change freely as long as this crate checks.
+-- Goals of `tear` (src/spans.rt).
 use Rattle.std.proofs.Common.{◌∙◌, ap, ℕ, refl, arith}
 use Rattle.mw_disk.specs.Crash.{count_within}
 use Rattle.mw_disk.proofs.TornBytes.{tears_more, tears_all}

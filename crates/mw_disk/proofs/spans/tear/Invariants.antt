@@ -1,5 +1,4 @@
--- States what stays true from turn to turn in the loops of `tear` (src/spans.rt). Used by: the proof of that function alone. It
--- may change freely as long as this crate checks.
+-- Loop invariants of `tear` (src/spans.rt).
 use Rattle.std.proofs.Common.{◌≡◌}
 use Rattle.mw_disk.specs.Crash.{Tears, count_within}
 use Rattle.mw_disk.proofs.spans.tear.Given as goal

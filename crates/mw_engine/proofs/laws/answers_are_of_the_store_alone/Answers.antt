@@ -1,5 +1,4 @@
--- Proves the law `answers_are_of_the_store_alone` (src/laws.rt): a request that was answered was answered as its tenant's store
--- alone answers it. Used by: that law alone. It may change freely as long as this crate checks.
+-- Proves the law `answers_are_of_the_store_alone`.
 use Rattle.std.specs.Prelude.{◌++◌}
 use Rattle.std.proofs.Common.{subst}
 use Rattle.mw_core.specs.FromTable.{Each, IsOfStoreAlone, finished_as}

@@ -1,5 +1,4 @@
--- States what stays true from turn to turn in the loops of `config_of` (src/new_parts.rt). Used by: the proof of that function
--- alone. It may change freely as long as this crate checks.
+-- Loop invariants of `config_of` (src/new_parts.rt).
 use Rattle.std.proofs.Common.{◌≡◌, take, map}
 use Rattle.mw_engine.specs.OpenedFiles.{tenant_read}
 use Rattle.mw_engine.proofs.new_parts.config_of.Given as goal

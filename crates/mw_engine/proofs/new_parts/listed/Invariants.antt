@@ -1,5 +1,4 @@
--- States what stays true from turn to turn in the loops of `listed` (src/new_parts.rt). Used by: the proof of that function
--- alone. It may change freely as long as this crate checks.
+-- Loop invariants of `listed` (src/new_parts.rt).
 use Rattle.std.proofs.Common.{◌≡◌, take, map}
 use Rattle.mw_engine.specs.Lines.{HasFewPlaces, line_of, places_of}
 use Rattle.mw_engine.specs.OpenedFiles.{line_read, places_found}

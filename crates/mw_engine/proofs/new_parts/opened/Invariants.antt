@@ -1,5 +1,4 @@
--- States what stays true from turn to turn in the loops of `opened` (src/new_parts.rt). Used by: the proof of that function
--- alone. It may change freely as long as this crate checks.
+-- Loop invariants of `opened` (src/new_parts.rt).
 use Rattle.std.proofs.Common.{◌≤◌, ◌++◌, List, length, drop}
 use Rattle.std.specs.Vec.Iter.{into_iter_items}
 use Rattle.mw_book.specs.declared.book.Book.{Book}

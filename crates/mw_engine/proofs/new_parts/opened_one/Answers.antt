@@ -1,5 +1,4 @@
--- Proves goals of `opened_one` (src/new_parts.rt) that the check does not prove by itself. Used by: the proof of that function
--- alone. It may change freely as long as this crate checks.
+-- Goals of `opened_one` (src/new_parts.rt).
 use Rattle.std.specs.Prelude.{replicate, None}
 use Rattle.std.proofs.Common.{refl, sym, subst, ◌∙◌}
 use Rattle.std.proofs.lemmas.List.{length-replicate}

@@ -1,5 +1,4 @@
--- Proves goals of `locked` (src/start.rt) that the check does not prove by itself. Used by: the proof of that function alone.
--- It may change freely as long as this crate checks.
+-- Goals of `locked` (src/start.rt).
 use Rattle.std.specs.Prelude.{◌≡◌, ◌+◌, ◌++◌, length, Option}
 use Rattle.std.specs.Option.{option_to_list}
 use Rattle.std.specs.Vec.Iter.{into_iter_items}

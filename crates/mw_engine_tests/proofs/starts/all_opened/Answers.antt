@@ -1,5 +1,4 @@
--- Proves goals of `all_opened` (src/starts.rt) that the check does not prove by itself. Used by: the proof of that function
--- alone. It may change freely as long as this crate checks.
+-- Goals of `all_opened` (src/starts.rt).
 use Rattle.std.proofs.Common.{◌+◌, take, subst, sym}
 use Rattle.mw_engine.specs.OpenedFiles.{FitLines}
 use Rattle.mw_engine_tests.proofs.FilesFitLines.{fit_next}

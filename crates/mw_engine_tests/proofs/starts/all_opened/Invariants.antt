@@ -1,5 +1,4 @@
--- States what stays true from turn to turn in the loops of `all_opened` (src/starts.rt). Used by: the proof of that function
--- alone. It may change freely as long as this crate checks.
+-- Loop invariants of `all_opened` (src/starts.rt).
 use Rattle.std.proofs.Common.{take}
 use Rattle.mw_engine.specs.OpenedFiles.{FitLines}
 use Rattle.mw_engine_tests.proofs.starts.all_opened.Given as goal

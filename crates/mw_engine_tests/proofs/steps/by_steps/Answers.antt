@@ -1,5 +1,4 @@
--- Answers to a goal of by_steps (src/steps.rt): the invariant of its loop holds when the loop begins, with a new request and an
--- idle pass (the right to make a worker's steps). It may change freely as long as the crate checks.
+-- Goals of `by_steps` (src/steps.rt).
 use Rattle.std.specs.Prelude.{is_some}
 use Rattle.std.proofs.Common.{refl, sym, ap, subst, ◌∙◌}
 use Rattle.mw_words.specs.declared.jobs.Job.{Job}

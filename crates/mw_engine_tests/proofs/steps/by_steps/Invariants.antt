@@ -1,5 +1,4 @@
--- States what stays true from turn to turn in the loops of `by_steps` (src/steps.rt). Used by: the proof of that function
--- alone. It may change freely as long as this crate checks.
+-- Loop invariants of `by_steps` (src/steps.rt).
 use Rattle.std.specs.Prelude.{◌≡◌, true, false}
 use Rattle.mw_engine.specs.FromBelow.{IsCarried}
 use Rattle.mw_engine.specs.Passes.{IsPassOf}

@@ -1,5 +1,4 @@
--- Proves goals of `new_plain` (src/twins.rt) that the check does not prove by itself. Used by: the proof of that function
--- alone. It may change freely as long as this crate checks.
+-- Goals of `new_plain` (src/twins.rt).
 use Rattle.mw_engine_tests.proofs.Beside.{fit_plain}
 use Rattle.mw_engine_tests.proofs.twins.new_plain.Goals as goal
 

@@ -1,5 +1,4 @@
--- States what stays true from turn to turn in the loops of `free_place` (src/calls.rt). Used by: the proof of that function
--- alone. It may change freely as long as this crate checks.
+-- Loop invariants of `free_place` (src/calls.rt).
 use Rattle.std.proofs.Common.{◌≡◌, drop}
 use Rattle.mw_file.specs.PlaceStates.{free_from, free_place}
 use Rattle.mw_file.proofs.calls.free_place.Given as goal

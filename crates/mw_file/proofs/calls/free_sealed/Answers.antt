@@ -1,5 +1,4 @@
--- Proves goals of `free_sealed` (src/calls.rt) that the check does not prove by itself. Used by: the proof of that function
--- alone. It may change freely as long as this crate checks.
+-- Goals of `free_sealed` (src/calls.rt).
 use Rattle.mw_file.proofs.SharedSettles.{freed_none, freed_next, freed_all}
 use Rattle.mw_file.proofs.calls.free_sealed.Goals as goal
 

@@ -1,5 +1,4 @@
--- States what stays true from turn to turn in the loops of `free_sealed` (src/calls.rt). Used by: the proof of that function
--- alone. It may change freely as long as this crate checks.
+-- Loop invariants of `free_sealed` (src/calls.rt).
 use Rattle.mw_file.proofs.SharedSettles.{IsFreedBelow}
 use Rattle.mw_file.proofs.calls.free_sealed.Given as goal
 

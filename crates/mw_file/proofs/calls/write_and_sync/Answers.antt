@@ -1,5 +1,4 @@
--- Proves goals of `write_and_sync` (src/calls.rt) that the check does not prove by itself. Used by: the proof of that function
--- alone. It may change freely as long as this crate checks.
+-- Goals of `write_and_sync` (src/calls.rt).
 use Rattle.std.proofs.Common.{length, true, false, arith}
 use Rattle.mw_disk.proofs.RunLaws.{good_call, bad_call, called_later, still_honest, touched_trans, touched_write, touched_quiet}
 use Rattle.mw_file.specs.RollForward.{InRange}

@@ -1,5 +1,4 @@
--- Proves goals of `front` (src/copies.rt) that the check does not prove by itself. Used by: the proof of that function
--- alone. It may change freely as long as this crate checks.
+-- Goals of `front` (src/copies.rt).
 use Rattle.std.proofs.Common.{◌≡◌, ◌+◌, ℕ, length, min, arith, sym, ap, ◌∙◌, refl, true, subst}
 use Rattle.mw_disk.specs.Runs.{Good}
 use Rattle.mw_disk.proofs.RunLaws.{good_call, good_trans, then_bad, bad_wider, called_later, still_honest, touched_trans, touched_quiet}

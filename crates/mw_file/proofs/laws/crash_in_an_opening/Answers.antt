@@ -1,5 +1,4 @@
--- Proves the law `crash_in_an_opening` (src/laws.rt): a crash at any moment of an opening leaves a file of the same words and
--- places, however the opening ends. Used by: that law alone. It may change freely as long as this crate checks.
+-- Proves the law `crash_in_an_opening`.
 use Rattle.mw_file.proofs.Reopened.{same_trans, unchanged_of}
 use Rattle.mw_file.proofs.laws.crash_in_an_opening.Goals as goal
 

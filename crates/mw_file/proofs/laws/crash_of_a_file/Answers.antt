@@ -1,5 +1,4 @@
--- Proves the law `crash_of_a_file` (src/laws.rt): what a crash leaves of a file in use is not damaged: it opens with the file's
--- words, or with these and the change in doubt. Used by: that law alone. It may change freely as long as this crate checks.
+-- Proves the law `crash_of_a_file`.
 use Rattle.std.proofs.Common.{length}
 use Rattle.mw_file.specs.File.{states_of}
 use Rattle.mw_file.proofs.Reopened.{holds_again}

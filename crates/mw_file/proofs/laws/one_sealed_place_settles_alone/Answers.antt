@@ -1,5 +1,4 @@
--- Proves the law `one_sealed_place_settles_alone` (src/laws.rt): if just one place is sealed, `settle_all` makes the device calls
--- of its settle. Used by: that law alone. It may change freely as long as this crate checks.
+-- Proves the law `one_sealed_place_settles_alone`.
 use Rattle.mw_file.proofs.NewPlaces.{freed_alone}
 use Rattle.mw_file.proofs.SharedSettles.{freed_one, one_calls, one_count}
 use Rattle.mw_file.proofs.laws.one_sealed_place_settles_alone.Goals as goal

@@ -1,5 +1,4 @@
--- Proves the law `places_are_counted` (src/laws.rt): some place is free exactly if fewer places have a change than there are
--- places. Used by: that law alone. It may change freely as long as this crate checks.
+-- Proves the law `places_are_counted`.
 use Rattle.std.proofs.Common.{ap, ◌∙◌, ◌+◌}
 use Rattle.mw_file.specs.Taken.{taken, if_taken}
 use Rattle.mw_file.proofs.TakenCounts.{has_free, taken_staged}

@@ -1,5 +1,4 @@
--- Proves the law `the_device_fails_where_it_is_told` (src/laws.rt): the device fails at the call that a test names. Used by:
--- that law alone. It may change freely as long as this crate checks.
+-- Proves the law `the_device_fails_where_it_is_told`.
 use Rattle.mw_file.specs.File.{disk_of}
 use Rattle.mw_file.proofs.Ran.{told_well, told_badly}
 use Rattle.mw_file.proofs.laws.the_device_fails_where_it_is_told.Goals as goal

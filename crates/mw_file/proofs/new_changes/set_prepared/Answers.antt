@@ -1,5 +1,4 @@
--- Proves goals of `set_prepared` (src/new_changes.rt) that the check does not prove by itself. Used by: the proof of that
--- function alone. It may change freely as long as this crate checks.
+-- Goals of `set_prepared` (src/new_changes.rt).
 use Rattle.std.proofs.Common.{◌≤◌, List, length, refl, subst, arith}
 use Rattle.std.proofs.lemmas.List.{take_all}
 use Rattle.mw_file.specs.declared.new_changes.NewChange.{NewChange}

@@ -1,5 +1,4 @@
--- States what stays true from turn to turn in the loops of `set_prepared` (src/new_changes.rt). Used by: the proof of that
--- function alone. It may change freely as long as this crate checks.
+-- Loop invariants of `set_prepared` (src/new_changes.rt).
 use Rattle.std.proofs.Common.{take}
 use Rattle.mw_file.specs.NewChanges.{ArePrepared}
 use Rattle.mw_file.proofs.new_changes.set_prepared.Given as goal

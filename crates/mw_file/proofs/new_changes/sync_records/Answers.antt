@@ -1,5 +1,4 @@
--- Proves goals of `sync_records` (src/new_changes.rt) that the check does not prove by itself. Used by: the proof of that
--- function alone. It may change freely as long as this crate checks.
+-- Goals of `sync_records` (src/new_changes.rt).
 use Rattle.std.proofs.Common.{◌+◌, [], ◌∷◌, ◌++◌, length, true, false, arith}
 use Rattle.mw_disk.specs.DeviceCalls.{Sync, Makes}
 use Rattle.mw_disk.proofs.MakesLaws.{makes_one, makes_after, makes_cut}

@@ -1,5 +1,4 @@
--- Proves goals of `write_records` (src/new_changes.rt) that the check does not prove by itself. Used by: the proof of that
--- function alone. It may change freely as long as this crate checks.
+-- Goals of `write_records` (src/new_changes.rt).
 use Rattle.std.proofs.Common.{◌+◌, ◌≤◌, List, [], ◌∷◌, length, drop, true, false, ap, arith, subst}
 use Rattle.std.proofs.lemmas.List.{take_all}
 use Rattle.std.proofs.lemmas.List.Elements.{All-nil}

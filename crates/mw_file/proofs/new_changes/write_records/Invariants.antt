@@ -1,5 +1,4 @@
--- States what stays true from turn to turn in the loops of `write_records` (src/new_changes.rt). Used by: the proof of that
--- function alone. It may change freely as long as this crate checks.
+-- Loop invariants of `write_records` (src/new_changes.rt).
 use Rattle.std.proofs.Common.{ℕ, List, take, drop}
 use Rattle.mw_disk.specs.Runs.{Good, Later}
 use Rattle.mw_file.specs.declared.place_states.PlaceState.{PlaceState}

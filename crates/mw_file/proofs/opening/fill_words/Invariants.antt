@@ -1,5 +1,4 @@
--- States what stays true from turn to turn in the loops of `fill_words` (src/opening.rt). Used by: the proof of that function
--- alone. It may change freely as long as this crate checks.
+-- Loop invariants of `fill_words` (src/opening.rt).
 use Rattle.std.proofs.Common.{◌≡◌, take, vec_len}
 use Rattle.mw_record.specs.Damages.{words_in, words_of}
 use Rattle.mw_file.proofs.opening.fill_words.Given as goal

@@ -1,5 +1,4 @@
--- States what stays true from turn to turn in the loops of `free_states` (src/opening.rt). Used by: the proof of that function
--- alone. It may change freely as long as this crate checks.
+-- Loop invariants of `free_states` (src/opening.rt).
 use Rattle.std.proofs.Common.{◌≡◌, vec_len, true}
 use Rattle.mw_file.specs.PlaceStates.{all_free}
 use Rattle.mw_file.proofs.opening.free_states.Given as goal

@@ -1,5 +1,4 @@
--- States what stays true from turn to turn in the loops of `has_sealed` (src/opening.rt). Used by: the proof of that function
--- alone. It may change freely as long as this crate checks.
+-- Loop invariants of `has_sealed` (src/opening.rt).
 use Rattle.std.proofs.Common.{◌≡◌, take}
 use Rattle.mw_file.specs.PlaceStates.{commit_writes}
 use Rattle.mw_file.proofs.opening.has_sealed.Given as goal

@@ -1,5 +1,4 @@
--- Proves goals of `read_front` (src/opening.rt) that the check does not prove by itself. Used by: the proof of that function
--- alone. It may change freely as long as this crate checks.
+-- Goals of `read_front` (src/opening.rt).
 use Rattle.std.proofs.Common.{◌≡◌, length, min, arith, sym, ◌∙◌}
 use Rattle.std.proofs.lemmas.Bool.{eqb-false}
 use Rattle.mw_disk.proofs.RunLaws.{touched_none}

@@ -1,5 +1,4 @@
--- States what stays true from turn to turn in the loops of `recall` (src/opening.rt). Used by: the proof of that function
--- alone. It may change freely as long as this crate checks.
+-- Loop invariants of `recall` (src/opening.rt).
 use Rattle.std.proofs.Common.{ℕ, ◌≡◌, ◌≤◌, ◌<◌, length}
 use Rattle.mw_record.specs.Damages.{found_places, records_of}
 use Rattle.mw_file.specs.declared.place_states.Stage.TheVariants.{Prepared, Sealed}

@@ -1,5 +1,4 @@
--- Proves goals of `repair` (src/opening.rt) that the check does not prove by itself. Used by: the proof of that function alone.
--- It may change freely as long as this crate checks.
+-- Goals of `repair` (src/opening.rt).
 use Rattle.std.proofs.Common.{◌⊎◌, ◌==◌, ◌≤◌, length, sym, ◌∙◌}
 use Rattle.std.proofs.lemmas.Bool.{eqb-true, not-false}
 use Rattle.mw_disk.proofs.RunLaws.{leaves_same, same_but_refl}

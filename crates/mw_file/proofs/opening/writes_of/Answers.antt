@@ -1,5 +1,4 @@
--- Proves goals of `writes_of` (src/opening.rt) that the check does not prove by itself. Used by: the proof of that function
--- alone. It may change freely as long as this crate checks.
+-- Goals of `writes_of` (src/opening.rt).
 use Rattle.mw_record.specs.Damages.{pairs_in}
 use Rattle.mw_file.proofs.Recalled.{pairs_more}
 use Rattle.mw_file.proofs.opening.writes_of.Goals as goal

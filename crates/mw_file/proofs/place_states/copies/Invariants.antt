@@ -1,5 +1,4 @@
--- States what stays true from turn to turn in the loops of `copies` (src/place_states.rt). Used by: the proof of that function
--- alone. It may change freely as long as this crate checks.
+-- Loop invariants of `copies` (src/place_states.rt).
 use Rattle.std.proofs.Common.{◌≡◌, take}
 use Rattle.mw_file.proofs.place_states.copies.Given as goal
 

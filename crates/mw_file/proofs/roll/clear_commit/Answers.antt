@@ -1,5 +1,4 @@
--- Proves goals of `clear_commit` (src/roll.rt) that the check does not prove by itself. Used by: the proof of that function
--- alone. It may change freely as long as this crate checks.
+-- Goals of `clear_commit` (src/roll.rt).
 use Rattle.std.proofs.Common.{arith}
 use Rattle.mw_disk.proofs.RunLaws.{touched_write}
 use Rattle.mw_file.specs.RollForward.{AtCommit}

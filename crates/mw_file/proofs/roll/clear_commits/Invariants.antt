@@ -1,5 +1,4 @@
--- States what stays true from turn to turn in the loops of `clear_commits` (src/roll.rt). Used by: the proof of that function
--- alone. It may change freely as long as this crate checks.
+-- Loop invariants of `clear_commits` (src/roll.rt).
 use Rattle.std.proofs.Common.{ℕ, ◌≡◌, ◌+◌, ◌<◌, length, drop, slice_index, IsTrue, take}
 use Rattle.mw_disk.specs.Runs.{Good, Later, Touched, Fits}
 use Rattle.mw_record.specs.declared.layout.Layout.TheVariants.{Second}

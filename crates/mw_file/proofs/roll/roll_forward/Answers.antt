@@ -1,5 +1,4 @@
--- Proves goals of `roll_forward` (src/roll.rt) that the check does not prove by itself. Used by: the proof of that function
--- alone. It may change freely as long as this crate checks.
+-- Goals of `roll_forward` (src/roll.rt).
 use Rattle.std.proofs.Common.{◌+◌, [], ◌∷◌, ◌++◌, true, false, arith}
 use Rattle.mw_file.specs.PlaceStates.{home_writes, commit_writes, roll_calls}
 use Rattle.mw_disk.proofs.RunLaws.{still_honest}

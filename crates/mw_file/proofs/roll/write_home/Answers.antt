@@ -1,5 +1,4 @@
--- Proves goals of `write_home` (src/roll.rt) that the check does not prove by itself. Used by: the proof of that function
--- alone. It may change freely as long as this crate checks.
+-- Goals of `write_home` (src/roll.rt).
 use Rattle.std.proofs.Common.{◌∙◌, Option, drop, ap, sym, subst}
 use Rattle.mw_disk.specs.Runs.{Touched}
 use Rattle.mw_record.specs.Records.{Pairs, home, record_over}

@@ -1,5 +1,4 @@
--- States what stays true from turn to turn in the loops of `write_homes` (src/roll.rt). Used by: the proof of that function
--- alone. It may change freely as long as this crate checks.
+-- Loop invariants of `write_homes` (src/roll.rt).
 use Rattle.std.proofs.Common.{ℕ, ◌≡◌, ◌<◌, take, drop}
 use Rattle.mw_disk.specs.Runs.{Good, Later, Touched}
 use Rattle.mw_record.specs.Records.{home, all_over}

@@ -1,5 +1,4 @@
--- Proves goals of `write_values` (src/roll.rt) that the check does not prove by itself. Used by: the proof of that function
--- alone. It may change freely as long as this crate checks.
+-- Goals of `write_values` (src/roll.rt).
 use Rattle.std.proofs.Common.{◌≡◌, [], ◌∷◌, true, false, drop, ◌^◌, ℕ, ◌≤◌, ◌+◌, ◌<◌, length, take, map, get_or, ap, ◌∙◌, arith, subst}
 use Rattle.std.proofs.lemmas.List.{take_all}
 use Rattle.mw_disk.proofs.RunLaws.{good_call, called_later, later_trans, still_honest}

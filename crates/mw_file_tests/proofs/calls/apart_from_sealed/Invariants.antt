@@ -1,5 +1,4 @@
--- States what stays true from turn to turn in the loops of `apart_from_sealed` (src/calls.rt). Used by: the proof of that function
--- alone. It may change freely as long as this crate checks.
+-- Loop invariants of `apart_from_sealed` (src/calls.rt).
 use Rattle.std.proofs.Common.{◌≡◌, drop}
 use Rattle.std.specs.List.{list_all}
 use Rattle.mw_file_tests.specs.Permitted as spec

@@ -1,5 +1,4 @@
--- Proves goals of `may_prepare` (src/calls.rt) that the check does not prove by itself. Used by: the proof of that function
--- alone. It may change freely as long as this crate checks.
+-- Goals of `may_prepare` (src/calls.rt).
 use Rattle.std.proofs.Common.{sym, ◌∙◌}
 use Rattle.mw_file_tests.proofs.PreparedPlaces.{may_prepare_from}
 use Rattle.mw_file_tests.proofs.calls.may_prepare.Goals as goal

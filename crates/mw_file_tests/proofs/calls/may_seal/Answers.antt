@@ -1,5 +1,4 @@
--- Proves goals of `may_seal` (src/calls.rt) that the check does not prove by itself. Used by: the proof of that function
--- alone. It may change freely as long as this crate checks.
+-- Goals of `may_seal` (src/calls.rt).
 use Rattle.std.proofs.Common.{sym, ◌∙◌}
 use Rattle.mw_file.specs.PlaceStates.{writes_of_place}
 use Rattle.mw_file_tests.proofs.ApartWrites.{apart_from}

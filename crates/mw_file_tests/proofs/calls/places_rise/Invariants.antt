@@ -1,5 +1,4 @@
--- States what stays true from turn to turn in the loops of `places_rise` (src/calls.rt). Used by: the proof of that function
--- alone. It may change freely as long as this crate checks.
+-- Loop invariants of `places_rise` (src/calls.rt).
 use Rattle.std.proofs.Common.{◌≡◌, drop}
 use Rattle.mw_file_tests.specs.Permitted as spec
 use Rattle.mw_file_tests.proofs.calls.places_rise.Given as goal

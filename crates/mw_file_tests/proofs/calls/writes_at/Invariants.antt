@@ -1,5 +1,4 @@
--- States what stays true from turn to turn in the loops of `writes_at` (src/calls.rt). Used by: the proof of that function
--- alone. It may change freely as long as this crate checks.
+-- Loop invariants of `writes_at` (src/calls.rt).
 use Rattle.std.proofs.Common.{◌≡◌, drop}
 use Rattle.mw_record.specs.Records.{holds}
 use Rattle.mw_file_tests.proofs.calls.writes_at.Given as goal

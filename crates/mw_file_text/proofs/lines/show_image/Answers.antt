@@ -1,5 +1,4 @@
--- Proves goals of `show_image` (src/lines.rt) that the check does not prove by itself. Used by: the proof of that function
--- alone. It may change freely as long as this crate checks.
+-- Goals of `show_image` (src/lines.rt).
 use Rattle.std.proofs.Common.{◌++◌, List, ℕ}
 use Rattle.std.proofs.KnownBytes.{Appends-trans}
 use Rattle.mw_record.specs.Damages.{at_of, layout_of}

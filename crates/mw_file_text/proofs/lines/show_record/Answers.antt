@@ -1,5 +1,4 @@
--- Proves goals of `show_record` (src/lines.rt) that the check does not prove by itself. Used by: the proof of that function
--- alone. It may change freely as long as this crate checks.
+-- Goals of `show_record` (src/lines.rt).
 use Rattle.mw_file_text.proofs.Written.{item_more}
 use Rattle.mw_record.specs.Damages.{pairs_in}
 use Rattle.mw_file_text.specs.Text.{entry_line}

@@ -1,5 +1,4 @@
--- States what stays true from turn to turn in the loops of `show_record` (src/lines.rt). Used by: the proof of that function
--- alone. It may change freely as long as this crate checks.
+-- Loop invariants of `show_record` (src/lines.rt).
 use Rattle.std.proofs.Common.{take}
 use Rattle.std.specs.List.{flat_map}
 use Rattle.std.specs.Io.KnownBytes.{Appends}

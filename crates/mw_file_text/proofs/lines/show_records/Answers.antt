@@ -1,5 +1,4 @@
--- Proves goals of `show_records` (src/lines.rt) that the check does not prove by itself. Used by: the proof of that function
--- alone. It may change freely as long as this crate checks.
+-- Goals of `show_records` (src/lines.rt).
 use Rattle.mw_file_text.proofs.Written.{text_more}
 use Rattle.mw_file_text.specs.Text.{record_text}
 use Rattle.mw_file_text.proofs.lines.show_records.Goals as goal

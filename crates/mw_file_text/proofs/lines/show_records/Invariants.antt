@@ -1,5 +1,4 @@
--- States what stays true from turn to turn in the loops of `show_records` (src/lines.rt). Used by: the proof of that function
--- alone. It may change freely as long as this crate checks.
+-- Loop invariants of `show_records` (src/lines.rt).
 use Rattle.std.specs.List.{flat_map, range_with_len}
 use Rattle.std.specs.Io.KnownBytes.{Appends}
 use Rattle.mw_file_text.specs.Text.{record_text}

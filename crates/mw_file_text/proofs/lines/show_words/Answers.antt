@@ -1,5 +1,4 @@
--- Proves goals of `show_words` (src/lines.rt) that the check does not prove by itself. Used by: the proof of that function
--- alone. It may change freely as long as this crate checks.
+-- Goals of `show_words` (src/lines.rt).
 use Rattle.std.proofs.Common.{◌≡◌, ℕ, subst, arith}
 use Rattle.std.specs.Io.KnownBytes.{Appends}
 use Rattle.mw_record.proofs.Faults.{word_in}

@@ -1,5 +1,4 @@
--- Proves the law `call_by_call` (src/laws.rt): the same call by call, for whoever reads pieces and asks for lines in a loop.
--- Used by: that law alone. It may change freely as long as this crate checks.
+-- Proves the law `call_by_call`.
 use Rattle.mw_frame.proofs.GivenLines.{given-at-first, given-then-fed, given-then-more, none-left}
 use Rattle.mw_frame.proofs.laws.call_by_call.Goals as goal
 

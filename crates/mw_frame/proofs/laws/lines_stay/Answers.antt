@@ -1,5 +1,4 @@
--- Proves the law `lines_stay` (src/laws.rt): the lines of the first bytes are the first lines of all. Used by: that law alone.
--- It may change freely as long as this crate checks.
+-- Proves the law `lines_stay`.
 use Rattle.mw_frame.proofs.CutTexts.{lines-stay}
 use Rattle.mw_frame.proofs.laws.lines_stay.Goals as goal
 

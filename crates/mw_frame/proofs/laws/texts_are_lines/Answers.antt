@@ -1,5 +1,4 @@
--- Proves the law `texts_are_lines` (src/laws.rt): says what the lines of any bytes are. Used by: that law alone. It may change
--- freely as long as this crate checks.
+-- Proves the law `texts_are_lines`.
 use Rattle.mw_frame.proofs.CutTexts.{each-is-cut, texts-are-lines, too-long-is-last}
 use Rattle.mw_frame.proofs.laws.texts_are_lines.Goals as goal
 

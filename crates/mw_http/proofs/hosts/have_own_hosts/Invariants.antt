@@ -1,5 +1,4 @@
--- States what stays true from turn to turn in the loop of `have_own_hosts` (src/hosts.rt). Used by: the proof of that function
--- alone. It may change freely as long as this crate checks.
+-- Loop invariants of `have_own_hosts` (src/hosts.rt).
 use Rattle.std.proofs.Common.{◌≡◌, map, drop}
 use Rattle.std.specs.List.{list_all}
 use Rattle.std.specs.Prelude.{string_bytes}

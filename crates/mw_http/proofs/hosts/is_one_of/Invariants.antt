@@ -1,5 +1,4 @@
--- States what stays true from turn to turn in the loop of `is_one_of` (src/hosts.rt). Used by: the proof of that function
--- alone. It may change freely as long as this crate checks.
+-- Loop invariants of `is_one_of` (src/hosts.rt).
 use Rattle.std.proofs.Common.{◌≡◌, map, drop}
 use Rattle.std.specs.Prelude.{string_bytes}
 use Rattle.mw_http.specs.Hosts.{is_one_of}

@@ -1,5 +1,4 @@
--- Proves goals of `after_entries` (src/dump.rt) that the check does not prove by itself. Used by: the proof of that function alone. It
--- may change freely as long as this crate checks.
+-- Goals of `after_entries` (src/dump.rt).
 use Rattle.mw_init.proofs.Dumps.{entries_and_next}
 use Rattle.mw_init.proofs.dump.after_entries.Goals as goal
 

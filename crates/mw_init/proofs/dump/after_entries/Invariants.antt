@@ -1,5 +1,4 @@
--- States what stays true from turn to turn in the loop of `after_entries` (src/dump.rt). Used by: the proof of that function alone. It
--- may change freely as long as this crate checks.
+-- Loop invariants of `after_entries` (src/dump.rt).
 use Rattle.mw_init.specs.Dump.{HasEntries}
 use Rattle.mw_init.proofs.dump.after_entries.Given as goal
 

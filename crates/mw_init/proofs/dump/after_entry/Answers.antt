@@ -1,5 +1,4 @@
--- Proves goals of `after_entry` (src/dump.rt) that the check does not prove by itself. Used by: the proof of that function alone. It
--- may change freely as long as this crate checks.
+-- Goals of `after_entry` (src/dump.rt).
 use Rattle.std.proofs.Common.{◌≡◌, ◌∙◌}
 use Rattle.mw_init.specs.Dump.{open_line}
 use Rattle.mw_init.proofs.Dumps.{entry_found, entry_printed}

@@ -1,5 +1,4 @@
--- Proves goals of `behind` (src/dump.rt) that the check does not prove by itself. Used by: the proof of that function alone. It may
--- change freely as long as this crate checks.
+-- Goals of `behind` (src/dump.rt).
 use Rattle.std.proofs.Common.{eqb-true, eq-eqb}
 use Rattle.std.proofs.lemmas.Slice.Eq.{strip_prefix_is}
 use Rattle.mw_init.proofs.dump.behind.Goals as goal

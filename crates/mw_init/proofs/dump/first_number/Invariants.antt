@@ -1,5 +1,4 @@
--- States why the loop of `first_number` (src/dump.rt) ends. Used by: the proof of that function alone. It may change freely as long
--- as this crate checks.
+-- States why the loop of `first_number` (src/dump.rt) ends.
 use Rattle.std.proofs.Common.{length}
 use Rattle.mw_init.proofs.dump.first_number.Given as goal
 

@@ -1,5 +1,4 @@
--- Proves goals of `read_dump` (src/dump.rt) that the check does not prove by itself. Used by: the proof of that function alone. It
--- may change freely as long as this crate checks.
+-- Goals of `read_dump` (src/dump.rt).
 use Rattle.mw_init.proofs.Dumps.{whole}
 use Rattle.mw_init.proofs.dump.read_dump.Goals as goal
 

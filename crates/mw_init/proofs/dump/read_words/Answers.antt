@@ -1,5 +1,4 @@
--- Proves goals of `read_words` (src/dump.rt) that the check does not prove by itself. Used by: the proof of that function alone. It
--- may change freely as long as this crate checks.
+-- Goals of `read_words` (src/dump.rt).
 use Rattle.std.proofs.Common.{◌≡◌, [], ◌∷◌, ◌+◌, ◌++◌, length, length-append, refl, sym, subst, ap, ◌∙◌, arith}
 use Rattle.mw_init.specs.Dump.{word_line, words_text}
 use Rattle.mw_init.proofs.Dumps.{all_read, one_word_more}

@@ -1,5 +1,4 @@
--- States what stays true from turn to turn in the loop of `read_words` (src/dump.rt). Used by: the proof of that function alone. It may
--- change freely as long as this crate checks.
+-- Loop invariants of `read_words` (src/dump.rt).
 use Rattle.std.proofs.Common.{◌≡◌, ◌++◌, length}
 use Rattle.mw_init.specs.Dump.{words_text}
 use Rattle.mw_init.proofs.dump.read_words.Given as goal

@@ -1,5 +1,4 @@
--- States what stays true from turn to turn in the loop of `has_words` (src/dumped_file.rt). Used by: the proof of that function alone.
--- It may change freely as long as this crate checks.
+-- Loop invariants of `has_words` (src/dumped_file.rt).
 use Rattle.std.proofs.Common.{◌≡◌, ◌<◌, ℕ, Some, slice_get, slice_index}
 use Rattle.mw_record.specs.Damages.{words_in}
 use Rattle.mw_init.proofs.dumped_file.has_words.Given as goal

@@ -1,6 +1,6 @@
--- After a call on its tenant's file, an informed request (`IsInformed`: it knows the facts of its point) knows the facts of its
--- next point.
--- Used by: calls_inform, FileCalls. It may change freely as long as this crate checks.
+-- After a call on its tenant's file, an informed request (`IsInformed`: it knows the facts of its point) knows the facts of
+-- its next point.
+-- Used by: calls_inform.
 use Rattle.std.specs.Prelude.{◌≡◌, Bool, true, false, List, ◌∷◌, [], ◌++◌, Some, None}
 use Rattle.std.proofs.Common.{refl, sym, subst, ◌∙◌, arith}
 use Rattle.mw_words.specs.declared.replies.Reply.TheVariants.{Fault as SaysFault}

@@ -1,6 +1,5 @@
 -- If a request is informed (it knows the facts of its point), each move of its call on a file has its precondition (`Guard`).
--- Used by: the law calls_inform, FileCalls, Obligations/FileCalls, Knowledge/Calls/AfterCalls, mw_law_store. Its statements may
--- change with mw_law_store; its proofs may change freely.
+-- Used by: calls_inform, mw_law_store.
 use Rattle.std.specs.Prelude.{ℕ, suc, ◌≡◌, ◌≢◌, ◌<◌, ◌==◌, Bool, true, false, List, ◌∷◌, [], ◌++◌, length, Some, None, is_some}
 use Rattle.std.proofs.Common.{refl, sym, ap, subst, ◌∙◌, arith}
 use Rattle.std.proofs.lemmas.Bool.Decides.{nat_tests}

@@ -1,6 +1,5 @@
--- At the few points where a worker's attempt is in a word, its new intent (that attempt, or a permission to hold the word) has
--- its precondition.
--- Used by: Knowledge/Guards/UpdateGuards, Knowledge/Guards/ReadGuards. It may change freely as long as this crate checks.
+-- At the few points where a worker's attempt is in a word, its new intent (that attempt, or a permission to hold the word)
+-- has its precondition.
 use Rattle.std.specs.Prelude.{ℕ, ◌≡◌, ◌≢◌, ◌<◌, ◌==◌, Bool, true, false, if◌then◌else◌}
 use Rattle.std.proofs.Common.{refl, sym, ap, subst, ◌∙◌, arith}
 use Rattle.std.proofs.lemmas.Bool.Decides.{nat_tests}

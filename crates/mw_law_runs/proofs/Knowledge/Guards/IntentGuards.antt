@@ -1,7 +1,5 @@
 -- After most steps a worker has no attempt in a word and no permission to hold one. So its new intent (either of the two) has
 -- its precondition.
--- Used by: Knowledge/Guards/UpdateGuards, Knowledge/Guards/ReadGuards, Knowledge/Guards/Attempts. It may change freely as long
--- as this crate checks.
 use Rattle.std.specs.Prelude.{ℕ, ◌≡◌, ◌≢◌, ◌+◌, ◌==◌, ◌&&◌, ◌||◌, Bool, false, nat_lt, nat_le, length, Option, Some, None}
 use Rattle.std.proofs.Common.{sym, ◌∙◌}
 use Rattle.mw_words.specs.declared.doors.Door.{Door}

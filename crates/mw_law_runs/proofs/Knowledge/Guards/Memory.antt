@@ -1,7 +1,6 @@
--- Facts about a request's target, its entries and its pinned slots, from the invariant of the shared words and what the request
--- knows.
--- Used by: Knowledge/Guards/UpdateGuards, Knowledge/Guards/Words, Knowledge/Guards/Attempts, mw_law_store. Its statements may
--- change with mw_law_store; its proofs may change freely.
+-- Facts about a request's target, its entries and its pinned slots, from the invariant of the shared words and what the
+-- request knows.
+-- Used by: mw_law_store.
 use Rattle.std.specs.Prelude.{ℕ, suc, ◌≡◌, ◌≢◌, ◌<◌, ◌≤◌, ◌==◌, Bool, true, false, if◌then◌else◌, List, [], ◌∷◌, length, Option, Some, is_some}
 use Rattle.std.specs.Option.{option_map_or}
 use Rattle.std.proofs.Common.{refl, sym, ap, subst, arith}

@@ -1,7 +1,6 @@
 -- If a request is informed (it knows its point's facts), each move of a step that changes no shared word has its precondition
 -- (`Guard`).
--- Used by: moves_have_guards, StepsKeepInvariant, mw_law_store. Its statements may change with mw_law_store; its proofs may
--- change freely.
+-- Used by: moves_have_guards, mw_law_store.
 use Rattle.std.specs.Prelude.{ℕ, ◌≡◌, ◌++◌, [], ◌∷◌}
 use Rattle.std.proofs.Common.{refl, sym, subst, arith}
 use Rattle.mw_words.specs.declared.replies.Reply.{Reply}

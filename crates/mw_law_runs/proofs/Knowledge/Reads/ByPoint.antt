@@ -1,7 +1,6 @@
--- A request is informed (`IsInformed`) if it knows the facts of its point (program counter) in a sound world. After a step that
--- changes no shared word, an informed request knows the facts of its next point too: one case for each point.
--- Used by: the law reads_inform, StepsKeepInvariant, mw_law_store. Its statements may change with mw_law_store; its proofs may
--- change freely.
+-- After a step that changes no shared word, an informed request (`IsInformed`) knows the facts of its next point too: one
+-- case for each point.
+-- Used by: reads_inform, mw_law_store.
 use Rattle.std.specs.Prelude.{ℕ, ◌≡◌, ◌≤◌, ◌+◌, ◌&&◌, ◌||◌, Bool, false, nat_lt, nat_le, Option, Some, None}
 use Rattle.std.proofs.Common.{sym, ap, ◌∙◌, arith}
 use Rattle.mw_words.specs.declared.doors.Door.{Door}

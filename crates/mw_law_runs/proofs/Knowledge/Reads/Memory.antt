@@ -1,7 +1,6 @@
--- What the invariant of the shared words tells of a word, and of a change whose slot is still taken under the change's number.
--- Used by: Knowledge/Reads/ByPoint, Obligations/Cleaners, Knowledge/Calls/CallGuards, Knowledge/Reads/Help,
--- Knowledge/Reads/Inspection, other pages, mw_law_store. Its statements may change with mw_law_store; its proofs may change
--- freely.
+-- What the invariant of the shared words tells of a word, and of a change whose slot is still taken under the change's
+-- number.
+-- Used by: mw_law_store.
 use Rattle.std.specs.Prelude.{ℕ, ◌≡◌, ◌≢◌, ◌<◌, ◌≤◌, true, List, length, Option, Some, is_some}
 use Rattle.std.specs.Option.{option_map_or}
 use Rattle.std.proofs.Common.{sym, ap, subst, ◌∙◌, arith}

@@ -1,5 +1,4 @@
 -- What a read (a request that reads one word) knows after a step that changes no shared word.
--- Used by: Knowledge/Reads/ByPoint. It may change freely as long as this crate checks.
 use Rattle.std.specs.Prelude.{ℕ, ◌≡◌, ◌+◌, ◌-◌, ◌==◌, Bool, true, false, nat_lt, Option, Some, None}
 use Rattle.std.proofs.Common.{refl, subst, ◌∙◌, arith}
 use Rattle.std.proofs.lemmas.Bool.Decides.{nat_tests}

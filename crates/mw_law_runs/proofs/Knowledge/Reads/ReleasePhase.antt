@@ -1,5 +1,4 @@
 -- What a request knows after it has read, or released, a word of a decided change.
--- Used by: Knowledge/Reads/ByPoint, Knowledge/Updates/Releases. It may change freely as long as this crate checks.
 use Rattle.std.specs.Prelude.{ℕ, ◌≡◌, ◌≢◌, ◌<◌, ◌+◌, ◌==◌, ◌&&◌, Bool, true, false, cond, nat_lt, List, length}
 use Rattle.std.proofs.Common.{refl, sym, ap, subst, ◌∙◌, inl, inr, arith}
 use Rattle.std.proofs.lemmas.Bool.Decides.{nat_tests}

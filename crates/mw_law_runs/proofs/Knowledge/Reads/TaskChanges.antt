@@ -1,6 +1,4 @@
 -- What a request knows when it starts to work on a change (its own or another's), finishes with one, or gives up.
--- Used by: Knowledge/Reads/Inspection, Knowledge/Updates/Unpins, Knowledge/Calls/AfterCalls, Knowledge/Reads/ReleasePhase,
--- Knowledge/Updates/Acquisition. It may change freely as long as this crate checks.
 use Rattle.std.specs.Prelude.{ℕ, ◌≡◌, Bool, true, cond}
 use Rattle.std.proofs.Common.{sym, ap, subst, ◌∙◌, arith}
 use Rattle.std.proofs.lemmas.Bool.Decides.{nat_tests}

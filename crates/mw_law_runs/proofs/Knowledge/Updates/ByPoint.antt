@@ -1,7 +1,6 @@
 -- After a step that changes a shared word, an informed request (`IsInformed`) knows the facts of its next point: one case for
 -- each point.
--- Used by: updates_inform, StepsKeepInvariant, mw_law_store. Its statements may change with mw_law_store; its proofs may change
--- freely.
+-- Used by: updates_inform, mw_law_store.
 use Rattle.std.specs.Prelude.{◌≡◌, Some}
 use Rattle.std.proofs.Common.{sym, subst}
 use Rattle.mw_look.specs.declared.observations.Observation.{Observation}

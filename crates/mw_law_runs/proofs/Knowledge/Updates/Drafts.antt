@@ -1,5 +1,4 @@
 -- What a request knows while it claims a slot and writes its change into it.
--- Used by: Knowledge/Updates/ByPoint, Knowledge/Calls/AfterCalls. It may change freely as long as this crate checks.
 use Rattle.std.specs.Prelude.{ℕ, ◌≡◌, ◌≢◌, ◌<◌, ◌≤◌, ◌+◌, Bool, true, false, nat_lt, List, length}
 use Rattle.std.proofs.Common.{refl, ap, subst, ◌∙◌, arith}
 use Rattle.std.proofs.lemmas.Bool.Decides.{nat_tests}

@@ -1,7 +1,5 @@
--- A step of any worker keeps what a request knows, if it keeps the request's pinned slots and the request's own. The latter
--- (`KeepsOwn`) is its pin, its draft, its worker's row and next attempt number.
--- Used by: KnowledgeOverSteps, ArrivalsAndStarts, FileCalls, Knowledge/Calls/AfterCalls, Knowledge/Updates/Acquisition, other
--- pages, mw_law_store, mw_rule. Its statements may change with mw_law_store and mw_rule; its proofs may change freely.
+-- A step of any worker keeps what a request knows, if it keeps the request's pinned slots and the request's own (`KeepsOwn`).
+-- Used by: mw_law_store, mw_rule, mw_law_threads.
 use Rattle.std.specs.Prelude.{ℕ, ◌≡◌, ◌≢◌, ◌≤◌, ◌+◌, Bool, true}
 use Rattle.std.proofs.Common.{ap, ◌∙◌, arith}
 use Rattle.std.proofs.lemmas.Bool.Decides.{nat_tests}

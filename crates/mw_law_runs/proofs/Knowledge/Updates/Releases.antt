@@ -1,5 +1,4 @@
 -- What a request knows after it has released a word of a decided change, or resolved an attempt that it met there.
--- Used by: Knowledge/Updates/ByPoint. It may change freely as long as this crate checks.
 use Rattle.std.specs.Prelude.{ℕ, ◌≡◌, ◌≢◌}
 use Rattle.std.proofs.Common.{refl, sym, ap, ◌∙◌}
 use Rattle.mw_look.specs.declared.observations.Observation.TheVariants.{Won}

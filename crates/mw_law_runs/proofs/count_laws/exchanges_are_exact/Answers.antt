@@ -1,5 +1,4 @@
--- Proves the law `exchanges_are_exact` (src/count_laws.rt): an exchange of a door or a gate that finds the bits of the expected value
--- finds exactly that value. Used by: that law alone. It may change freely as long as this crate checks.
+-- Proves the law `exchanges_are_exact`.
 use Rattle.mw_law_runs.proofs.Counts.Exact.{exchanges-are-exact}
 use Rattle.mw_law_runs.proofs.count_laws.exchanges_are_exact.Goals as goal
 

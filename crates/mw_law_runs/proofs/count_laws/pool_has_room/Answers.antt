@@ -1,5 +1,4 @@
--- Proves the law `pool_has_room` (src/count_laws.rt): if the invariant of counts holds, there is room in the pool. Used by: that law
--- alone. It may change freely as long as this crate checks.
+-- Proves the law `pool_has_room`.
 use Rattle.mw_law_runs.proofs.Counts.Room.{doors-count-the-taken, who-waits-has-room}
 use Rattle.mw_law_runs.proofs.count_laws.pool_has_room.Goals as goal
 

@@ -1,5 +1,4 @@
--- Proves the law `calls_inform` (src/knowledge_laws.rt): the precondition of each move of a file call holds, if its request is
--- informed. Used by: that law alone. It may change freely as long as this crate checks.
+-- Proves the law `calls_inform`.
 use Rattle.mw_law_runs.proofs.Knowledge.Calls.AfterCalls.{calls_inform}
 use Rattle.mw_law_runs.proofs.Knowledge.Calls.CallGuards.{calls_have_guards}
 use Rattle.mw_law_runs.proofs.knowledge_laws.calls_inform.Goals as goal

@@ -1,5 +1,4 @@
--- Proves the law `moves_have_guards` (src/knowledge_laws.rt): the precondition of each move of a request's step holds, if the
--- request is informed. Used by: that law alone. It may change freely as long as this crate checks.
+-- Proves the law `moves_have_guards`.
 use Rattle.mw_law_runs.proofs.Knowledge.Guards.UpdateGuards.{updates_have_guards}
 use Rattle.mw_law_runs.proofs.Knowledge.Guards.ReadGuards.{reads_have_guards}
 use Rattle.mw_law_runs.proofs.knowledge_laws.moves_have_guards.Goals as goal

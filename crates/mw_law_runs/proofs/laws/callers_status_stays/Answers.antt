@@ -1,5 +1,4 @@
--- Proves the law `callers_status_stays` (src/laws.rt): after every run, a request may be at a call on its file, and its change
--- may have the status that the call starts from. Used by: that law alone. It may change freely as long as this crate checks.
+-- Proves the law `callers_status_stays`.
 use Rattle.mw_law_runs.proofs.Statuses.{callers_status_stays}
 use Rattle.mw_law_runs.proofs.laws.callers_status_stays.Goals as goal
 

@@ -1,5 +1,4 @@
--- Proves the law `events_keep_sound` (src/laws.rt): every event leaves a sound world sound and keeps words that fit in its
--- files. Used by: that law alone. It may change freely as long as this crate checks.
+-- Proves the law `events_keep_sound`.
 use Rattle.mw_law_runs.proofs.RunsAreSound.{events_keep_sound}
 use Rattle.mw_law_runs.proofs.laws.events_keep_sound.Goals as goal
 

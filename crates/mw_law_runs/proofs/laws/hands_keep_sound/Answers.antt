@@ -1,5 +1,4 @@
--- Proves the law `hands_keep_sound` (src/laws.rt): a reply that is handed out leaves a sound world sound. Used by: that law
--- alone. It may change freely as long as this crate checks.
+-- Proves the law `hands_keep_sound`.
 use Rattle.mw_law_runs.proofs.ArrivalsAndStarts.{hands_keep_sound}
 use Rattle.mw_law_runs.proofs.laws.hands_keep_sound.Goals as goal
 

@@ -1,5 +1,4 @@
--- Proves the law `last_pins_are_free` (src/laws.rt): when a request takes back the last pin of a slot, no word refers to the
--- slot. Used by: that law alone. It may change freely as long as this crate checks.
+-- Proves the law `last_pins_are_free`.
 use Rattle.mw_law_runs.proofs.Obligations.LastPins.{last_pins_are_free}
 use Rattle.mw_law_runs.proofs.laws.last_pins_are_free.Goals as goal
 

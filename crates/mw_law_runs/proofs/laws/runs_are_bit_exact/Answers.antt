@@ -1,5 +1,4 @@
--- Proves the law `runs_are_bit_exact` (src/laws.rt): every run is bit-exact. Used by: that law alone. It may change freely as
--- long as this crate checks.
+-- Proves the law `runs_are_bit_exact`.
 use Rattle.mw_law_runs.proofs.BitExactness.{runs_are_bit_exact}
 use Rattle.mw_law_runs.proofs.laws.runs_are_bit_exact.Goals as goal
 

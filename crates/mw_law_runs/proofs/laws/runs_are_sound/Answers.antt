@@ -1,5 +1,4 @@
--- Proves the law `runs_are_sound` (src/laws.rt): every run leads to a sound world, and there is room in the pool after it. Used
--- by: that law alone. It may change freely as long as this crate checks.
+-- Proves the law `runs_are_sound`.
 use Rattle.mw_law_runs.proofs.RunsAreSound.{room_is_left, runs_are_sound, sound_worlds_are_right}
 use Rattle.mw_law_runs.proofs.laws.runs_are_sound.Goals as goal
 

@@ -1,5 +1,4 @@
--- Proves the law `starts_are_sound` (src/laws.rt): a world is sound at the beginning of a run, if the start gives each tenant
--- words and a quota that fit. Used by: that law alone. It may change freely as long as this crate checks.
+-- Proves the law `starts_are_sound`.
 use Rattle.mw_law_runs.proofs.ArrivalsAndStarts.{restarts_keep_sound, starts_are_sound}
 use Rattle.mw_law_runs.proofs.laws.starts_are_sound.Goals as goal
 

@@ -1,5 +1,4 @@
--- Proves the law `events_tell_points` (src/move_laws.rt): every event keeps `PointsAreTold`: what a worker may do is what its
--- request's point says. Used by: that law alone. It may change freely as long as this crate checks.
+-- Proves the law `events_tell_points`.
 use Rattle.mw_law_runs.proofs.Moves.WorkerPermissions.{events_tell_points}
 use Rattle.mw_law_runs.proofs.move_laws.events_tell_points.Goals as goal
 

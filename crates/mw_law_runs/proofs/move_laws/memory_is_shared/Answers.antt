@@ -1,6 +1,4 @@
--- Proves the law `memory_is_shared` (src/move_laws.rt): the invariant of the shared words, and what others may rely on, depend on
--- nothing but the shared words, the history and the numbers of attempts. Used by: that law alone. It may change freely as long
--- as this crate checks.
+-- Proves the law `memory_is_shared`.
 use Rattle.mw_law_runs.proofs.Moves.Shared.{memory_is_shared, reliance_is_shared}
 use Rattle.mw_law_runs.proofs.move_laws.memory_is_shared.Goals as goal
 

@@ -1,5 +1,4 @@
--- Proves the law `moves_keep_memory` (src/move_laws.rt): a move whose precondition holds keeps the invariant of the shared words
--- (`Memory`). Used by: that law alone. It may change freely as long as this crate checks.
+-- Proves the law `moves_keep_memory`.
 use Rattle.mw_law_runs.proofs.Moves.MovesKeepMemory.{move_keeps, moves_keep}
 use Rattle.mw_law_runs.proofs.move_laws.moves_keep_memory.Goals as goal
 

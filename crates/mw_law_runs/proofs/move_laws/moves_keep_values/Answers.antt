@@ -1,5 +1,4 @@
--- Proves the law `moves_keep_values` (src/move_laws.rt): the shared words tell each word's value as the history does. Used by: that
--- law alone. It may change freely as long as this crate checks.
+-- Proves the law `moves_keep_values`.
 use Rattle.mw_law_runs.proofs.Moves.ValuesOverTurns.{turns_keep_values}
 use Rattle.mw_law_runs.proofs.Moves.ValuesOverMoves.{moves_keep_values, seals_put_values}
 use Rattle.mw_law_runs.proofs.Moves.ValuesFromHistory.{words_tell}

@@ -1,6 +1,4 @@
--- Proves the law `others_may_rely` (src/move_laws.rt): others may rely on what `Rely` says while one worker moves: over one move,
--- over two stretches one after the other, and over several moves. Used by: that law alone. It may change freely as long as this
--- crate checks.
+-- Proves the law `others_may_rely`.
 use Rattle.mw_law_runs.proofs.Moves.Relied.{others_rely, others_rely_on_all, reliance_goes_on}
 use Rattle.mw_law_runs.proofs.move_laws.others_may_rely.Goals as goal
 

@@ -1,5 +1,4 @@
--- Proves the law `steps_are_moves` (src/move_laws.rt): a worker's step changes the shared words, the history and the numbers of
--- attempts as its moves do. Used by: that law alone. It may change freely as long as this crate checks.
+-- Proves the law `steps_are_moves`.
 use Rattle.mw_law_runs.proofs.Moves.CallMoves.{calls_are_moves}
 use Rattle.mw_law_runs.proofs.Moves.StepsKeepMemory.{comes_leave, hands_leave}
 use Rattle.mw_law_runs.proofs.Moves.TurnMoves.{turns_are_moves}

@@ -1,5 +1,4 @@
--- Proves the law `calls_keep_files` (src/file_laws.rt): a call on a file keeps `HasFiles`, however it ends. Used by: that law
--- alone. It may change freely as long as this crate checks.
+-- Proves the law `calls_keep_files`.
 use Rattle.mw_law_store.proofs.Files.CallFiles.{calls_keep_files}
 use Rattle.mw_law_store.proofs.file_laws.calls_keep_files.Goals as goal
 

@@ -1,5 +1,4 @@
--- Proves the law `comes_keep_files` (src/file_laws.rt): a request that comes keeps `HasFiles`. Used by: that law alone. It may
--- change freely as long as this crate checks.
+-- Proves the law `comes_keep_files`.
 use Rattle.mw_law_store.proofs.Files.ArrivalsAndStarts.{comes_keep_files}
 use Rattle.mw_law_store.proofs.file_laws.comes_keep_files.Goals as goal
 

@@ -1,5 +1,4 @@
--- Proves the law `events_keep_files` (src/file_laws.rt): every event of a sound world keeps `HasFiles`. Used by: that law
--- alone. It may change freely as long as this crate checks.
+-- Proves the law `events_keep_files`.
 use Rattle.mw_law_store.proofs.Files.RunsKeepFiles.{events_keep_files}
 use Rattle.mw_law_store.proofs.file_laws.events_keep_files.Goals as goal
 

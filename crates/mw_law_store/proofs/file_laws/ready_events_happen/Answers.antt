@@ -1,5 +1,4 @@
--- Proves the law `ready_events_happen` (src/file_laws.rt): after every run an event can happen exactly if it is ready. Used by:
--- that law alone. It may change freely as long as this crate checks.
+-- Proves the law `ready_events_happen`.
 use Rattle.mw_law_store.proofs.Files.Readiness.{other_events_do_not, ready_events_happen}
 use Rattle.mw_law_store.proofs.file_laws.ready_events_happen.Goals as goal
 

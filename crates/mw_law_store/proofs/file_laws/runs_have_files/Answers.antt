@@ -1,5 +1,4 @@
--- Proves the law `runs_have_files` (src/file_laws.rt): `HasFiles` holds after every run. Used by: that law alone. It may change
--- freely as long as this crate checks.
+-- Proves the law `runs_have_files`.
 use Rattle.mw_law_store.proofs.Files.RunsKeepFiles.{runs_go_on, runs_have_files, worlds_are_right}
 use Rattle.mw_law_store.proofs.file_laws.runs_have_files.Goals as goal
 

@@ -1,5 +1,4 @@
--- Proves the law `starts_have_files` (src/file_laws.rt): `HasFiles` holds at each start at which each tenant's file was just
--- opened. Used by: that law alone. It may change freely as long as this crate checks.
+-- Proves the law `starts_have_files`.
 use Rattle.mw_law_store.proofs.Files.ArrivalsAndStarts.{first_starts_have_files, restarts_keep_files, starts_have_files}
 use Rattle.mw_law_store.proofs.file_laws.starts_have_files.Goals as goal
 

@@ -1,5 +1,4 @@
--- Proves the law `a_late_mark_comes_out` (src/late_laws.rt): an example. Used by: that law alone. It may change freely as long as
--- this crate checks.
+-- Proves the law `a_late_mark_comes_out`.
 use Rattle.mw_law_store.proofs.Late.Examples.{late-mark-comes-out}
 use Rattle.mw_law_store.proofs.late_laws.a_late_mark_comes_out.Goals as goal
 

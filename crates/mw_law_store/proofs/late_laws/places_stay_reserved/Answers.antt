@@ -1,5 +1,4 @@
--- Proves the law `places_stay_reserved` (src/late_laws.rt): an empty place at the end is reserved for each Look or Miss that would
--- answer a request there. Used by: that law alone. It may change freely as long as this crate checks.
+-- Proves the law `places_stay_reserved`.
 use Rattle.mw_law_store.proofs.Late.ReservedPlaces.{place-is-reserved, reserved-beside-line, reserved-beside-late}
 use Rattle.mw_law_store.proofs.late_laws.places_stay_reserved.Goals as goal
 

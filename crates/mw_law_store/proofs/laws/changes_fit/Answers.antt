@@ -1,5 +1,4 @@
--- Proves the law `changes_fit` (src/laws.rt): a change that is decided to be made, and not yet made, fits the words of its
--- tenant's file. Used by: that law alone. It may change freely as long as this crate checks.
+-- Proves the law `changes_fit`.
 use Rattle.mw_law_store.proofs.DecidedChangesFit.{decided_changes_fit}
 use Rattle.mw_law_store.proofs.laws.changes_fit.Goals as goal
 

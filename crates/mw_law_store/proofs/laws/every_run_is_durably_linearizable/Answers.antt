@@ -1,5 +1,4 @@
--- Proves the law `every_run_is_durably_linearizable` (src/laws.rt): the theorem. Used by: that law alone. It may change freely
--- as long as this crate checks.
+-- Proves the law `every_run_is_durably_linearizable`.
 use Rattle.mw_world.proofs.HeadlineConsequences.{equal_marks}
 use Rattle.mw_law_store.proofs.DurabilityInRunsLaws.{runs_hold_changes}
 use Rattle.mw_law_store.proofs.RunSimulation.{every_run_is_durably_linearizable}

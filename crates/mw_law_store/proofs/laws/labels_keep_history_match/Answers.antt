@@ -1,5 +1,4 @@
--- Proves the law `labels_keep_history_match` (src/laws.rt): if lines match a store, they match it after each relaxed step, with
--- any label that may be added. Used by: that law alone. It may change freely as long as this crate checks.
+-- Proves the law `labels_keep_history_match`.
 use Rattle.mw_law_store.proofs.HistoryMatchLaws.{labels_keep_history_match}
 use Rattle.mw_law_store.proofs.laws.labels_keep_history_match.Goals as goal
 

@@ -1,5 +1,4 @@
--- Proves the law `late_marks_leave_replies` (src/laws.rt): a mark that is put in late leaves the replies that were handed out.
--- Used by: that law alone. It may change freely as long as this crate checks.
+-- Proves the law `late_marks_leave_replies`.
 use Rattle.mw_law_store.proofs.Replies.{late_marks_leave_replies}
 use Rattle.mw_law_store.proofs.laws.late_marks_leave_replies.Goals as goal
 

@@ -1,5 +1,4 @@
--- Proves the law `marks_are_own` (src/laws.rt): only events of a tenant's own requests, and starts, change its tenant state,
--- with its marks and its file. Used by: that law alone. It may change freely as long as this crate checks.
+-- Proves the law `marks_are_own`.
 use Rattle.mw_law_store.proofs.MarksOfEvents as owning
 use Rattle.mw_law_store.proofs.laws.marks_are_own.Goals as goal
 

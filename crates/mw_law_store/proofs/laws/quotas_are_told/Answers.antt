@@ -1,5 +1,4 @@
--- Proves the law `quotas_are_told` (src/laws.rt): a tenant's marks tell its quota. Used by: that law alone. It may change
--- freely as long as this crate checks.
+-- Proves the law `quotas_are_told`.
 use Rattle.mw_law_store.proofs.Quotas.{events_tell_quotas, quotas_are_told, quotas_may_stay, quotas_stay_within_the_pool}
 use Rattle.mw_law_store.proofs.laws.quotas_are_told.Goals as goal
 

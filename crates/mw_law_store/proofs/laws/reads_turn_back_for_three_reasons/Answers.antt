@@ -1,5 +1,4 @@
--- Proves the law `reads_turn_back_for_three_reasons` (src/laws.rt): a read begins again for three reasons only, in every run,
--- also when numbers are used up. Used by: that law alone. It may change freely as long as this crate checks.
+-- Proves the law `reads_turn_back_for_three_reasons`.
 use Rattle.mw_law_store.proofs.ReadRetryLaws.{reads_find_their_way, reads_turn_back_for_three_reasons}
 use Rattle.mw_law_store.proofs.laws.reads_turn_back_for_three_reasons.Goals as goal
 

@@ -1,6 +1,4 @@
--- Proves the law `replies_are_linearized` (src/laws.rt): a reply has a linearization point: it is right at a place among its
--- tenant's sealed changes that is no smaller than the number of changes that were sealed when its request came. Used by: that
--- law alone. It may change freely as long as this crate checks.
+-- Proves the law `replies_are_linearized`.
 use Rattle.mw_law_store.proofs.ReplyPlaceLaws as calls
 use Rattle.mw_law_store.proofs.SealedLists.{places_stay_right}
 use Rattle.mw_law_store.proofs.laws.replies_are_linearized.Goals as goal

@@ -1,5 +1,4 @@
--- Proves the law `replies_have_places` (src/laws.rt): after every run, also when a number was used up, each reply has its place
--- among its tenant's lines and sealed changes. Used by: that law alone. It may change freely as long as this crate checks.
+-- Proves the law `replies_have_places`.
 use Rattle.mw_law_store.proofs.Histories as histories
 use Rattle.mw_law_store.proofs.RunSimulation.{events_are_simulated, runs_are_simulated}
 use Rattle.mw_law_store.proofs.laws.replies_have_places.Goals as goal

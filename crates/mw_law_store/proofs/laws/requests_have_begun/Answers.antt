@@ -1,5 +1,4 @@
--- Proves the law `requests_have_begun` (src/laws.rt): each worker's request has a count: how many of its tenant's changes were
--- sealed when it came. Used by: that law alone. It may change freely as long as this crate checks.
+-- Proves the law `requests_have_begun`.
 use Rattle.mw_law_store.proofs.ReplyPlaceLaws as calls
 use Rattle.mw_law_store.proofs.laws.requests_have_begun.Goals as goal
 

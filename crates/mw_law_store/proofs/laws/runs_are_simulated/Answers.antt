@@ -1,5 +1,4 @@
--- Proves the law `runs_are_simulated` (src/laws.rt): a store alone simulates each tenant's part of a world after every run,
--- also when a number was used up. Used by: that law alone. It may change freely as long as this crate checks.
+-- Proves the law `runs_are_simulated`.
 use Rattle.mw_law_store.proofs.RunSimulation.{events_are_simulated, runs_are_simulated}
 use Rattle.mw_law_store.proofs.laws.runs_are_simulated.Goals as goal
 

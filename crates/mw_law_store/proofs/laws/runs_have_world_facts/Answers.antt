@@ -1,5 +1,4 @@
--- Proves the law `runs_have_world_facts` (src/laws.rt): every event of a sound world keeps the facts about it that marks need,
--- and they hold after every run. Used by: that law alone. It may change freely as long as this crate checks.
+-- Proves the law `runs_have_world_facts`.
 use Rattle.mw_law_store.proofs.WorldFactLaws.{events_keep_world_facts, runs_have_world_facts}
 use Rattle.mw_law_store.proofs.laws.runs_have_world_facts.Goals as goal
 

@@ -1,5 +1,4 @@
--- Proves the law `sealed_changes_go_on` (src/laws.rt): the changes of a tenant that were sealed since its last start grow one
--- by one. Used by: that law alone. It may change freely as long as this crate checks.
+-- Proves the law `sealed_changes_go_on`.
 use Rattle.mw_law_store.proofs.ReplyPlaceLaws as calls
 use Rattle.mw_law_store.proofs.laws.sealed_changes_go_on.Goals as goal
 

@@ -1,5 +1,4 @@
--- Proves the law `sealed_come_in_order` (src/laws.rt): lines without a start put the changes that they seal over the words, in
--- order. Used by: that law alone. It may change freely as long as this crate checks.
+-- Proves the law `sealed_come_in_order`.
 use Rattle.mw_law_store.proofs.Sealed.{words_are_of_sealed, sealed_come_in_order}
 use Rattle.mw_law_store.proofs.laws.sealed_come_in_order.Goals as goal
 

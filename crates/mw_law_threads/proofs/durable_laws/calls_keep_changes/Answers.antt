@@ -1,5 +1,4 @@
--- Proves the law `calls_keep_changes` (src/durable_laws.rt): a call on a file keeps the changes that its pass was answered YES. Used by:
--- that law alone. It may change freely as long as this crate checks.
+-- Proves the law `calls_keep_changes`.
 use Rattle.mw_law_threads.proofs.Durable.DurableLaws.{calls_keep_changes, calls_leave_whole_changes, calls_leave_wholly_or_not}
 use Rattle.mw_law_threads.proofs.durable_laws.calls_keep_changes.Goals as goal
 

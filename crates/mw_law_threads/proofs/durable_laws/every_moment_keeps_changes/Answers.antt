@@ -1,5 +1,4 @@
--- Proves the law `every_moment_keeps_changes` (src/durable_laws.rt): at every moment a crash leaves the changes that were answered YES. Used
--- by: that law alone. It may change freely as long as this crate checks.
+-- Proves the law `every_moment_keeps_changes`.
 use Rattle.mw_law_threads.proofs.Durable.DurableLaws.{moments_keep_changes, moments_leave_whole_changes, moments_leave_wholly_or_not}
 use Rattle.mw_law_threads.proofs.durable_laws.every_moment_keeps_changes.Goals as goal
 

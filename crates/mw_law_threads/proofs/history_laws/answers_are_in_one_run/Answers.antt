@@ -1,5 +1,4 @@
--- Proves the law `answers_are_in_one_run` (src/history_laws.rt): a reply is in the one run, whichever session was told it. Used by: that law
--- alone. It may change freely as long as this crate checks.
+-- Proves the law `answers_are_in_one_run`.
 use Rattle.mw_law_threads.proofs.History.AnswersInOneRunLaws.{in_one_run, in_time}
 use Rattle.mw_law_threads.proofs.history_laws.answers_are_in_one_run.Goals as goal
 

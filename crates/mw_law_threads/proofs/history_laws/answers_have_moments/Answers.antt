@@ -1,5 +1,4 @@
--- Proves the law `answers_have_moments` (src/history_laws.rt): each reply was true at a moment of its call. Used by: that law alone. It may
--- change freely as long as this crate checks.
+-- Proves the law `answers_have_moments`.
 use Rattle.mw_law_threads.proofs.History.AnswerMomentLaws.{answers_have_moments, answers_have_moments_in_one_run, answers_keep_the_order_of_time}
 use Rattle.mw_law_threads.proofs.history_laws.answers_have_moments.Goals as goal
 

@@ -1,5 +1,4 @@
--- Proves the law `every_moment_has_one_history` (src/history_laws.rt): the replies of all passes are right in one history. Used by: that law
--- alone. It may change freely as long as this crate checks.
+-- Proves the law `every_moment_has_one_history`.
 use Rattle.mw_law_threads.proofs.History.OneHistoryLaws.{moments_have_one_history}
 use Rattle.mw_law_threads.proofs.history_laws.every_moment_has_one_history.Goals as goal
 

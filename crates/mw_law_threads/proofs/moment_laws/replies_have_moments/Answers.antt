@@ -1,5 +1,4 @@
--- Proves the law `replies_have_moments` (src/moment_laws.rt): each reply was true at a moment of its call. Used by: that law alone. It
--- may change freely as long as this crate checks.
+-- Proves the law `replies_have_moments`.
 use Rattle.mw_law_threads.proofs.Moments.MomentLaws.{replies_have_moments, shared_words_are_the_files}
 use Rattle.mw_law_threads.proofs.moment_laws.replies_have_moments.Goals as goal
 

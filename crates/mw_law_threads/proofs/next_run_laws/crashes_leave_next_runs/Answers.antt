@@ -1,5 +1,4 @@
--- Proves the law `crashes_leave_next_runs` (src/next_run_laws.rt): a start finds what the model's stop may have left. Used by: that law alone.
--- It may change freely as long as this crate checks.
+-- Proves the law `crashes_leave_next_runs`.
 use Rattle.mw_law_threads.proofs.NextRuns.FoundAfterCrashLaws.{crashes_leave_next_runs}
 use Rattle.mw_law_threads.proofs.next_run_laws.crashes_leave_next_runs.Goals as goal
 

@@ -1,5 +1,4 @@
--- Proves the law `next_runs_are_of_one_store` (src/next_run_laws.rt): two servers' runs are of one store alone. Used by: that law alone. It
--- may change freely as long as this crate checks.
+-- Proves the law `next_runs_are_of_one_store`.
 use Rattle.mw_law_threads.proofs.NextRuns.OneStoreLaws.{next_runs_are_of_one_store}
 use Rattle.mw_law_threads.proofs.next_run_laws.next_runs_are_of_one_store.Goals as goal
 

@@ -1,5 +1,4 @@
--- Proves the law `next_tables_are_of_one_store` (src/next_run_laws.rt): the runs of two tables, before and after a crash, are of one store alone.
--- Used by: that law alone. It may change freely as long as this crate checks.
+-- Proves the law `next_tables_are_of_one_store`.
 use Rattle.mw_law_threads.proofs.NextRuns.NextTableLaws.{next_tables}
 use Rattle.mw_law_threads.proofs.next_run_laws.next_tables_are_of_one_store.Goals as goal
 

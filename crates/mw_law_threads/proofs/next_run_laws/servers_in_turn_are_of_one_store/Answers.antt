@@ -1,5 +1,4 @@
--- Proves the law `servers_in_turn_are_of_one_store` (src/next_run_laws.rt): servers that ran one after the other are of one store alone. Used
--- by: that law alone. It may change freely as long as this crate checks.
+-- Proves the law `servers_in_turn_are_of_one_store`.
 use Rattle.mw_law_threads.proofs.NextRuns.ServersInTurnLaws.{servers_in_turn}
 use Rattle.mw_law_threads.proofs.next_run_laws.servers_in_turn_are_of_one_store.Goals as goal
 

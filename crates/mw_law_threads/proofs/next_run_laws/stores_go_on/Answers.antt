@@ -1,5 +1,4 @@
--- Proves the law `stores_go_on` (src/next_run_laws.rt): one store alone goes on over a start. Used by: that law alone. It may change freely
--- as long as this crate checks.
+-- Proves the law `stores_go_on`.
 use Rattle.mw_law_threads.proofs.NextRuns.LaterStoreLaws.{stores_go_on}
 use Rattle.mw_law_threads.proofs.next_run_laws.stores_go_on.Goals as goal
 

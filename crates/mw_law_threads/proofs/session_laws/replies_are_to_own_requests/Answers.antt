@@ -1,5 +1,4 @@
--- Proves the law `replies_are_to_own_requests` (src/session_laws.rt): replies to sessions are to requests of their own. Used by: that law
--- alone. It may change freely as long as this crate checks.
+-- Proves the law `replies_are_to_own_requests`.
 use Rattle.mw_law_threads.proofs.Sessions.OwnRequestLaws.{borrowers, own_requests}
 use Rattle.mw_law_threads.proofs.session_laws.replies_are_to_own_requests.Goals as goal
 

@@ -1,5 +1,4 @@
--- Proves the law `replies_have_moments_in_order` (src/session_laws.rt): each reply to a session was true at a moment of its call. Used by: that
--- law alone. It may change freely as long as this crate checks.
+-- Proves the law `replies_have_moments_in_order`.
 use Rattle.mw_law_threads.proofs.Sessions.SessionMomentLaws.{in_one_run, in_order, in_time}
 use Rattle.mw_law_threads.proofs.session_laws.replies_have_moments_in_order.Goals as goal
 

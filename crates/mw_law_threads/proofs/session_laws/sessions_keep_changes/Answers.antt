@@ -1,5 +1,4 @@
--- Proves the law `sessions_keep_changes` (src/session_laws.rt): a crash leaves the changes that a session was answered YES. Used by: that law
--- alone. It may change freely as long as this crate checks.
+-- Proves the law `sessions_keep_changes`.
 use Rattle.mw_law_threads.proofs.Sessions.SessionChangeLaws.{keep_changes, leave_wholly_or_not}
 use Rattle.mw_law_threads.proofs.session_laws.sessions_keep_changes.Goals as goal
 

@@ -1,5 +1,4 @@
--- Proves the law `changes_are_whole` (src/whole_laws.rt): the changes of a tenant's file are whole. Used by: that law alone. It may change
--- freely as long as this crate checks.
+-- Proves the law `changes_are_whole`.
 use Rattle.mw_law_threads.proofs.Whole.WholeChangeLaws.{doubt_is_whole, places_hold_whole_changes, requests_ask_for_one_change, requests_stay_asked, sealed_changes_are_whole}
 use Rattle.mw_law_threads.proofs.whole_laws.changes_are_whole.Goals as goal
 

@@ -1,5 +1,4 @@
--- Proves the law `refused_requests_make_no_change` (src/whole_laws.rt): a request that was answered VAL, NO or BUSY makes no change. Used
--- by: that law alone. It may change freely as long as this crate checks.
+-- Proves the law `refused_requests_make_no_change`.
 use Rattle.mw_law_threads.proofs.Whole.RefusedChangeLaws.{refused_requests_make_no_change}
 use Rattle.mw_law_threads.proofs.whole_laws.refused_requests_make_no_change.Goals as goal
 

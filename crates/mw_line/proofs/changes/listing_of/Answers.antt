@@ -1,5 +1,4 @@
--- Proves goals of `listing_of` (src/changes.rt) that the check does not prove by itself. Used by: the proof of that function
--- alone. It may change freely as long as this crate checks.
+-- Goals of `listing_of` (src/changes.rt).
 use Rattle.std.proofs.Common.{◌≡◌, ◌<◌, ℕ, List, Bool, true, false, eqb, length, sym, ◌∙◌, arith}
 use Rattle.std.proofs.lemmas.Bool.{eqb-false, eqb-true}
 use Rattle.mw_line.specs.LineReader.{narrow}

@@ -1,5 +1,4 @@
--- States what stays true from turn to turn in the loops of `listing_of` (src/changes.rt). Used by: the proof of that function
--- alone. It may change freely as long as this crate checks.
+-- Loop invariants of `listing_of` (src/changes.rt).
 use Rattle.std.proofs.Common.{length}
 use Rattle.mw_line.proofs.ChangeReader.{GoesOn}
 use Rattle.mw_line.proofs.changes.listing_of.Given as goal

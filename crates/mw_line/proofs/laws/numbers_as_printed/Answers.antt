@@ -1,5 +1,4 @@
--- Proves the law `numbers_as_printed` (src/laws.rt): a number of 64 bits has the text that it is printed as. Used by: that law
--- alone. It may change freely as long as this crate checks.
+-- Proves the law `numbers_as_printed`.
 use Rattle.mw_line.proofs.Numerals.{as_printed}
 use Rattle.mw_line.proofs.laws.numbers_as_printed.Goals as goal
 

@@ -1,5 +1,4 @@
--- Proves goals of `address_at` (src/numbers.rt) that the check does not prove by itself. Used by: the proof of that function
--- alone. It may change freely as long as this crate checks.
+-- Goals of `address_at` (src/numbers.rt).
 use Rattle.std.proofs.Common.{refl}
 use Rattle.mw_line.proofs.Numerals.{address_by_value, converted}
 use Rattle.mw_line.proofs.numbers.address_at.Goals as goal

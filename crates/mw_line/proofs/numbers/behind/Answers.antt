@@ -1,5 +1,4 @@
--- Proves goals of `behind` (src/numbers.rt) that the check does not prove by itself. Used by: the proof of that function alone.
--- It may change freely as long as this crate checks.
+-- Goals of `behind` (src/numbers.rt).
 use Rattle.mw_line.proofs.Fronts.{gives_behind}
 use Rattle.mw_line.proofs.numbers.behind.Goals as goal
 

@@ -1,5 +1,4 @@
--- Proves goals of `digits_at` (src/numbers.rt) that the check does not prove by itself. Used by: the proof of that function
--- alone. It may change freely as long as this crate checks.
+-- Goals of `digits_at` (src/numbers.rt).
 use Rattle.std.proofs.Common.{inl, inr, refl, sym, ◌∙◌, ◌≡◌, ◌+◌, ◌-◌, ◌*◌, get_or, arith}
 use Rattle.mw_line.proofs.Digits.{digit_in_front, capped_step, ended, no_digit_below, no_digit_above, seen_narrowly}
 use Rattle.mw_line.specs.LineReader.{digits_at}

@@ -1,5 +1,4 @@
--- States what stays true from turn to turn in the loops of `digits_at` (src/numbers.rt). Used by: the proof of that function
--- alone. It may change freely as long as this crate checks.
+-- Loop invariants of `digits_at` (src/numbers.rt).
 use Rattle.std.proofs.Common.{◌≡◌, ℕ, length}
 use Rattle.mw_line.specs.LineReader as spec
 use Rattle.mw_line.specs.LineReader.{narrow}

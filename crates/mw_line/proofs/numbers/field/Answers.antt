@@ -1,5 +1,4 @@
--- Proves goals of `field` (src/numbers.rt) that the check does not prove by itself. Used by: the proof of that function alone.
--- It may change freely as long as this crate checks.
+-- Goals of `field` (src/numbers.rt).
 use Rattle.std.proofs.Common.{◌≡◌, ◌+◌, ◌-◌, ◌∙◌, ap, sym, List, ℕ, Some, length, take, drop, take_all, arith}
 use Rattle.std.proofs.lemmas.List.{length-drop}
 use Rattle.std.specs.Prelude.{option_map}

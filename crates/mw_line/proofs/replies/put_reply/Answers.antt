@@ -1,5 +1,4 @@
--- Proves goals of `put_reply` (src/replies.rt) that the check does not prove by itself. Used by: the proof of that function
--- alone. It may change freely as long as this crate checks.
+-- Goals of `put_reply` (src/replies.rt).
 use Rattle.std.proofs.Common.{length, decimal, ap, arith, length-append}
 use Rattle.mw_line.proofs.Printed.{printed_long, no_front_short}
 use Rattle.mw_line.proofs.replies.put_reply.Goals as goal

@@ -1,5 +1,4 @@
--- Proves goals of `cas` (src/requests.rt) that the check does not prove by itself. Used by: the proof of that function alone.
--- It may change freely as long as this crate checks.
+-- Goals of `cas` (src/requests.rt).
 use Rattle.std.proofs.Common.{◌≡◌, ℕ, List, Bool, false, eqb, length, ap, sym, ◌∙◌}
 use Rattle.std.proofs.lemmas.Bool.{eqb-false}
 use Rattle.std.proofs.lemmas.Result.{err_from_is_err_and}

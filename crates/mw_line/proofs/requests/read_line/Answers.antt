@@ -1,5 +1,4 @@
--- Proves goals of `read_line` (src/requests.rt) that the check does not prove by itself. Used by: the proof of that function
--- alone. It may change freely as long as this crate checks.
+-- Goals of `read_line` (src/requests.rt).
 use Rattle.mw_line.proofs.Faults.{is_answered, is_read, is_refused, job_fits}
 use Rattle.mw_line.proofs.requests.read_line.Goals as goal
 

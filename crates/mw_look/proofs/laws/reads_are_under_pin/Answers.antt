@@ -1,5 +1,4 @@
--- Proves the law `reads_are_under_pin` (src/laws.rt): a read loads a slot's status and entries, and takes a pin back, only
--- while it holds a pin of that slot. Used by: that law alone. It may change freely as long as this crate checks.
+-- Proves the law `reads_are_under_pin`.
 use Rattle.mw_look.proofs.RunLaws.{reads-are-under-pin, pins-are-held-until-taken-back}
 use Rattle.mw_look.proofs.laws.reads_are_under_pin.Goals as goal
 

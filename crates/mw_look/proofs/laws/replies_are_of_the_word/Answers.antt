@@ -1,5 +1,4 @@
--- The proof of the law replies_are_of_the_word (src/laws.rt). No other file cites it. It may change freely as long as the
--- crate checks.
+-- Proves the law `replies_are_of_the_word`.
 use Rattle.mw_look.proofs.ValueLaws.{replies-are-of-the-word}
 use Rattle.mw_look.proofs.laws.replies_are_of_the_word.Goals as goal
 

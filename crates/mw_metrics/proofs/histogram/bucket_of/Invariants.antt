@@ -1,5 +1,4 @@
--- States what stays true from turn to turn in the loop of `bucket_of` (src/histogram.rt). Used by: the proof of that function
--- alone. It may change freely as long as this crate checks.
+-- Loop invariants of `bucket_of` (src/histogram.rt).
 use Rattle.std.proofs.Common.{ℕ, ◌<◌, get_or}
 use Rattle.mw_metrics.specs.declared.histogram.TheConstants.{BOUNDS}
 use Rattle.mw_metrics.proofs.histogram.bucket_of.Given as goal

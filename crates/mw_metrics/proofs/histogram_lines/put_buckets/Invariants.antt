@@ -1,5 +1,4 @@
--- States what stays true from turn to turn in the loop of `put_buckets` (src/histogram_lines.rt). Used by: the proof of that
--- function alone. It may change freely as long as this crate checks.
+-- Loop invariants of `put_buckets` (src/histogram_lines.rt).
 use Rattle.std.proofs.Common.{◌≡◌, ◌+◌, ◌*◌, ◌≤◌, ◌++◌, length, drop, codes}
 use Rattle.mw_metrics.specs.Exposition.{label}
 use Rattle.mw_metrics.specs.Figures.{before, bucket_lines}

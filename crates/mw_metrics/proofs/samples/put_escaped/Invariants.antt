@@ -1,5 +1,4 @@
--- States what stays true from turn to turn in the loop of `put_escaped` (src/samples.rt). Used by: the proof of that function
--- alone. It may change freely as long as this crate checks.
+-- Loop invariants of `put_escaped` (src/samples.rt).
 use Rattle.std.proofs.Common.{◌≡◌, ◌+◌, ◌*◌, ◌≤◌, ◌++◌, length, take, flat_map}
 use Rattle.mw_metrics.specs.Exposition.{escape}
 use Rattle.mw_metrics.proofs.samples.put_escaped.Given as goal

@@ -1,5 +1,4 @@
--- States what stays true from turn to turn in the loop of `put_zeros` (src/samples.rt). Used by: the proof of that function
--- alone. It may change freely as long as this crate checks.
+-- Loop invariants of `put_zeros` (src/samples.rt).
 use Rattle.std.proofs.Common.{◌≡◌, ◌+◌, ◌++◌, length, replicate}
 use Rattle.mw_metrics.proofs.samples.put_zeros.Given as goal
 

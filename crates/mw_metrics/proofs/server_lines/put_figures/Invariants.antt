@@ -1,5 +1,4 @@
--- States what stays true from turn to turn in the loop of `put_figures` (src/server_lines.rt). Used by: the proof of that function
--- alone. It may change freely as long as this crate checks.
+-- Loop invariants of `put_figures` (src/server_lines.rt).
 use Rattle.std.proofs.Common.{◌≡◌, ◌+◌, ◌*◌, ◌≤◌, ◌++◌, length, drop, flat_map}
 use Rattle.mw_metrics.specs.declared.families.TheConstants.{SERVER_FIGURES}
 use Rattle.mw_metrics.specs.Figures.{figure_family}

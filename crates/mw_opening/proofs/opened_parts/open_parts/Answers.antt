@@ -1,5 +1,4 @@
--- Proves goals of `open_parts` (src/opened_parts.rt) that the check does not prove by itself. Used by: the proof of that function
--- alone. It may change freely as long as this crate checks.
+-- Goals of `open_parts` (src/opened_parts.rt).
 use Rattle.std.proofs.Common.{length, ap, arith}
 use Rattle.mw_opening.proofs.FilesFitLines.{as_many}
 use Rattle.mw_opening.proofs.opened_parts.open_parts.Goals as goal

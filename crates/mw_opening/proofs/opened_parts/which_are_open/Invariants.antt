@@ -1,5 +1,4 @@
--- States what stays true from turn to turn in the loops of `which_are_open` (src/opened_parts.rt). Used by: the proof of that function
--- alone. It may change freely as long as this crate checks.
+-- Loop invariants of `which_are_open` (src/opened_parts.rt).
 use Rattle.std.proofs.Common.{◌≡◌, take, map}
 use Rattle.std.specs.Prelude.{is_some}
 use Rattle.mw_opening.proofs.opened_parts.which_are_open.Given as goal

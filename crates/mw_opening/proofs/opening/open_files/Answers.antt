@@ -1,5 +1,4 @@
--- Proves goals of `open_files` (src/opening.rt) that the check does not prove by itself. Used by: the proof of that function
--- alone. It may change freely as long as this crate checks.
+-- Goals of `open_files` (src/opening.rt).
 use Rattle.std.proofs.Common.{sym, arith}
 use Rattle.mw_opening.proofs.DisksOpened.{of_next}
 use Rattle.mw_opening.proofs.FilesFitLines.{fit_next, so_many}

@@ -1,5 +1,4 @@
--- States what stays true from turn to turn in the loops of `open_files` (src/opening.rt). Used by: the proof of that function
--- alone. It may change freely as long as this crate checks.
+-- Loop invariants of `open_files` (src/opening.rt).
 use Rattle.std.proofs.Common.{take}
 use Rattle.mw_engine.specs.OpenedFiles.{FitLines}
 use Rattle.mw_opening.specs.SyncedOpenings.{AreOfLines}

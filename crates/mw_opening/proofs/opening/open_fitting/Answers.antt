@@ -1,5 +1,4 @@
--- Proves goals of `open_fitting` (src/opening.rt) that the check does not prove by itself. Used by: the proof of that function
--- alone. It may change freely as long as this crate checks.
+-- Goals of `open_fitting` (src/opening.rt).
 use Rattle.std.proofs.Common.{subst}
 use Rattle.mw_opening.proofs.DisksOpened.{of_line}
 use Rattle.mw_opening.proofs.opening.open_fitting.Goals as goal

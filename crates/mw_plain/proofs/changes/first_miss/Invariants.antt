@@ -1,5 +1,4 @@
--- States what stays true from turn to turn in the loops of `first_miss` (src/changes.rt). Used by: the proof of that function
--- alone. It may change freely as long as this crate checks.
+-- Loop invariants of `first_miss` (src/changes.rt).
 use Rattle.std.proofs.Common.{◌≡◌, take, drop, length, IsTrue}
 use Rattle.std.specs.List.{list_all}
 use Rattle.mw_words.specs.Change.{is_in_range, fits}

@@ -1,6 +1,4 @@
--- Proves the law `marks_of_a_call` (src/laws.rt): what each call of a plain store is to a tenant's store alone, by the case
--- that the call comes to: the case's marks are legal, hand out the call's reply, and leave the store that the case says. Used
--- by: that law alone. It may change freely as long as this crate checks.
+-- Proves the law `marks_of_a_call`.
 use Rattle.mw_plain.proofs.Joined.{runs-join, replies-join, one-more-fits}
 use Rattle.mw_plain.proofs.Runs.{started, finished, answered, all-go, may-stop}
 use Rattle.mw_plain.proofs.laws.marks_of_a_call.Goals as goal

@@ -1,5 +1,4 @@
--- Proves goals of `a_restart_goes_on` (src/restarts.rt) that the check does not prove by itself. Used by: the proof of that
--- function alone. It may change freely as long as this crate checks.
+-- Goals of `a_restart_goes_on` (src/restarts.rt).
 use Rattle.std.proofs.Common.{Option, subst}
 use Rattle.mw_record.specs.Layout.{pairs_of}
 use Rattle.mw_file.specs.File.{states_of}

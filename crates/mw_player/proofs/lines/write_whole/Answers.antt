@@ -1,5 +1,4 @@
--- Proves goals of `write_whole` (src/lines.rt) that the check does not prove by itself. Used by: the proof of that function
--- alone. It may change freely as long as this crate checks.
+-- Goals of `write_whole` (src/lines.rt).
 use Rattle.std.proofs.Common.{sym, subst, take}
 use Rattle.std.specs.Io.KnownBytes.{Appends}
 use Rattle.mw_player.proofs.WrittenText.{sending_starts, sending_more, write_takes}

@@ -1,5 +1,4 @@
--- States what stays true from turn to turn in the loops of `write_whole` (src/lines.rt). Used by: the proof of that function
--- alone. It may change freely as long as this crate checks.
+-- Loop invariants of `write_whole` (src/lines.rt).
 use Rattle.std.proofs.Common.{length}
 use Rattle.mw_player.proofs.WrittenText.{Sending}
 use Rattle.mw_player.proofs.lines.write_whole.Given as goal

@@ -1,5 +1,4 @@
--- Proves goals of `play_lines` (src/program.rt) that the check does not prove by itself. Used by: the proof of that function
--- alone. It may change freely as long as this crate checks.
+-- Goals of `play_lines` (src/program.rt).
 use Rattle.std.proofs.Common.{◌∷◌, ◌++◌, [], Ok, Err, refl, sym, ap, ◌∙◌, append_assoc}
 use Rattle.std.specs.Vec.Iter.{into_iter_items}
 use Rattle.mw_player.specs.PlayerSteps.{ObeysAll}

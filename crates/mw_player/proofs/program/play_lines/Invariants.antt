@@ -1,5 +1,4 @@
--- States what stays true from turn to turn in the loops of `play_lines` (src/program.rt). Used by: the proof of that function
--- alone. It may change freely as long as this crate checks.
+-- Loop invariants of `play_lines` (src/program.rt).
 use Rattle.std.proofs.Common.{◌≡◌, ◌++◌, Ok}
 use Rattle.std.specs.Vec.Iter.{into_iter_items}
 use Rattle.mw_player.specs.PlayerSteps.{IsSame, ObeysAll, Plays}

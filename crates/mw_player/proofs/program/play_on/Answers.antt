@@ -1,5 +1,4 @@
--- Proves goals of `play_on` (src/program.rt) that the check does not prove by itself. Used by: the proof of that function
--- alone. It may change freely as long as this crate checks.
+-- Goals of `play_on` (src/program.rt).
 use Rattle.mw_player.specs.Replayed.{status_after}
 use Rattle.mw_player.proofs.Served.{prints_halted, prints_whole}
 use Rattle.mw_player.proofs.program.play_on.Goals as goal

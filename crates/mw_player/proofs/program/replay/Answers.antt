@@ -1,5 +1,4 @@
--- Proves goals of `replay` (src/program.rt) that the check does not prove by itself. Used by: the proof of that function alone.
--- It may change freely as long as this crate checks.
+-- Goals of `replay` (src/program.rt).
 use Rattle.mw_player.proofs.Served.{may_print}
 use Rattle.mw_player.proofs.program.replay.Goals as goal
 

@@ -1,5 +1,4 @@
--- States what stays true from turn to turn in the loops of `quota_reason` (src/restarts.rt). Used by: the proof of that
--- function alone. It may change freely as long as this crate checks.
+-- Loop invariants of `quota_reason` (src/restarts.rt).
 use Rattle.std.proofs.Common.{◌≡◌, ◌+◌, drop}
 use Rattle.mw_player.specs.RestartReasons as spec
 use Rattle.mw_player.proofs.restarts.quota_reason.Given as goal

@@ -1,5 +1,4 @@
--- States what stays true from turn to turn in the loops of `quota_told` (src/restarts.rt). Used by: the proof of that
--- function alone. It may change freely as long as this crate checks.
+-- Loop invariants of `quota_told` (src/restarts.rt).
 use Rattle.std.proofs.Common.{◌≡◌, drop}
 use Rattle.mw_simulator.specs.Events.{stop_of}
 use Rattle.mw_player.proofs.restarts.quota_told.Given as goal

@@ -1,5 +1,4 @@
--- States what stays true from turn to turn in the loops of `sum_after` (src/restarts.rt). Used by: the proof of that
--- function alone. It may change freely as long as this crate checks.
+-- Loop invariants of `sum_after` (src/restarts.rt).
 use Rattle.std.proofs.Common.{◌≡◌, ◌≤◌, ◌*◌}
 use Rattle.mw_world.specs.Definition.State.{quotas_together}
 use Rattle.mw_simulator.specs.Quotas.{quotas_in}

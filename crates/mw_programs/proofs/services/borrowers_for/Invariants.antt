@@ -1,5 +1,4 @@
--- States what stays true from turn to turn in the loops of `borrowers_for` (src/services.rt). Used by: the proof of that function
--- alone. It may change freely as long as this crate checks.
+-- Loop invariants of `borrowers_for` (src/services.rt).
 use Rattle.std.proofs.Common.{◌≡◌, length}
 use Rattle.mw_programs.proofs.services.borrowers_for.Given as goal
 

@@ -1,5 +1,4 @@
--- States what stays true from turn to turn in the loops of `workers_for` (src/services.rt). Used by: the proof of that function
--- alone. It may change freely as long as this crate checks.
+-- Loop invariants of `workers_for` (src/services.rt).
 use Rattle.std.proofs.Common.{◌≡◌, ◌+◌, All, length}
 use Rattle.std.specs.Vec.Iter.{into_iter_items}
 use Rattle.mw_engine.specs.Passes.{IsNew}

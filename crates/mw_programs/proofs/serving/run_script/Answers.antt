@@ -1,5 +1,4 @@
--- Proves goals of `run_script` (src/serving.rt) that the check does not prove by itself. Used by: the proof of that function
--- alone. It may change freely as long as this crate checks.
+-- Goals of `run_script` (src/serving.rt).
 use Rattle.std.specs.Prelude.{All, List}
 use Rattle.std.specs.Vec.Iter.{into_iter_items}
 use Rattle.std.proofs.Common.{subst, sym}

@@ -1,5 +1,4 @@
--- Proves goals of `serve_engine` (src/serving.rt) that the check does not prove by itself. Used by: the proof of that function
--- alone. It may change freely as long as this crate checks.
+-- Goals of `serve_engine` (src/serving.rt).
 use Rattle.std.specs.Prelude.{ℕ, ◌≤◌, Option, Some, None, IfSome}
 use Rattle.std.proofs.Common.{subst}
 use Rattle.mw_config.specs.declared.command_line.Mode.{Mode}

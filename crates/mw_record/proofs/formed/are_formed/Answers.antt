@@ -1,5 +1,4 @@
--- Proves goals of `are_formed` (src/formed.rt) that the check does not prove by itself. Used by: the proof of that function
--- alone. It may change freely as long as this crate checks.
+-- Goals of `are_formed` (src/formed.rt).
 use Rattle.std.proofs.Common.{sym, ◌∙◌}
 use Rattle.mw_record.specs.Records.{record_at, is_formed}
 use Rattle.mw_record.proofs.TestsBelow.{each_fails}

@@ -1,5 +1,4 @@
--- Proves goals of `is_formed` (src/formed.rt) that the check does not prove by itself. Used by: the proof of that function
--- alone. It may change freely as long as this crate checks.
+-- Goals of `is_formed` (src/formed.rt).
 use Rattle.std.proofs.Common.{◌≡◌, ◌&&◌, true, false, nat_le, length, ap, sym, ◌∙◌}
 use Rattle.mw_record.specs.Layout.{most_entries}
 use Rattle.mw_record.specs.Records.{Pairs, body_at, is_formed, rises_below}

@@ -1,5 +1,4 @@
--- Proves goals of `decode` (src/images.rt) that the check does not prove by itself. Used by: the proof of that function alone.
--- It may change freely as long as this crate checks.
+-- Goals of `decode` (src/images.rt).
 use Rattle.std.proofs.Common.{◌≡◌, ℕ, ◌-◌, List, None, true, length, take, drop, sym, ap, ◌∙◌, refl}
 use Rattle.std.proofs.lemmas.Bool.{le-leb, lt-leb, eq-eqb, ne_eqb}
 use Rattle.std.proofs.lemmas.List.{take_rest}

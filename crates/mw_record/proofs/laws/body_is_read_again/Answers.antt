@@ -1,5 +1,4 @@
--- Proves the law `body_is_read_again` (src/laws.rt): a record is read as it was written. Used by: that law alone. It may change
--- freely as long as this crate checks.
+-- Proves the law `body_is_read_again`.
 use Rattle.mw_record.proofs.ReadAgain.{record_again}
 use Rattle.mw_record.proofs.laws.body_is_read_again.Goals as goal
 

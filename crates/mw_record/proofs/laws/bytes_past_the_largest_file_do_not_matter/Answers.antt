@@ -1,5 +1,4 @@
--- The proof of the law bytes_past_the_largest_file_do_not_matter (src/laws.rt). No other file cites it. It may change freely
--- as long as the crate checks.
+-- Proves the law `bytes_past_the_largest_file_do_not_matter`.
 use Rattle.mw_record.proofs.FirstBytes.{is_switched_first, layout_of_first, at_of_first, damage_of_first, file_words_first, words_of_first, places_of_first, words_in_first, pairs_in_first}
 use Rattle.mw_record.proofs.laws.bytes_past_the_largest_file_do_not_matter.Goals as goal
 

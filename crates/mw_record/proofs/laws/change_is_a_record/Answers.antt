@@ -1,5 +1,4 @@
--- Proves the law `change_is_a_record` (src/laws.rt): the entries of a change are a well-formed record of a second layout, with
--- values of words. Used by: that law alone. It may change freely as long as this crate checks.
+-- Proves the law `change_is_a_record`.
 use Rattle.mw_record.proofs.ReadAgain.{record_of_change, values_of_change, numbers_of_change, put-put_pairs}
 use Rattle.mw_record.proofs.laws.change_is_a_record.Goals as goal
 

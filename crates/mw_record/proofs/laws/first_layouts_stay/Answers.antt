@@ -1,5 +1,4 @@
--- Proves the law `first_layouts_stay` (src/laws.rt): a first layout keeps its words if its bytes stay. Used by: that law alone.
--- It may change freely as long as this crate checks.
+-- Proves the law `first_layouts_stay`.
 use Rattle.mw_record.proofs.ChangedBytes.{first_stays}
 use Rattle.mw_record.proofs.laws.first_layouts_stay.Goals as goal
 

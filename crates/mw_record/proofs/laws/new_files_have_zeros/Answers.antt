@@ -1,5 +1,4 @@
--- Proves the law `new_files_have_zeros` (src/laws.rt): a new file, [`header`](crate::header) and zeros, has the word 0 at every
--- address. Used by: that law alone. It may change freely as long as this crate checks.
+-- Proves the law `new_files_have_zeros`.
 use Rattle.mw_record.proofs.ClosedPlaces.{new_file_has, new_file_first, new_file_words}
 use Rattle.mw_record.proofs.laws.new_files_have_zeros.Goals as goal
 

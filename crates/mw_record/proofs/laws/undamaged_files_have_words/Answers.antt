@@ -1,5 +1,4 @@
--- The proof of the law undamaged_files_have_words (src/laws.rt): a file has no damage exactly if its bytes represent some
--- words. It may change freely as long as the crate checks.
+-- Proves the law `undamaged_files_have_words`.
 use Rattle.mw_record.proofs.Sound.{undamaged_iff}
 use Rattle.mw_record.proofs.laws.undamaged_files_have_words.Goals as goal
 

@@ -1,5 +1,4 @@
--- States what stays true from turn to turn in the loops of `body` (src/written.rt). Used by: the proof of that function alone.
--- It may change freely as long as this crate checks.
+-- Loop invariants of `body` (src/written.rt).
 use Rattle.std.proofs.Common.{◌≡◌, ◌-◌, ◌*◌, ◌∷◌, ◌++◌, length, take, replicate}
 use Rattle.std.specs.List.{flat_map}
 use Rattle.mw_words.specs.declared.limits.TheConstants.{MAX_ENTRIES}

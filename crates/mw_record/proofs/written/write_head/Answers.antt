@@ -1,5 +1,4 @@
--- Proves goals of `write_head` (src/written.rt) that the check does not prove by itself. Used by: the proof of that function
--- alone. It may change freely as long as this crate checks.
+-- Goals of `write_head` (src/written.rt).
 use Rattle.std.proofs.Common.{ap, sym, ◌∙◌, length}
 use Rattle.std.proofs.lemmas.List.{length-take-le}
 use Rattle.mw_record.specs.declared.layout.Layout.TheVariants.{Second}

@@ -1,5 +1,4 @@
--- States what stays true from turn to turn in the loops of `write_second` (src/written.rt). Used by: the proof of that function
--- alone. It may change freely as long as this crate checks.
+-- Loop invariants of `write_second` (src/written.rt).
 use Rattle.std.proofs.Common.{◌≡◌, ◌+◌, ◌-◌, ◌*◌, ◌++◌, length, take, replicate}
 use Rattle.std.specs.List.{flat_map}
 use Rattle.mw_record.specs.declared.layout.Layout.TheVariants.{Second}

@@ -1,5 +1,4 @@
--- States what stays true from turn to turn in the loops of `put_spaces` (src/table.rt). Used by: the proof of that function
--- alone. It may change freely as long as this crate checks.
+-- Loop invariants of `put_spaces` (src/table.rt).
 use Rattle.std.proofs.Common.{◌≡◌, ◌+◌, ◌++◌, length}
 use Rattle.mw_report.specs.Table.{spaces}
 use Rattle.mw_report.proofs.table.put_spaces.Given as goal

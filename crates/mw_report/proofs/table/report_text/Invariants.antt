@@ -1,5 +1,4 @@
--- States what stays true from turn to turn in the loops of `report_text` (src/table.rt). Used by: the proof of that function
--- alone. It may change freely as long as this crate checks.
+-- Loop invariants of `report_text` (src/table.rt).
 use Rattle.std.proofs.Common.{◌≡◌, ◌≤◌, ◌*◌, ◌++◌, length, drop, flat_map}
 use Rattle.mw_report.specs.Table.{tenant_line}
 use Rattle.mw_report.proofs.table.report_text.Given as goal

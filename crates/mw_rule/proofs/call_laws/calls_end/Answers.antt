@@ -1,5 +1,4 @@
--- Proves the law `calls_end` (src/call_laws.rt): after every run a call ends by a step on one shared word, which is its event. Used
--- by: that law alone. It may change freely as long as this crate checks.
+-- Proves the law `calls_end`.
 use Rattle.mw_rule.proofs.Calls.CallEndLaws.{calls_end_well, calls_find_faults, calls_meet_faults, calls_skip}
 use Rattle.mw_rule.proofs.call_laws.calls_end.Goals as goal
 

@@ -1,5 +1,4 @@
--- Proves the law `others_leave_files` (src/call_laws.rt): every event but a start and a call on a tenant's file leaves that file,
--- and so do any number of such events. Used by: that law alone. It may change freely as long as this crate checks.
+-- Proves the law `others_leave_files`.
 use Rattle.mw_law_store.proofs.Quotas.{events_tell_quotas}
 use Rattle.mw_rule.proofs.Calls.OtherEventLaws.{others_leave_files, others_leave_files_long}
 use Rattle.mw_rule.proofs.call_laws.others_leave_files.Goals as goal

@@ -1,6 +1,4 @@
--- Proves the law `calls_are_noted` (src/laws.rt): a thread serves a request from its first step, or from the making of the
--- table if its worker has it already, until its reply is there. Used by: that law alone. It may change freely as long as this
--- crate checks.
+-- Proves the law `calls_are_noted`.
 use Rattle.mw_rule.proofs.WholeCallLaws.{calls_begin, calls_take_files, calls_dealt, calls_end, calls_file, calls_give_back, calls_go_on, calls_meet, calls_stand, calls_start}
 use Rattle.mw_rule.proofs.laws.calls_are_noted.Goals as goal
 

@@ -1,6 +1,4 @@
--- Proves the law `file_calls_are_events` (src/laws.rt): each call on a file adds one event to the table's run: this worker's
--- call was made, and which device call failed in it, if the thread ended it so. Used by: that law alone. It may change freely
--- as long as this crate checks.
+-- Proves the law `file_calls_are_events`.
 use Rattle.mw_rule.proofs.FileCalls.{calls_end_on, calls_find_faults_on, calls_load_on, calls_meet_faults_on}
 use Rattle.mw_rule.proofs.laws.file_calls_are_events.Goals as goal
 

@@ -1,5 +1,4 @@
--- Proves the law `file_calls_keep_the_rule` (src/laws.rt): the steps of a call on a tenant's file keep the rule, if the one
--- thread that has the file makes them. Used by: that law alone. It may change freely as long as this crate checks.
+-- Proves the law `file_calls_keep_the_rule`.
 use Rattle.mw_rule.proofs.FileCalls.{calls_break, calls_end, calls_fail, calls_load}
 use Rattle.mw_rule.proofs.laws.file_calls_keep_the_rule.Goals as goal
 

@@ -1,6 +1,4 @@
--- Proves the law `knowledge_stays_right` (src/laws.rt): what a thread has seen and finished stays right when it is split, and
--- when two threads meet, which loses no finished request. Used by: that law alone. It may change freely as long as this crate
--- checks.
+-- Proves the law `knowledge_stays_right`.
 use Rattle.mw_rule.proofs.Apart.{changes_are_own}
 use Rattle.mw_rule.proofs.FilesOfSeen.{files_are_of_seen}
 use Rattle.mw_rule.proofs.FinishedRequests.{merged_parts_again, notes_lose_nothing}

@@ -1,5 +1,4 @@
--- Proves the law `moves_are_of_the_run` (src/laws.rt): the rule allows each action of a thread on a word, and each action
--- extends the table's run by exactly its events. Used by: that law alone. It may change freely as long as this crate checks.
+-- Proves the law `moves_are_of_the_run`.
 use Rattle.mw_rule.proofs.AnyNumber.{any_number}
 use Rattle.mw_rule.proofs.Events.{first_steps_are_events, looks_are_no_events, steps_are_events}
 use Rattle.mw_rule.proofs.WordActionLaws.{moves_are_allowed, moves_change_words, moves_go_on}

@@ -1,5 +1,4 @@
--- Proves the law `places_stand_apart` (src/laws.rt): each shared word of the world has an index in the table, and two words
--- have two indexes. Used by: that law alone. It may change freely as long as this crate checks.
+-- Proves the law `places_stand_apart`.
 use Rattle.mw_rule.proofs.Layouts.{index_injective, places_in_table, places_within}
 use Rattle.mw_rule.proofs.laws.places_stand_apart.Goals as goal
 

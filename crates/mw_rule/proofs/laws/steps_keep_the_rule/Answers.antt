@@ -1,5 +1,4 @@
--- Proves the law `steps_keep_the_rule` (src/laws.rt): the steps of threads keep the rule. Used by: that law alone. It may
--- change freely as long as this crate checks.
+-- Proves the law `steps_keep_the_rule`.
 use Rattle.mw_rule.proofs.StepRule.{first_steps_keep, steps_keep}
 use Rattle.mw_rule.proofs.SplitLaws.{looks_keep}
 use Rattle.mw_rule.proofs.laws.steps_keep_the_rule.Goals as goal

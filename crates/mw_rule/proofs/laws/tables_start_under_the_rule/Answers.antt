@@ -1,5 +1,4 @@
--- Proves the law `tables_start_under_the_rule` (src/laws.rt): the rule holds of a table that is made of a world after a run
--- with which it may begin. Used by: that law alone. It may change freely as long as this crate checks.
+-- Proves the law `tables_start_under_the_rule`.
 use Rattle.mw_rule.proofs.SplitLaws.{starts}
 use Rattle.mw_rule.proofs.laws.tables_start_under_the_rule.Goals as goal
 

@@ -1,6 +1,4 @@
--- Proves the law `the_run_goes_on` (src/laws.rt): a step of a request extends the table's run by its own event and, if the
--- request has its reply then, by the hand- out of the reply. Used by: that law alone. It may change freely as long as this
--- crate checks.
+-- Proves the law `the_run_goes_on`.
 use Rattle.mw_rule.proofs.StepRule.{first_steps_on, steps_on}
 use Rattle.mw_rule.proofs.SplitLaws.{taking_files_on, deals_on, giving_files_on, merging_on, learning_on, looks_on, meeting_on, notes_on}
 use Rattle.mw_rule.proofs.laws.the_run_goes_on.Goals as goal

@@ -1,5 +1,4 @@
--- Proves the law `what_is_known_is_parted` (src/laws.rt): threads may split and merge what they know, and the rule is kept.
--- Used by: that law alone. It may change freely as long as this crate checks.
+-- Proves the law `what_is_known_is_parted`.
 use Rattle.mw_rule.proofs.SplitLaws.{taking_files_keeps, deals_keep, giving_files_keeps, merging_keeps, learning_keeps, meeting_keeps, notes_keep}
 use Rattle.mw_rule.proofs.laws.what_is_known_is_parted.Goals as goal
 

@@ -1,5 +1,4 @@
--- Proves goals of `read_tenant` (src/config.rt) that the check does not prove by itself. Used by: the proof of that function
--- alone. It may change freely as long as this crate checks.
+-- Goals of `read_tenant` (src/config.rt).
 use Rattle.std.proofs.Common.{List, ℕ, refl, sym, subst, arith}
 use Rattle.mw_schedule.specs.Playable.{IsFree}
 use Rattle.mw_schedule.proofs.Tenants.{none_named}

@@ -1,5 +1,4 @@
--- States what stays true from turn to turn in the loops of `read_tenants` (src/config.rt). Used by: the proof of that function
--- alone. It may change freely as long as this crate checks.
+-- Loop invariants of `read_tenants` (src/config.rt).
 use Rattle.std.proofs.Common.{◌≡◌, ◌+◌, ◌≤◌, length}
 use Rattle.std.specs.Prelude.{sum_by}
 use Rattle.mw_schedule.specs.Playable.{AreTenants}

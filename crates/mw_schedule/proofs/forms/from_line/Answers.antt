@@ -1,5 +1,4 @@
--- Proves goals of `from_line` (src/forms.rt) that the check does not prove by itself. Used by: the proof of that function
--- alone. It may change freely as long as this crate checks.
+-- Goals of `from_line` (src/forms.rt).
 use Rattle.std.proofs.Common.{ap, sym, ◌∙◌, arith}
 use Rattle.mw_schedule.specs.Forms.{behind_end}
 use Rattle.mw_schedule.proofs.FormLines.{ends, passes}

@@ -1,5 +1,4 @@
--- States what stays true from turn to turn in the loops of `from_line` (src/forms.rt). Used by: the proof of that function
--- alone. It may change freely as long as this crate checks.
+-- Loop invariants of `from_line` (src/forms.rt).
 use Rattle.std.proofs.Common.{◌≡◌, ◌≤◌, ◌-◌}
 use Rattle.mw_schedule.specs.Forms.{after_lines, from_line}
 use Rattle.mw_schedule.proofs.forms.from_line.Given as goal

@@ -1,5 +1,4 @@
--- States what stays true from turn to turn in the loops of `read_change` (src/olds.rt). Used by: the proof of that function
--- alone. It may change freely as long as this crate checks.
+-- Loop invariants of `read_change` (src/olds.rt).
 use Rattle.std.proofs.Common.{◌≤◌, length}
 use Rattle.mw_schedule.proofs.olds.read_change.Given as goal
 

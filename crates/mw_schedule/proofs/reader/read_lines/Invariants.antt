@@ -1,5 +1,4 @@
--- States what stays true from turn to turn in the loops of `read_lines` (src/reader.rt). Used by: the proof of that function
--- alone. It may change freely as long as this crate checks.
+-- Loop invariants of `read_lines` (src/reader.rt).
 use Rattle.std.proofs.Common.{◌<◌, length}
 use Rattle.std.specs.Prelude.{All}
 use Rattle.mw_schedule.specs.Playable.{ArePlayable}

@@ -1,5 +1,4 @@
--- States what stays true from turn to turn in the loops of `bytes_of` (src/restarts.rt). Used by: the proof of that function
--- alone. It may change freely as long as this crate checks.
+-- Loop invariants of `bytes_of` (src/restarts.rt).
 use Rattle.std.proofs.Common.{length}
 use Rattle.mw_schedule.proofs.restarts.bytes_of.Given as goal
 

@@ -1,5 +1,4 @@
--- Proves goals of `read_stops` (src/restarts.rt) that the check does not prove by itself. Used by: the proof of that function
--- alone. It may change freely as long as this crate checks.
+-- Goals of `read_stops` (src/restarts.rt).
 use Rattle.std.proofs.Common.{◌≡◌, ◌<◌, ◌==◌, ◌∙◌, ◌++◌, ◌∷◌, [], true, if◌then◌else◌, is_ok, List, ap, subst, sym, rules}
 use Rattle.std.specs.List.{list_any}
 use Rattle.mw_world.specs.declared.events.Stop.{Stop}

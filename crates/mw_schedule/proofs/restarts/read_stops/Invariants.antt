@@ -1,5 +1,4 @@
--- States what stays true from turn to turn in the loops of `read_stops` (src/restarts.rt). Used by: the proof of that function
--- alone. It may change freely as long as this crate checks.
+-- Loop invariants of `read_stops` (src/restarts.rt).
 use Rattle.std.proofs.Common.{length}
 use Rattle.mw_world.specs.Definition.State.{tenants_of}
 use Rattle.mw_schedule.specs.Playable.{AreStops}

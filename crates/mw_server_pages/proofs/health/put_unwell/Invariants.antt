@@ -1,5 +1,4 @@
--- States what stays true from turn to turn in the loop of `put_unwell` (src/health.rt). Used by: the proof of that function alone.
--- It may change freely as long as this crate checks.
+-- Loop invariants of `put_unwell` (src/health.rt).
 use Rattle.std.proofs.Common.{◌≡◌, ◌+◌, ◌*◌, ◌≤◌, ◌++◌, length, drop, flat_map}
 use Rattle.mw_server_pages.specs.Health.{unwell_line}
 use Rattle.mw_server_pages.proofs.health.put_unwell.Given as goal

@@ -1,5 +1,4 @@
--- States what stays true from turn to turn in the loop of `are_far` (src/limits.rt). Used by: the proof of that function alone.
--- It may change freely as long as this crate checks.
+-- Loop invariants of `are_far` (src/limits.rt).
 use Rattle.std.proofs.Common.{◌≡◌, drop}
 use Rattle.std.specs.List.{list_all}
 use Rattle.mw_server_pages.specs.Limits.{is_far}

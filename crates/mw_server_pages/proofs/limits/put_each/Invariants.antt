@@ -1,5 +1,4 @@
--- States what stays true from turn to turn in the loop of `put_each` (src/limits.rt). Used by: the proof of that function
--- alone. It may change freely as long as this crate checks.
+-- Loop invariants of `put_each` (src/limits.rt).
 use Rattle.std.proofs.Common.{◌≡◌, ◌+◌, ◌*◌, ◌≤◌, ◌++◌, length, drop, flat_map}
 use Rattle.mw_server_pages.specs.Limits.{limit}
 use Rattle.mw_server_pages.proofs.limits.put_each.Given as goal

@@ -1,5 +1,4 @@
--- States what stays true from turn to turn in the loop of `receive_from` (src/receiving.rt). Used by: the proof of that function
--- alone. It may change freely as long as this crate checks.
+-- Loop invariants of `receive_from` (src/receiving.rt).
 use Rattle.std.proofs.Common.{◌≡◌, ◌<◌, ◌≤◌, length}
 use Rattle.mw_session.specs.KnownStreams.{reads_of, writes_of}
 use Rattle.mw_session.specs.StreamRecords.{with_read}

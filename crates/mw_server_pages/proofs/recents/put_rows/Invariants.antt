@@ -1,5 +1,4 @@
--- States what stays true from turn to turn in the loop of `put_rows` (src/recents.rt). Used by: the proof of that function
--- alone. It may change freely as long as this crate checks.
+-- Loop invariants of `put_rows` (src/recents.rt).
 use Rattle.std.proofs.Common.{◌≡◌, ◌+◌, ◌*◌, ◌≤◌, ◌++◌, length, drop, flat_map}
 use Rattle.mw_server_pages.specs.Recents.{recent}
 use Rattle.mw_server_pages.proofs.recents.put_rows.Given as goal

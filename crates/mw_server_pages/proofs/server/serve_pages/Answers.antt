@@ -1,5 +1,4 @@
--- Proves goals of `serve_pages` (src/server.rt) that the check does not prove by itself. Used by: the proof of that function
--- alone. It may change freely as long as this crate checks.
+-- Goals of `serve_pages` (src/server.rt).
 use Rattle.std.proofs.Common.{map}
 use Rattle.std.specs.Prelude.{string_bytes}
 use Rattle.mw_server_pages.proofs.ClientLaws.{served_more}

@@ -1,5 +1,4 @@
--- States what stays true from turn to turn in the loop of `serve_pages` (src/server.rt). Used by: the proof of that function
--- alone. It may change freely as long as this crate checks.
+-- Loop invariants of `serve_pages` (src/server.rt).
 use Rattle.std.proofs.Common.{map}
 use Rattle.std.specs.Prelude.{string_bytes}
 use Rattle.mw_server_pages.specs.Clients.{AreServed}

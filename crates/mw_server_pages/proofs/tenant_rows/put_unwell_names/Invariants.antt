@@ -1,5 +1,4 @@
--- States what stays true from turn to turn in the loop of `put_unwell_names` (src/tenant_rows.rt). Used by: the proof of that
--- function alone. It may change freely as long as this crate checks.
+-- Loop invariants of `put_unwell_names` (src/tenant_rows.rt).
 use Rattle.std.proofs.Common.{◌≡◌, ◌+◌, ◌*◌, ◌≤◌, ◌++◌, length, drop, flat_map}
 use Rattle.mw_server_pages.specs.StatusPage.{unwell_name}
 use Rattle.mw_server_pages.proofs.tenant_rows.put_unwell_names.Given as goal

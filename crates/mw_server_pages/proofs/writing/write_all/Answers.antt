@@ -1,5 +1,4 @@
--- Proves goals of `write_all` (src/writing.rt) that the check does not prove by itself. Used by: the proof of that function
--- alone. It may change freely as long as this crate checks.
+-- Goals of `write_all` (src/writing.rt).
 use Rattle.std.proofs.Common.{◌≡◌, ◌==◌, false, rules, sym, subst, ◌∙◌, take}
 use Rattle.mw_session.specs.KnownStreams.{writes_of}
 use Rattle.mw_session.specs.StreamRecords.{with_written}

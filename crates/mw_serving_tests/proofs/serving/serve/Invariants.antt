@@ -1,5 +1,4 @@
--- States what stays true from turn to turn in the loops of `serve` (src/serving.rt). Used by: the proof of that function
--- alone. It may change freely as long as this crate checks.
+-- Loop invariants of `serve` (src/serving.rt).
 use Rattle.std.proofs.Common.{◌≡◌, vec_len}
 use Rattle.mw_serving_tests.proofs.serving.serve.Given as goal
 

@@ -1,5 +1,4 @@
--- Proves the law `one_hearing` (src/laws.rt): lines determine what is heard of them. Used by: that law alone. It may change
--- freely as long as this crate checks.
+-- Proves the law `one_hearing`.
 use Rattle.mw_session.proofs.LinesHeard.{one_hearing}
 use Rattle.mw_session.proofs.laws.one_hearing.Goals as goal
 

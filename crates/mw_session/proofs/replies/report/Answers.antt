@@ -1,5 +1,4 @@
--- Proves goals of `report` (src/replies.rt) that the check does not prove by itself. Used by: the proof of that function alone.
--- It may change freely as long as this crate checks.
+-- Goals of `report` (src/replies.rt).
 use Rattle.std.proofs.Common.{refl, ap, ◌∙◌}
 use Rattle.mw_report.specs.Table.{report}
 use Rattle.mw_session.specs.ServiceCalls.{AreAnswered}

@@ -1,5 +1,4 @@
--- Proves goals of `write_report` (src/session.rt) that the check does not prove by itself. Used by: the proof of that function
--- alone. It may change freely as long as this crate checks.
+-- Goals of `write_report` (src/session.rt).
 use Rattle.std.proofs.Common.{subst}
 use Rattle.mw_session.specs.KnownStreams.{writes_of}
 use Rattle.mw_session.specs.SessionParts.{Writes}

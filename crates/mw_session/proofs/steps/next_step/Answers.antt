@@ -1,5 +1,4 @@
--- Proves goals of `next_step` (src/steps.rt) that the check does not prove by itself. Used by: the proof of that function alone.
--- It may change freely as long as this crate checks.
+-- Goals of `next_step` (src/steps.rt).
 use Rattle.std.proofs.Common.{ap, ◌∙◌}
 use Rattle.mw_frame.specs.Stream.{behind}
 use Rattle.mw_session.proofs.LineJudgments.{none_left}

@@ -1,5 +1,4 @@
--- Proves goals of `reaches` (src/steps.rt) that the check does not prove by itself. Used by: the proof of that function alone.
--- It may change freely as long as this crate checks.
+-- Goals of `reaches` (src/steps.rt).
 use Rattle.std.proofs.Common.{◌≡◌, ◌-◌, length, Some, slice_get, subst}
 use Rattle.mw_session.proofs.Jobs.{last_tells}
 use Rattle.mw_session.proofs.steps.reaches.Goals as goal

@@ -1,5 +1,4 @@
--- Proves goals of `step_at` (src/steps.rt) that the check does not prove by itself. Used by: the proof of that function alone.
--- It may change freely as long as this crate checks.
+-- Goals of `step_at` (src/steps.rt).
 use Rattle.std.proofs.Common.{sym, ap, ◌∙◌}
 use Rattle.mw_session.specs.declared.steps.Step.TheVariants.{Refuse}
 use Rattle.mw_session.specs.Talk.{Said, step_at}

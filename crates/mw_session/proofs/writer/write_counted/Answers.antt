@@ -1,5 +1,4 @@
--- Proves goals of `write_counted` (src/writer.rt) that the check does not prove by itself. Used by: the proof of that function
--- alone. It may change freely as long as this crate checks.
+-- Goals of `write_counted` (src/writer.rt).
 use Rattle.std.proofs.Common.{◌≡◌, ◌==◌, false, rules, sym, subst, ◌∙◌, length, take, ◌≤◌, refl}
 use Rattle.mw_session.specs.KnownStreams.{inner_of, reads_of, writes_of}
 use Rattle.mw_session.specs.StreamRecords.{with_written}

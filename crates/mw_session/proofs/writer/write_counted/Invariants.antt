@@ -1,5 +1,4 @@
--- States what stays true from turn to turn in the loops of `write_counted` (src/writer.rt). Used by: the proof of that function
--- alone. It may change freely as long as this crate checks.
+-- Loop invariants of `write_counted` (src/writer.rt).
 use Rattle.std.proofs.Common.{◌≡◌, length}
 use Rattle.mw_session.specs.SessionParts.{Sending}
 use Rattle.mw_session.specs.RecordedCalls.{HasMade}

@@ -1,5 +1,4 @@
--- Proves goals of `damage_byte` (src/damaged.rt) that the check does not prove by itself. Used by: the proof of that function
--- alone. It may change freely as long as this crate checks.
+-- Goals of `damage_byte` (src/damaged.rt).
 use Rattle.std.proofs.Common.{sym, ◌∙◌, inl, inr}
 use Rattle.std.proofs.lemmas.Bool.{leb-true}
 use Rattle.mw_show.proofs.Parts.{has_all_of_head, layout_known, sizes_known}

@@ -1,4 +1,4 @@
--- Proves the law `file_calls_lead_to_one_disk` (src/laws.rt). Used by: that law alone. It may change freely as long as this crate checks.
+-- Proves the law `file_calls_lead_to_one_disk`.
 use Rattle.mw_simulator.proofs.CalledDisks.{one_called_disk}
 use Rattle.mw_simulator.proofs.laws.file_calls_lead_to_one_disk.Goals as goal
 

@@ -1,4 +1,4 @@
--- Proves the law `starts_find_one_thing` (src/laws.rt). Used by: that law alone. It may change freely as long as this crate checks.
+-- Proves the law `starts_find_one_thing`.
 use Rattle.mw_simulator.proofs.OneFound.{one_found}
 use Rattle.mw_simulator.proofs.laws.starts_find_one_thing.Goals as goal
 

@@ -1,5 +1,4 @@
--- States what stays true from turn to turn in the loops of `pass_states_of` (src/after_run.rt). Used by: the proof of that
--- function alone. It may change freely as long as this crate checks.
+-- Loop invariants of `pass_states_of` (src/after_run.rt).
 use Rattle.std.proofs.Common.{◌≡◌, map, take}
 use Rattle.mw_table.specs.NewPasses.{pass_state_of}
 use Rattle.mw_table.specs.Runs.{worker_state_so_far}

@@ -1,5 +1,4 @@
--- Proves goals of `bits_at` (src/at_start.rt) that the check does not prove by itself. Used by: the proof of that function
--- alone. It may change freely as long as this crate checks.
+-- Goals of `bits_at` (src/at_start.rt).
 use Rattle.mw_table.specs.TableAtStart.{world_given}
 use Rattle.mw_table.proofs.PlacesAtIndexes.{bits_are}
 use Rattle.mw_table.proofs.at_start.bits_at.Goals as goal

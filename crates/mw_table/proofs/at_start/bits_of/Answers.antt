@@ -1,5 +1,4 @@
--- Proves goals of `bits_of` (src/at_start.rt) that the check does not prove by itself. Used by: the proof of that function
--- alone. It may change freely as long as this crate checks.
+-- Goals of `bits_of` (src/at_start.rt).
 use Rattle.std.specs.Prelude.{not}
 use Rattle.std.proofs.Common.{◌≡◌, Bool, ap, sym, subst, ◌∙◌}
 use Rattle.mw_words.specs.declared.places.At.{At}

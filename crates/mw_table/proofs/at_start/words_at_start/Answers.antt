@@ -1,5 +1,4 @@
--- Proves goals of `words_at_start` (src/at_start.rt) that the check does not prove by itself. Used by: the proof of that
--- function alone. It may change freely as long as this crate checks.
+-- Goals of `words_at_start` (src/at_start.rt).
 use Rattle.std.proofs.Common.{arith}
 use Rattle.mw_table.specs.TableAtStart.{world_given}
 use Rattle.mw_table.proofs.PlacesAtIndexes.{ties_so}

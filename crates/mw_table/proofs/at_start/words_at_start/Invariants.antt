@@ -1,5 +1,4 @@
--- States what stays true from turn to turn in the loops of `words_at_start` (src/at_start.rt). Used by: the proof of that
--- function alone. It may change freely as long as this crate checks.
+-- Loop invariants of `words_at_start` (src/at_start.rt).
 use Rattle.std.proofs.Common.{◌≡◌, ◌<◌, ℕ, length, slice_index}
 use Rattle.mw_table.specs.TableAtStart.{world_given}
 use Rattle.mw_table.specs.Places.{IsAt}

@@ -1,5 +1,4 @@
--- Proves a goal of `found_in_a_new_world` (src/making_tests.rt) that the check does not prove by itself. Used by: the proof of
--- that function alone. It may change freely as long as this crate checks.
+-- Goals of `found_in_a_new_world` (src/making_tests.rt).
 use Rattle.std.proofs.Common.{subst, sym}
 use Rattle.std.specs.Prelude.{List}
 use Rattle.mw_world.specs.Definition.Events.{WorldEvent}

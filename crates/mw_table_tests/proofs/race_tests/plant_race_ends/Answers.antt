@@ -1,5 +1,4 @@
--- Proves goals of `plant_race_ends` (src/race_tests.rt) that the check does not prove by itself. Used by: the proof of that
--- function alone. It may change freely as long as this crate checks.
+-- Goals of `plant_race_ends` (src/race_tests.rt).
 use Rattle.std.specs.Prelude.{◌≤◌}
 use Rattle.std.proofs.Common.{ap, subst, sym, ◌∙◌}
 use Rattle.mw_world.specs.Definition.State.{tenant_at, tenants_of}

@@ -1,5 +1,4 @@
--- Proves goals of `read_once` (src/race_tests.rt) that the check does not prove by itself. Used by: the proof of that function
--- alone. It may change freely as long as this crate checks.
+-- Goals of `read_once` (src/race_tests.rt).
 use Rattle.std.proofs.Common.{ap, refl, sym, subst, ◌∙◌}
 use Rattle.mw_words.specs.declared.jobs.Job.TheVariants.{Get}
 use Rattle.mw_actor.specs.ActorState.{ActorState, first}

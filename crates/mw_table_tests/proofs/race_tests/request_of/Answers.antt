@@ -1,5 +1,4 @@
--- Proves goals of `request_of` (src/race_tests.rt) that the check does not prove by itself. Used by: the proof of that function
--- alone. It may change freely as long as this crate checks.
+-- Goals of `request_of` (src/race_tests.rt).
 use Rattle.std.proofs.Common.{ap, subst, sym, ◌∙◌}
 use Rattle.mw_actor.specs.ActorState.{ActorState}
 use Rattle.mw_core.specs.FromTable.{IsCarried}

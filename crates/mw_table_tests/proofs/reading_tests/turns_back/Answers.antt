@@ -1,5 +1,4 @@
--- Proves goals of `turns_back` (src/reading_tests.rt) that the check does not prove by itself. Used by: the proof of that
--- function alone. It may change freely as long as this crate checks.
+-- Goals of `turns_back` (src/reading_tests.rt).
 use Rattle.mw_table_tests.proofs.ReadsStayReads.{reads_on}
 use Rattle.mw_table_tests.proofs.reading_tests.turns_back.Goals as goal
 

@@ -1,5 +1,4 @@
--- Proves goals of `gets` (src/runs.rt) that the check does not prove by itself. Used by: the proof of that function alone. It
--- may change freely as long as this crate checks.
+-- Goals of `gets` (src/runs.rt).
 use Rattle.std.proofs.Common.{ap, sym, subst, ◌∙◌}
 use Rattle.mw_words.specs.declared.jobs.Job.TheVariants.{Get}
 use Rattle.mw_actor.specs.ActorState.{ActorState, first}

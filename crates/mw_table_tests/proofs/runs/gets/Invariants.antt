@@ -1,5 +1,4 @@
--- States what stays true from turn to turn in the loops of `gets` (src/runs.rt). Used by: the proof of that function alone. It
--- may change freely as long as this crate checks.
+-- Loop invariants of `gets` (src/runs.rt).
 use Rattle.mw_table_tests.specs.Ready.{MayGet}
 use Rattle.mw_table_tests.proofs.runs.gets.Given as goal
 

@@ -1,5 +1,4 @@
--- Proves goals of `new_world` (src/worlds.rt) that the check does not prove by itself. Used by: the proof of that function
--- alone. It may change freely as long as this crate checks.
+-- Goals of `new_world` (src/worlds.rt).
 use Rattle.std.specs.Prelude.{[]}
 use Rattle.mw_table_tests.proofs.worlds.new_world.Goals as goal
 

@@ -1,5 +1,4 @@
--- States what stays true from turn to turn in the loops of `play_to` (src/worlds.rt). Used by: the proof of that function
--- alone. It may change freely as long as this crate checks.
+-- Loop invariants of `play_to` (src/worlds.rt).
 use Rattle.std.proofs.Common.{◌≡◌}
 use Rattle.mw_table_tests.specs.Reached.{IsReached}
 use Rattle.mw_table_tests.proofs.worlds.play_to.Given as goal

@@ -1,5 +1,4 @@
--- Proves goals of `step` (src/worlds.rt) that the check does not prove by itself. Used by: the proof of that function alone. It
--- may change freely as long as this crate checks.
+-- Goals of `step` (src/worlds.rt).
 use Rattle.mw_table_tests.proofs.NewPassesOfWorlds.{reached_on}
 use Rattle.mw_table_tests.proofs.worlds.step.Goals as goal
 

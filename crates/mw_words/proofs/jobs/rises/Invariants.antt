@@ -1,5 +1,4 @@
--- States what stays true from turn to turn in the loops of `rises` (src/jobs.rt). Used by: the proof of that function alone. It
--- may change freely as long as this crate checks.
+-- Loop invariants of `rises` (src/jobs.rt).
 use Rattle.std.proofs.Common.{◌≡◌, drop}
 use Rattle.mw_words.specs.Change.{rises, rises_from}
 use Rattle.mw_words.proofs.jobs.rises.Given as goal

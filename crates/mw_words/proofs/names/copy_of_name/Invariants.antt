@@ -1,5 +1,4 @@
--- States what stays true from turn to turn in the loops of `copy_of_name` (src/names.rt). Used by: the proof of that function
--- alone. It may change freely as long as this crate checks.
+-- Loop invariants of `copy_of_name` (src/names.rt).
 use Rattle.std.proofs.Common.{◌≡◌, take}
 use Rattle.mw_words.proofs.names.copy_of_name.Given as goal
 

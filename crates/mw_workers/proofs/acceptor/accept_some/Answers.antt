@@ -1,5 +1,4 @@
--- Proves goals of `accept_some` (src/acceptor.rt) that the check does not prove by itself. Used by: the proof of that function
--- alone. It may change freely as long as this crate checks.
+-- Goals of `accept_some` (src/acceptor.rt).
 use Rattle.mw_workers.proofs.ListenerCallLaws.{put_more}
 use Rattle.mw_workers.proofs.acceptor.accept_some.Goals as goal
 

@@ -1,5 +1,4 @@
--- States what stays true from turn to turn in the loops of `accept_some` (src/acceptor.rt). Used by: the proof of that function
--- alone. It may change freely as long as this crate checks.
+-- Loop invariants of `accept_some` (src/acceptor.rt).
 use Rattle.mw_workers.specs.ListenerCalls.{ArePut}
 use Rattle.mw_workers.proofs.acceptor.accept_some.Given as goal
 

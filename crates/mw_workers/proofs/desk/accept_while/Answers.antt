@@ -1,5 +1,4 @@
--- Proves goals of `accept_while` (src/desk.rt) that the check does not prove by itself. Used by: the proof of that function
--- alone. It may change freely as long as this crate checks.
+-- Goals of `accept_while` (src/desk.rt).
 use Rattle.std.proofs.Common.{◌+◌}
 use Rattle.mw_workers.proofs.ListenerCallLaws.{put_more}
 use Rattle.mw_workers.proofs.desk.accept_while.Goals as goal

@@ -1,5 +1,4 @@
--- States what stays true from turn to turn in the loops of `accept_while` (src/desk.rt). Used by: the proof of that function
--- alone. It may change freely as long as this crate checks.
+-- Loop invariants of `accept_while` (src/desk.rt).
 use Rattle.std.proofs.Common.{ℕ}
 use Rattle.mw_workers.specs.ListenerCalls.{ArePut}
 use Rattle.mw_workers.proofs.desk.accept_while.Given as goal

@@ -1,5 +1,4 @@
--- Proves goals of `serve_in_turn` (src/desk.rt) that the check does not prove by itself. Used by: the proof of that function
--- alone. It may change freely as long as this crate checks.
+-- Goals of `serve_in_turn` (src/desk.rt).
 use Rattle.std.proofs.Common.{true, false, [], ◌∷◌, ◌++◌, subst, sym}
 use Rattle.mw_session.specs.ServiceCalls.{AreAnswered}
 use Rattle.mw_session.proofs.TransitionLaws.{goes_further}

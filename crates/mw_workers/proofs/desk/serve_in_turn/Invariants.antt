@@ -1,5 +1,4 @@
--- States what stays true from turn to turn in the loops of `serve_in_turn` (src/desk.rt). Used by: the proof of that function
--- alone. It may change freely as long as this crate checks.
+-- Loop invariants of `serve_in_turn` (src/desk.rt).
 use Rattle.std.proofs.Common.{◌≡◌, Bool, List, length}
 use Rattle.mw_session.specs.ServiceCalls.{AreAnswered}
 use Rattle.mw_workers.specs.ServedConnections.{AreServed, chosen}

@@ -1,5 +1,4 @@
--- Proves goals of `serve_each` (src/worker.rt) that the check does not prove by itself. Used by: the proof of that function
--- alone. It may change freely as long as this crate checks.
+-- Goals of `serve_each` (src/worker.rt).
 use Rattle.mw_session.specs.ServiceCalls.{AreAnswered}
 use Rattle.mw_session.proofs.TransitionLaws.{goes_further}
 use Rattle.mw_workers.specs.ServedConnections.{IsServed}

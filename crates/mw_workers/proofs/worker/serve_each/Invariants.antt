@@ -1,5 +1,4 @@
--- States what stays true from turn to turn in the loops of `serve_each` (src/worker.rt). Used by: the proof of that function
--- alone. It may change freely as long as this crate checks.
+-- Loop invariants of `serve_each` (src/worker.rt).
 use Rattle.mw_session.specs.ServiceCalls.{AreAnswered}
 use Rattle.mw_workers.specs.ServedConnections.{AreServed}
 use Rattle.mw_workers.proofs.worker.serve_each.Given as goal

@@ -1,5 +1,4 @@
--- Proves the law `places_are_apart` (src/laws.rt): a place has what was last written there, and a write changes no other place.
--- Used by: that law alone. It may change freely as long as this crate checks.
+-- Proves the law `places_are_apart`.
 use Rattle.mw_world.proofs.PlacesApart.{read-same, read-other}
 use Rattle.mw_world.proofs.laws.places_are_apart.Goals as goal
 

@@ -1,5 +1,4 @@
--- Proves the law `runs_come_out` (src/laws.rt): the runs of `specs/Claim/Examples.antt` come out as they should. Used by: that
--- law alone. It may change freely as long as this crate checks.
+-- Proves the law `runs_come_out`.
 use Rattle.std.proofs.Common.{refl}
 use Rattle.mw_world.proofs.laws.runs_come_out.Goals as goal
 

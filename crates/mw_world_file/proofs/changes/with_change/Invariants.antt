@@ -1,5 +1,4 @@
--- States what stays true from turn to turn in the loops of `with_change` (src/changes.rt). Used by: the proof of that function
--- alone. It may change freely as long as this crate checks.
+-- Loop invariants of `with_change` (src/changes.rt).
 use Rattle.std.proofs.Common.{◌≡◌, drop}
 use Rattle.mw_words.specs.Change.{put}
 use Rattle.mw_world_file.proofs.changes.with_change.Given as goal

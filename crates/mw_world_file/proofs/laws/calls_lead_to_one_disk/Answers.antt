@@ -1,4 +1,4 @@
--- Proves the law `calls_lead_to_one_disk` (src/laws.rt). Used by: that law alone. It may change freely as long as this crate checks.
+-- Proves the law `calls_lead_to_one_disk`.
 use Rattle.mw_world_file.proofs.ExactDisks.{one_disk}
 use Rattle.mw_world_file.proofs.laws.calls_lead_to_one_disk.Goals as goal
 

@@ -1,4 +1,4 @@
--- Proves the law `restarts_have_one_end` (src/laws.rt). Used by: that law alone. It may change freely as long as this crate checks.
+-- Proves the law `restarts_have_one_end`.
 use Rattle.mw_world_file.proofs.OneEnd.{same_end, never_refused}
 use Rattle.mw_world_file.proofs.laws.restarts_have_one_end.Goals as goal
 

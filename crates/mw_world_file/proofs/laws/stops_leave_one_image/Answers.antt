@@ -1,4 +1,4 @@
--- Proves the law `stops_leave_one_image` (src/laws.rt). Used by: that law alone. It may change freely as long as this crate checks.
+-- Proves the law `stops_leave_one_image`.
 use Rattle.mw_world_file.proofs.ExactDisks.{one_image}
 use Rattle.mw_world_file.proofs.laws.stops_leave_one_image.Goals as goal
 

@@ -1,5 +1,4 @@
--- Proves goals of `open_book` (src/opened.rt) that the check does not prove by itself. Used by: the proof of that function
--- alone. It may change freely as long as this crate checks.
+-- Goals of `open_book` (src/opened.rt).
 use Rattle.mw_words.specs.declared.limits.TheConstants.{MAX_POOL}
 use Rattle.mw_world_file.proofs.OpenedFiles.{free_kept, tells_opened}
 use Rattle.mw_world_file.proofs.opened.open_book.Goals as goal

@@ -1,5 +1,4 @@
--- States what stays true from turn to turn in the loops of `words_of` (src/opening.rt). Used by: the proof of that function
--- alone. It may change freely as long as this crate checks.
+-- Loop invariants of `words_of` (src/opening.rt).
 use Rattle.std.proofs.Common.{◌≡◌, take}
 use Rattle.mw_record.specs.Damages.{words_in}
 use Rattle.mw_world_file.proofs.opening.words_of.Given as goal

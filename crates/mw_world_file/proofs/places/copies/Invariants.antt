@@ -1,5 +1,4 @@
--- States what stays true from turn to turn in the loops of `copies` (src/places.rt). Used by: the proof of that function alone.
--- It may change freely as long as this crate checks.
+-- Loop invariants of `copies` (src/places.rt).
 use Rattle.std.proofs.Common.{◌≡◌, take}
 use Rattle.mw_world_file.proofs.places.copies.Given as goal
 

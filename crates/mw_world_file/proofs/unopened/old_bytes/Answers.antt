@@ -1,5 +1,4 @@
--- Proves goals of `old_bytes` (src/unopened.rt) that the check does not prove by itself. Used by: the proof of that function
--- alone. It may change freely as long as this crate checks.
+-- Goals of `old_bytes` (src/unopened.rt).
 use Rattle.mw_world_file.proofs.OldFiles.{made_old}
 use Rattle.mw_world_file.proofs.unopened.old_bytes.Goals as goal
 

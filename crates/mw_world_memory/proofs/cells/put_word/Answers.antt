@@ -1,5 +1,4 @@
--- Proves goals of `put_word` (src/cells.rt) that the check does not prove by itself. Used by: the proof of that function alone.
--- It may change freely as long as this crate checks.
+-- Goals of `put_word` (src/cells.rt).
 use Rattle.std.proofs.Common.{arith}
 use Rattle.mw_world_memory.proofs.BitsMatchLaws.{puts_word}
 use Rattle.mw_world_memory.proofs.cells.put_word.Goals as goal

@@ -1,5 +1,4 @@
--- States what stays true from turn to turn in the loops of `copy_lines` (src/lines.rt). Used by: the proof of that function
--- alone. It may change freely as long as this crate checks.
+-- Loop invariants of `copy_lines` (src/lines.rt).
 use Rattle.std.proofs.Common.{◌≡◌, ◌++◌, drop}
 use Rattle.mw_world.specs.Definition.State.{marks_in}
 use Rattle.mw_world_memory.proofs.lines.copy_lines.Given as goal

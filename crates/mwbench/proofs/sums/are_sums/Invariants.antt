@@ -1,5 +1,4 @@
--- States what stays true from turn to turn in the loops of `are_sums` (src/sums.rt). Used by: the proof of that function alone.
--- It may change freely as long as this crate checks.
+-- Loop invariants of `are_sums` (src/sums.rt).
 use Rattle.std.proofs.Common.{◌≡◌, ◌+◌, ◌<◌, ℕ, slice_index}
 use Rattle.mwbench.specs.Sums.{capped, made_beside}
 use Rattle.mwbench.proofs.sums.are_sums.Given as goal

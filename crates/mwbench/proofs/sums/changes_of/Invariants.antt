@@ -1,5 +1,4 @@
--- States what stays true from turn to turn in the loops of `changes_of` (src/sums.rt). Used by: the proof of that function
--- alone. It may change freely as long as this crate checks.
+-- Loop invariants of `changes_of` (src/sums.rt).
 use Rattle.std.proofs.Common.{◌≡◌, drop}
 use Rattle.mwbench.specs.Sums.{made_beside}
 use Rattle.mwbench.proofs.sums.changes_of.Given as goal

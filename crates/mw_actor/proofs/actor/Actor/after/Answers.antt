@@ -1,5 +1,4 @@
--- Proves goals of `Actor::after` (src/actor.rt) that the check does not prove by itself. Used by: the proof of that function
--- alone. It may change freely as long as this crate checks.
+-- Goals of `Actor::after` (src/actor.rt).
 use Rattle.std.proofs.Common.{ap, ◌∙◌}
 use Rattle.mw_actor.proofs.RangeLaws.{goes_as_change}
 use Rattle.mw_actor.proofs.actor.Actor.after.Goals as goal

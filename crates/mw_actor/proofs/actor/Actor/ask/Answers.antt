@@ -1,5 +1,4 @@
--- Proves goals of `Actor::ask` (src/actor/asks.rt) that the check does not prove by itself. Used by: the proof of that function
--- alone. It may change freely as long as this crate checks.
+-- Goals of `Actor::ask` (src/actor/asks.rt).
 use Rattle.std.specs.Prelude.{◌≡◌, Bool, true, false, cond, Some, None}
 use Rattle.mw_look.specs.declared.steps.Op.{Op}
 use Rattle.mw_look.specs.Steps.{op_of}

@@ -1,5 +1,4 @@
--- Proves goals of `Actor::new` (src/actor.rt) that the check does not prove by itself. Used by: the proof of that function
--- alone. It may change freely as long as this crate checks.
+-- Goals of `Actor::new` (src/actor.rt).
 use Rattle.mw_actor.proofs.JobLaws.{begins_in_range}
 use Rattle.mw_actor.proofs.actor.Actor.new.Goals as goal
 

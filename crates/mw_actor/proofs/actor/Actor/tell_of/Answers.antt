@@ -1,5 +1,4 @@
--- Proves goals of `Actor::tell_of` (src/actor.rt) that the check does not prove by itself. Used by: the proof of that function
--- alone. It may change freely as long as this crate checks.
+-- Goals of `Actor::tell_of` (src/actor.rt).
 use Rattle.std.proofs.Common.{ap, ◌∙◌}
 use Rattle.mw_look.specs.Steps.{place_of}
 use Rattle.mw_look.specs.Observations.{observation_of}

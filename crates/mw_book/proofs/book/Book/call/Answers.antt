@@ -1,5 +1,4 @@
--- Proves goals of `Book::call` (src/calls.rt) that the check does not prove by itself. Used by: the proof of that function
--- alone. It may change freely as long as this crate checks.
+-- Goals of `Book::call` (src/calls.rt).
 use Rattle.mw_look.specs.declared.steps.Call.TheVariants.{Seal, Settle, Cancel}
 use Rattle.mw_book.proofs.FiledCalls.{filed_as}
 use Rattle.mw_book.proofs.book.Book.call.Goals as goal

@@ -1,5 +1,4 @@
 -- Proves a goal (proof obligation) of Book::cancel (src/calls.rt): its contract holds after a prepared change is cancelled.
--- It may change freely as long as the crate checks.
 use Rattle.std.proofs.Common.{refl, sym, ap, subst, arith}
 use Rattle.mw_disk.specs.Runs.{Later}
 use Rattle.mw_disk.proofs.RunLaws.{later_refl}

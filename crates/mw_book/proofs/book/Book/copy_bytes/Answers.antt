@@ -1,5 +1,4 @@
--- Proves goals of `Book::copy_bytes` (src/copies.rt) that the check does not prove by itself. Used by: the proof of that
--- function alone. It may change freely as long as this crate checks.
+-- Goals of `Book::copy_bytes` (src/copies.rt).
 use Rattle.std.proofs.Common.{refl}
 use Rattle.mw_book.proofs.CopiedFiles.{book_not_read, copy_ended, only_read, still_represent}
 use Rattle.mw_book.proofs.book.Book.copy_bytes.Goals as goal

@@ -1,5 +1,4 @@
--- Proves a goal of `Book::has_place` (src/queries.rt) that the check does not prove by itself. Used by: the proof of that
--- function alone. It may change freely as long as this crate checks.
+-- Goals of `Book::has_place` (src/queries.rt).
 use Rattle.std.proofs.Common.{nat_lt, ap, ◌∙◌}
 use Rattle.mw_file.specs.File.{states_of}
 use Rattle.mw_book.specs.Permits.{vacant_place}

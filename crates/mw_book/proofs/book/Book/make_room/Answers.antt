@@ -1,5 +1,4 @@
--- Proves goals of `Book::make_room` (src/calls.rt) that the check does not prove by itself. Used by: the proof of that function
--- alone. It may change freely as long as this crate checks.
+-- Goals of `Book::make_room` (src/calls.rt).
 use Rattle.std.proofs.Common.{◌≡◌, ◌<◌, true, refl, sym, ap, subst, ◌∙◌, arith}
 use Rattle.mw_file.specs.declared.place_states.Stage.TheVariants.{Free}
 use Rattle.mw_file.specs.File.{disk_of, states_of}

@@ -1,5 +1,4 @@
--- Proves goals of `Book::prepare` (src/calls.rt) that the check does not prove by itself. Used by: the proof of that function
--- alone. It may change freely as long as this crate checks.
+-- Goals of `Book::prepare` (src/calls.rt).
 use Rattle.std.proofs.Common.{◌≡◌, refl, ap, subst, ◌∙◌}
 use Rattle.mw_look.specs.declared.steps.Call.TheVariants.{Prepare as PrepareCall, Cancel as CancelCall}
 use Rattle.mw_book.specs.CallOutcome.{IsFiled}

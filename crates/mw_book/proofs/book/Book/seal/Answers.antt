@@ -1,5 +1,4 @@
--- Proves goals of `Book::seal` (src/calls.rt) that the check does not prove by itself. Used by: the proof of that function
--- alone. It may change freely as long as this crate checks.
+-- Goals of `Book::seal` (src/calls.rt).
 use Rattle.std.proofs.Common.{◌≡◌, length, refl, sym, subst, ◌∙◌, ◌+◌, arith}
 use Rattle.mw_look.specs.declared.steps.Call.TheVariants.{Seal as SealCall, Cancel as CancelCall}
 use Rattle.mw_file.specs.declared.place_states.Stage.TheVariants.{Prepared}

@@ -1,5 +1,4 @@
--- Proves goals of `Book::take_written` (src/calls.rt) that the check does not prove by itself. Used by: the proof of that function
--- alone. It may change freely as long as this crate checks.
+-- Goals of `Book::take_written` (src/calls.rt).
 use Rattle.std.proofs.Common.{◌<◌, refl, sym, ap, subst, ◌∙◌, arith}
 use Rattle.mw_book.specs.declared.place_table.PlaceTable.{PlaceTable}
 use Rattle.mw_book.specs.FilePlaces.{IsPermutation}

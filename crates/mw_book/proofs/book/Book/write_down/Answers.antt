@@ -1,5 +1,4 @@
--- Proves goals of `Book::write_down` (src/calls.rt) that the check does not prove by itself. Used by: the proof of that function
--- alone. It may change freely as long as this crate checks.
+-- Goals of `Book::write_down` (src/calls.rt).
 use Rattle.std.proofs.Common.{◌+◌, length, refl, sym, ap, subst, ◌∙◌, arith}
 use Rattle.mw_file.specs.File.{states_of, MetFault}
 use Rattle.mw_file.specs.NewChanges.{MayPrepare}

@@ -1,5 +1,4 @@
--- States what stays true from turn to turn in the loop of `PlaceTable::highest_free` (src/place_table.rt). Used by: the proof of
--- that function alone. It may change freely as long as this crate checks.
+-- Loop invariants of `PlaceTable::highest_free` (src/place_table.rt).
 use Rattle.std.proofs.Common.{◌≡◌, ◌<◌, ◌≤◌, ℕ, false}
 use Rattle.mw_book.specs.RecordsAhead.{is_free}
 use Rattle.mw_book.proofs.place_table.PlaceTable.highest_free.Given as goal

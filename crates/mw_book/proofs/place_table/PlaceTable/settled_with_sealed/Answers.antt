@@ -1,5 +1,4 @@
--- Proves a goal of `PlaceTable::settled_with_sealed` (src/place_table.rt) that the check does not prove by itself. Used by: the proof of
--- that function alone. It may change freely as long as this crate checks.
+-- Goals of `PlaceTable::settled_with_sealed` (src/place_table.rt).
 use Rattle.std.proofs.Common.{sym, ap, ◌||◌, ◌∙◌, inl, inr, arith}
 use Rattle.std.proofs.lemmas.Bool.{cases_lt}
 use Rattle.mw_words.specs.declared.limits.TheConstants.{MAX_PLACES}

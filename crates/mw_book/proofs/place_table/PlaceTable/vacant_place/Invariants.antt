@@ -1,5 +1,4 @@
--- States what stays true from turn to turn in the loop of `PlaceTable::vacant_place` (src/place_table.rt). Used by: the proof of
--- that function alone. It may change freely as long as this crate checks.
+-- Loop invariants of `PlaceTable::vacant_place` (src/place_table.rt).
 use Rattle.std.proofs.Common.{◌≡◌, ◌-◌}
 use Rattle.mw_book.specs.Permits.{vacant_from, vacant_place}
 use Rattle.mw_book.proofs.place_table.PlaceTable.vacant_place.Given as goal

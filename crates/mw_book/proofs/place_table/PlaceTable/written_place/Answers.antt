@@ -1,5 +1,4 @@
--- Proves a goal of `PlaceTable::written_place` (src/place_table.rt) that the check does not prove by itself. Used by: the proof of that
--- function alone. It may change freely as long as this crate checks.
+-- Goals of `PlaceTable::written_place` (src/place_table.rt).
 use Rattle.std.proofs.Common.{sym, ◌∙◌}
 use Rattle.mw_book.proofs.WrittenPlaces.{written_more}
 use Rattle.mw_book.proofs.place_table.PlaceTable.written_place.Goals as goal

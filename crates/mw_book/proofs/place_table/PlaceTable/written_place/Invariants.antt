@@ -1,5 +1,4 @@
--- States what stays true from turn to turn in the loop of `PlaceTable::written_place` (src/place_table.rt). Used by: the proof of
--- that function alone. It may change freely as long as this crate checks.
+-- Loop invariants of `PlaceTable::written_place` (src/place_table.rt).
 use Rattle.std.proofs.Common.{◌≡◌, ◌-◌}
 use Rattle.mw_book.specs.PreparedAhead.{written_from, written_place}
 use Rattle.mw_book.proofs.place_table.PlaceTable.written_place.Given as goal

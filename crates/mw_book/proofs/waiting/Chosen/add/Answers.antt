@@ -1,5 +1,4 @@
--- Proves goals of `Chosen::add` (src/waiting.rt) that the check does not prove by itself. Used by: the proof of that function alone. It
--- may change freely as long as this crate checks.
+-- Goals of `Chosen::add` (src/waiting.rt).
 use Rattle.std.proofs.Common.{Some, refl, slice_set, sym, subst, ap, ◌∙◌, ◌&&◌, arith}
 use Rattle.mw_words.specs.Change.{is_change}
 use Rattle.mw_book.specs.ChosenPlaces.{AreChosen, IsUnderWay}

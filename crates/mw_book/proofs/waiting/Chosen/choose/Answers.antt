@@ -1,5 +1,4 @@
--- Proves a goal of `Chosen::choose` (src/waiting.rt) that the check does not prove by itself. Used by: the proof of that function alone. It may
--- change freely as long as this crate checks.
+-- Goals of `Chosen::choose` (src/waiting.rt).
 use Rattle.std.proofs.Common.{◌+◌, ◌∷◌, ◌∙◌, drop, length, sym, ap, subst, arith}
 use Rattle.mw_book.specs.declared.waiting.Chosen.{Chosen}
 use Rattle.mw_book.specs.ChosenPlaces.{AreChosen, IsUnderWay, free_within}

@@ -1,5 +1,4 @@
--- States what stays true from turn to turn in the loop of `Chosen::choose` (src/waiting.rt). Used by: the proof of that function alone. It may
--- change freely as long as this crate checks.
+-- Loop invariants of `Chosen::choose` (src/waiting.rt).
 use Rattle.std.proofs.Common.{◌≤◌, drop, length}
 use Rattle.mw_words.specs.declared.limits.TheConstants.{MAX_PLACES}
 use Rattle.mw_book.specs.declared.waiting.TheConstants.{MOST_AHEAD}

@@ -1,5 +1,4 @@
--- Proves goals of `Client::change_patiently` (src/client.rt) that the check does not prove by itself. Used by: the proof of
--- that function alone. It may change freely as long as this crate checks.
+-- Goals of `Client::change_patiently` (src/client.rt).
 use Rattle.std.proofs.Common.{◌∙◌, sym}
 use Rattle.mw_client.proofs.Retries.{once_more}
 use Rattle.mw_client.proofs.client.Client.change_patiently.Goals as goal

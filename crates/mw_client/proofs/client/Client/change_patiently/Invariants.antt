@@ -1,5 +1,4 @@
--- States what stays true from turn to turn in the loops of `Client::change_patiently` (src/client.rt). Used by: the proof of
--- that function alone. It may change freely as long as this crate checks.
+-- Loop invariants of `Client::change_patiently` (src/client.rt).
 use Rattle.std.proofs.Common.{◌≡◌}
 use Rattle.mw_client.proofs.Retries.{InVain}
 use Rattle.mw_client.proofs.client.Client.change_patiently.Given as goal

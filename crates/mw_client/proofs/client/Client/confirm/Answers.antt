@@ -1,5 +1,4 @@
--- Proves goals of `Client::confirm` (src/client.rt) that the check does not prove by itself. Used by: the proof of that
--- function alone. It may change freely as long as this crate checks.
+-- Goals of `Client::confirm` (src/client.rt).
 use Rattle.mw_client.specs.Exchanges.{Exchanged}
 use Rattle.mw_client.proofs.Retries.{answered_yes}
 use Rattle.mw_client.proofs.client.Client.confirm.Goals as goal

@@ -1,5 +1,4 @@
--- States what stays true from turn to turn in the loops of `Client::read` (src/client.rt). Used by: the proof of that function
--- alone. It may change freely as long as this crate checks.
+-- Loop invariants of `Client::read` (src/client.rt).
 use Rattle.std.specs.Prelude.{IsTrue}
 use Rattle.std.specs.List.{list_all}
 use Rattle.mw_client.specs.Exchanges.{keeps}

@@ -1,5 +1,4 @@
--- Proves goals of `Core::advance` (src/calls.rt) that the check does not prove by itself. Used by: the proof of that function
--- alone. It may change freely as long as this crate checks.
+-- Goals of `Core::advance` (src/calls.rt).
 use Rattle.std.specs.Prelude.{Bool, if◌then◌else◌, is_some}
 use Rattle.std.proofs.Common.{ap, sym, ◌∙◌}
 use Rattle.mw_actor.specs.Program.{replied}

@@ -1,5 +1,4 @@
--- Proves goals of `Core::file` (src/file_calls.rt) that the check does not prove by itself. Used by: the proof of that function
--- alone. It may change freely as long as this crate checks.
+-- Goals of `Core::file` (src/file_calls.rt).
 use Rattle.std.specs.Prelude.{Option, length}
 use Rattle.std.proofs.Common.{ℕ, ap, subst, sym, ◌∙◌}
 use Rattle.mw_table.specs.declared.shared.Shared.{Shared}

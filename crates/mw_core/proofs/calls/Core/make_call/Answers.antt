@@ -1,5 +1,4 @@
--- Proves goals of `Core::make_call` (src/file_calls.rt) that the check does not prove by itself. Used by: the proof of that
--- function alone. It may change freely as long as this crate checks.
+-- Goals of `Core::make_call` (src/file_calls.rt).
 use Rattle.std.proofs.Common.{◌≤◌, length, sym, subst, ◌∙◌}
 use Rattle.mw_words.specs.declared.limits.TheConstants.{MAX_POOL}
 use Rattle.mw_table.specs.declared.shared.Shared.{Shared}

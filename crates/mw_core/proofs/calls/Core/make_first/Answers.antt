@@ -1,5 +1,4 @@
--- Proves goals of `Core::make_first` (src/read_rounds.rt) that the check does not prove by itself. Used by: the proof of that
--- function alone. It may change freely as long as this crate checks.
+-- Goals of `Core::make_first` (src/read_rounds.rt).
 use Rattle.std.proofs.Common.{sym, ◌∙◌}
 use Rattle.mw_core.proofs.ReadRoundLaws.{first_came, first_stepped, is_first}
 use Rattle.mw_core.proofs.calls.Core.make_first.Goals as goal

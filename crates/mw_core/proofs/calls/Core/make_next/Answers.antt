@@ -1,5 +1,4 @@
--- Proves goals of `Core::make_next` (src/read_rounds.rt) that the check does not prove by itself. Used by: the proof of that
--- function alone. It may change freely as long as this crate checks.
+-- Goals of `Core::make_next` (src/read_rounds.rt).
 use Rattle.std.proofs.Common.{◌≡◌, false, ap, sym, ◌∙◌, subst}
 use Rattle.mw_words.specs.declared.places.At.{At}
 use Rattle.mw_look.specs.Observations.{observation_of}

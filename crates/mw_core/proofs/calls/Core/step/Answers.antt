@@ -1,5 +1,4 @@
--- Proves goals of `Core::step` (src/calls.rt) that the check does not prove by itself. Used by: the proof of that function
--- alone. It may change freely as long as this crate checks.
+-- Goals of `Core::step` (src/calls.rt).
 use Rattle.std.proofs.Common.{◌≡◌, false, ap, sym, ◌∙◌, subst}
 use Rattle.mw_look.specs.Observations.{observation_of}
 use Rattle.mw_look.specs.Steps.{op_of, place}

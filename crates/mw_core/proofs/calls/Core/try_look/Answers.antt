@@ -1,5 +1,4 @@
--- Proves goals of `Core::try_look` (src/read_rounds.rt) that the check does not prove by itself. Used by: the proof of that
--- function alone. It may change freely as long as this crate checks.
+-- Goals of `Core::try_look` (src/read_rounds.rt).
 use Rattle.std.proofs.Common.{◌≡◌, ◌∷◌, true, false, Option, ap, sym, ◌∙◌, subst}
 use Rattle.mw_actor.specs.ActorState.{ActorState}
 use Rattle.mw_actor.specs.Program.{replied}

@@ -1,5 +1,4 @@
--- States what stays true from turn to turn in the loops of `Core::try_look` (src/read_rounds.rt). Used by: the proof of that
--- function alone. It may change freely as long as this crate checks.
+-- Loop invariants of `Core::try_look` (src/read_rounds.rt).
 use Rattle.mw_table.specs.CarriedRequest.{IsCarried}
 use Rattle.mw_table.specs.Passes.{IsOf, IsOfSameWorker}
 use Rattle.mw_core.proofs.StepsLeft.{left}

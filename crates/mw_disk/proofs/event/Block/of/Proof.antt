@@ -1,5 +1,4 @@
--- A block has no bytes at run time. Contracts see the bytes that were written.
--- The proof of Block::of (src/event.rt). It may change freely as long as this crate checks.
+-- A block has no bytes at run time. Contracts see the bytes that were written. The proof of Block::of (src/event.rt).
 use Rattle.std.proofs.Common.{◌≡◌, [], ◌∷◌, refl}
 use base.Fml.{fsep, ftrue}
 use Rattle.std.proofs.raw_atomic.Walks.{proved}

@@ -1,5 +1,4 @@
--- A history owns nothing, so it may go to another thread. This answers `unsafe impl Send for History` in src/history.rt; no
--- other file uses it. It must be proved again if History gets a field that owns something.
+-- A history owns nothing, so it may go to another thread: the proof of `unsafe impl Send for History` (src/history.rt).
 use denote.Param.Send.{IsSend, owning_send}
 use Rattle.mw_disk.specs.contracts.history.History.{the_row, the_type}
 

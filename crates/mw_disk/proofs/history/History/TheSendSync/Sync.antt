@@ -1,5 +1,4 @@
--- A history owns nothing, so threads may share it. This answers `unsafe impl Sync for History` in src/history.rt; no other file
--- uses it. It must be proved again if History gets a field that owns something.
+-- A history owns nothing, so threads may share it: the proof of `unsafe impl Sync for History` (src/history.rt).
 use denote.Param.Send.{IsSync, cell_keyless}
 use denote.Memory.{part_of, raw_all}
 use Rattle.mw_disk.specs.contracts.history.History.{the_row}

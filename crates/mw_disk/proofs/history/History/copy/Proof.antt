@@ -1,5 +1,4 @@
--- A copy has no bytes at run time. Contracts see that it is equal.
--- The proof of History::copy (src/history.rt). It may change freely as long as this crate checks.
+-- A copy has no bytes at run time. Contracts see that it is equal. The proof of History::copy (src/history.rt).
 use Rattle.std.proofs.Common.{[], ◌∷◌, refl}
 use Rattle.std.proofs.raw_atomic.Walks.{proved}
 use mir.Syntax.{named}

@@ -1,5 +1,5 @@
--- A history has no bytes at run time. Contracts see that it begins with the disk's bytes.
--- The proof of History::new (src/history.rt). It may change freely as long as this crate checks.
+-- A history has no bytes at run time. Contracts see that it begins with the disk's bytes. The proof of History::new
+-- (src/history.rt).
 use Rattle.std.proofs.Common.{[], ◌∷◌, refl}
 use Rattle.std.proofs.raw_atomic.Walks.{proved}
 use mir.Syntax.{named}

@@ -1,5 +1,5 @@
--- The new history has no bytes at run time. Contracts see that it has the call too.
--- The proof of History::with (src/history.rt). It may change freely as long as this crate checks.
+-- The new history has no bytes at run time. Contracts see that it has the call too. The proof of History::with
+-- (src/history.rt).
 use Rattle.std.proofs.Common.{[], ◌∷◌, ◌++◌, refl}
 use Rattle.std.proofs.raw_atomic.Walks.{proved}
 use mir.Syntax.{named}

@@ -1,5 +1,4 @@
--- Proves goals of `MemDisk::crash` (src/memory.rt) that the check does not prove by itself. Used by: the proof of that function
--- alone. It may change freely as long as this crate checks.
+-- Goals of `MemDisk::crash` (src/memory.rt).
 use Rattle.std.proofs.Common.{rules}
 use Rattle.mw_disk.proofs.Remembered.{reads_left}
 use Rattle.mw_disk.proofs.TornBytes.{tears_left}

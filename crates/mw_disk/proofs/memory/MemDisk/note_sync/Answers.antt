@@ -1,5 +1,4 @@
--- Proves goals of `MemDisk::note_sync` (src/memory.rt) that the check does not prove by itself. Used by: the proof of that
--- function alone. It may change freely as long as this crate checks.
+-- Goals of `MemDisk::note_sync` (src/memory.rt).
 use Rattle.std.proofs.Common.{refl}
 use Rattle.mw_disk.specs.declared.event.Call.TheVariants.{Synced}
 use Rattle.mw_disk.proofs.Left.{goes_on}

@@ -1,5 +1,4 @@
--- Proves goals of `MemDisk::put` (src/memory.rt) that the check does not prove by itself. Used by: the proof of that function
--- alone. It may change freely as long as this crate checks.
+-- Goals of `MemDisk::put` (src/memory.rt).
 use Rattle.std.proofs.Common.{ℕ, List, [], ◌∷◌, ◌++◌, ap, ◌∙◌}
 use Rattle.mw_disk.specs.declared.event.Call.TheVariants.{Wrote}
 use Rattle.mw_disk.specs.declared.history.History.{History}

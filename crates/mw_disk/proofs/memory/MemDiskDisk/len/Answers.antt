@@ -1,5 +1,4 @@
--- Proves goals of `MemDisk::len of Disk` (src/memory.rt) that the check does not prove by itself. Used by: the proof of that
--- function alone. It may change freely as long as this crate checks.
+-- Goals of `MemDisk::len of Disk` (src/memory.rt).
 use Rattle.std.proofs.Common.{true, false, refl, rules, ap, ◌∙◌, length}
 use Rattle.mw_disk.proofs.Remembered.{went_called, went_spared, fails_called, fails_spared, fails_nothing, fails_same, quiet_nothing, quiet_same}
 use Rattle.mw_disk.specs.declared.event.Call.TheVariants.{Quiet}

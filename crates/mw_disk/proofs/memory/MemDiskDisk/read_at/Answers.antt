@@ -1,5 +1,4 @@
--- Proves goals of `MemDisk::read_at of Disk` (src/memory.rt) that the check does not prove by itself. Used by: the proof of
--- that function alone. It may change freely as long as this crate checks.
+-- Goals of `MemDisk::read_at of Disk` (src/memory.rt).
 use Rattle.std.proofs.Common.{true, false, ℕ, refl, ◌+◌, List, length, ap, ◌∙◌, rules}
 use Rattle.std.specs.List.{slice_range}
 use Rattle.mw_disk.proofs.Remembered.{read_called, read_spared, went_spared, fails_called, fails_nothing, fails_same, quiet_nothing, quiet_same, read_there}

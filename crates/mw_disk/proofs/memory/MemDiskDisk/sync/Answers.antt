@@ -1,5 +1,4 @@
--- Proves goals of `MemDisk::sync of Disk` (src/memory.rt) that the check does not prove by itself. Used by: the proof of that
--- function alone. It may change freely as long as this crate checks.
+-- Goals of `MemDisk::sync of Disk` (src/memory.rt).
 use Rattle.std.proofs.Common.{true, false, refl, rules}
 use Rattle.mw_disk.proofs.Remembered.{went_called, went_spared, fails_called, fails_spared, fails_nothing, fails_same, sync_nothing, sync_same, sync_rest}
 use Rattle.mw_disk.specs.declared.event.Call.TheVariants.{Quiet, Synced}

@@ -1,5 +1,4 @@
--- Proves goals of `MemDisk::write_at of Disk` (src/memory.rt) that the check does not prove by itself. Used by: the proof of
--- that function alone. It may change freely as long as this crate checks.
+-- Goals of `MemDisk::write_at of Disk` (src/memory.rt).
 use Rattle.std.proofs.Common.{inl, length, refl, ◌∙◌, rules}
 use Rattle.mw_disk.proofs.Remembered.{went_called, went_spared, fails_called, fails_spared, refused_called, refused_spared, fails_tears, fails_torn, wrote_tears, wrote_torn, wrote_written}
 use Rattle.mw_disk.specs.declared.event.Call.TheVariants.{Wrote, Tore}

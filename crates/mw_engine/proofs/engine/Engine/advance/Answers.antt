@@ -1,5 +1,4 @@
--- Proves goals of `Engine::advance` (src/steps.rt) that the check does not prove by itself. Used by: the proof of that function
--- alone. It may change freely as long as this crate checks.
+-- Goals of `Engine::advance` (src/steps.rt).
 use Rattle.std.specs.Prelude.{is_some}
 use Rattle.std.proofs.Common.{ap, sym, ◌∙◌}
 use Rattle.mw_actor.specs.Program.{replied}

@@ -1,5 +1,4 @@
--- States what stays true from turn to turn in the loops of `Engine::copy_file` (src/copies.rt). Used by: the proof of that
--- function alone. It may change freely as long as this crate checks.
+-- Loop invariants of `Engine::copy_file` (src/copies.rt).
 use Rattle.mw_engine.proofs.engine.Engine.copy_file.Given as goal
 
 -- no file was copied yet

@@ -1,5 +1,4 @@
--- Proves goals of `Engine::fetch` (src/combiner.rt) that the check does not prove by itself. Used by: the proof of that function
--- alone. It may change freely as long as this crate checks.
+-- Goals of `Engine::fetch` (src/combiner.rt).
 use Rattle.mw_engine.proofs.RequestsGoOn.{goes_further, still_here}
 use Rattle.mw_engine.proofs.engine.Engine.fetch.Goals as goal
 

@@ -1,5 +1,4 @@
--- Proves goals of `Engine::figures` (src/figures.rt) that the check does not prove by itself. Used by: the proof of that
--- function alone. It may change freely as long as this crate checks.
+-- Goals of `Engine::figures` (src/figures.rt).
 use Rattle.std.specs.Prelude.{ℕ, List, map}
 use Rattle.std.proofs.Common.{subst}
 use Rattle.mw_engine.specs.LinesOfWorld.{places_told}

@@ -1,5 +1,4 @@
--- Proves goals of `Engine::file` (src/file_lock/one_call.rt) that the check does not prove by itself. Used by: the proof of that function
--- alone. It may change freely as long as this crate checks.
+-- Goals of `Engine::file` (src/file_lock/one_call.rt).
 use Rattle.std.specs.Prelude.{◌≢◌, None}
 use Rattle.std.proofs.Common.{sym, subst}
 use Rattle.mw_actor.specs.ActorState.{ActorState}

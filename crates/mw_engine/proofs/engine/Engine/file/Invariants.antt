@@ -1,5 +1,4 @@
--- States what stays true from turn to turn in the loops of `Engine::file` (src/file_lock/one_call.rt). Used by: the proof of that function
--- alone. It may change freely as long as this crate checks.
+-- Loop invariants of `Engine::file` (src/file_lock/one_call.rt).
 use Rattle.std.specs.Prelude.{◌≡◌}
 use Rattle.mw_engine.proofs.engine.Engine.file.Given as goal
 

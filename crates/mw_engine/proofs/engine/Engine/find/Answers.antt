@@ -1,5 +1,4 @@
--- Proves goals of `Engine::find` (src/tenants.rt) that the check does not prove by itself. Used by: the proof of that function
--- alone. It may change freely as long as this crate checks.
+-- Goals of `Engine::find` (src/tenants.rt).
 use Rattle.std.specs.Prelude.{◌≤◌, List, length}
 use Rattle.std.proofs.Common.{get_or, sym, ap, subst, ◌∙◌, arith}
 use Rattle.std.proofs.lemmas.List.{length-map}

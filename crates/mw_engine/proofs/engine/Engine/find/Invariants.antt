@@ -1,5 +1,4 @@
--- States what stays true from turn to turn in the loops of `Engine::find` (src/tenants.rt). Used by: the proof of that function
--- alone. It may change freely as long as this crate checks.
+-- Loop invariants of `Engine::find` (src/tenants.rt).
 use Rattle.mw_engine.specs.Identity.{HasNone}
 use Rattle.mw_engine.specs.TenantWords.{lines_told}
 use Rattle.mw_engine.proofs.engine.Engine.find.Given as goal

@@ -1,5 +1,4 @@
--- Proves goals of `Engine::go_on` (src/serving.rt) that the check does not prove by itself. Used by: the proof of that function
--- alone. It may change freely as long as this crate checks.
+-- Goals of `Engine::go_on` (src/serving.rt).
 use Rattle.mw_engine.proofs.Branded.{still_of}
 use Rattle.mw_engine.proofs.StepOrFileCall.{stepped_files, stepped_same, stepped_serves, stepped_way}
 use Rattle.mw_engine.proofs.engine.Engine.go_on.Goals as goal

@@ -1,5 +1,4 @@
--- Proves goals of `Engine::into_disks` (src/end.rt) that the check does not prove by itself. Used by: the proof of that
--- function alone. It may change freely as long as this crate checks.
+-- Goals of `Engine::into_disks` (src/end.rt).
 use Rattle.std.specs.Prelude.{◌≡◌, ◌+◌, [], ◌∷◌, length, List}
 use Rattle.std.specs.Vec.Iter.{into_iter_items}
 use Rattle.std.proofs.Common.{ap, sym, ◌∙◌, length-append, arith}

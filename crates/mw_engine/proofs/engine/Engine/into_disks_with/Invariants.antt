@@ -1,5 +1,4 @@
--- States what stays true from turn to turn in the loops of `Engine::into_disks_with` (src/end.rt). Used by: the proof of that
--- function alone. It may change freely as long as this crate checks.
+-- Loop invariants of `Engine::into_disks_with` (src/end.rt).
 use Rattle.std.specs.Prelude.{◌≡◌, ◌+◌, length}
 use Rattle.std.specs.Vec.Iter.{into_iter_items}
 use Rattle.mw_core.specs.FromTable.{IsSamePass}

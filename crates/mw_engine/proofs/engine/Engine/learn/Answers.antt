@@ -1,5 +1,4 @@
--- Proves goals of `Engine::learn` (src/notes.rt) that the check does not prove by itself. Used by: the proof of that function
--- alone. It may change freely as long as this crate checks.
+-- Goals of `Engine::learn` (src/notes.rt).
 use Rattle.std.proofs.Common.{ap, sym, subst, ◌∙◌}
 use Rattle.mw_core.specs.FromTable.{IsOf, Shared}
 use Rattle.mw_engine.proofs.Branded.{in_words, same_table, still_of}

@@ -1,5 +1,4 @@
--- States what stays true from turn to turn in the loops of `Engine::look` (src/reads.rt). Used by: the proof of that function
--- alone. It may change freely as long as this crate checks.
+-- Loop invariants of `Engine::look` (src/reads.rt).
 use Rattle.std.specs.Prelude.{◌≡◌, false}
 use Rattle.mw_core.specs.FromTable.{IsCarried, IsOfSameWorker, View}
 use Rattle.mw_engine.specs.History.{IsSince}

@@ -1,5 +1,4 @@
--- Proves goals of `Engine::make` (src/file_lock/one_call.rt) that the check does not prove by itself. Used by: the proof of that function alone.
--- It may change freely as long as this crate checks.
+-- Goals of `Engine::make` (src/file_lock/one_call.rt).
 use Rattle.mw_engine.proofs.Branded.{of_engine}
 use Rattle.mw_engine.proofs.RequestsGoOn.{called}
 use Rattle.mw_engine.proofs.engine.Engine.make.Goals as goal

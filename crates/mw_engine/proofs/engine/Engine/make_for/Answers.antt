@@ -1,5 +1,4 @@
--- Proves goals of `Engine::make_for` (src/file_lock/one_call.rt) that the check does not prove by itself. Used by: the proof of that function
--- alone. It may change freely as long as this crate checks.
+-- Goals of `Engine::make_for` (src/file_lock/one_call.rt).
 use Rattle.std.proofs.Common.{rules}
 use Rattle.std.proofs.iter.Serving.{serving}
 use Rattle.mw_engine.specs.Errands.{GoesOn}

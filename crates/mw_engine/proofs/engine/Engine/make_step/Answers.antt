@@ -1,5 +1,4 @@
--- Proves goals of `Engine::make_step` (src/steps.rt) that the check does not prove by itself. Used by: the proof of that
--- function alone. It may change freely as long as this crate checks.
+-- Goals of `Engine::make_step` (src/steps.rt).
 use Rattle.std.proofs.Common.{sym, ◌∙◌, subst}
 use Rattle.mw_core.specs.FromTable.{View}
 use Rattle.mw_engine.specs.History.{IsInProgress}

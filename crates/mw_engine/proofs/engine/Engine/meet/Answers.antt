@@ -1,5 +1,4 @@
--- Proves goals of `Engine::meet` (src/meet.rt) that the check does not prove by itself. Used by: the proof of that function
--- alone. It may change freely as long as this crate checks.
+-- Goals of `Engine::meet` (src/meet.rt).
 use Rattle.std.proofs.Common.{sym, subst}
 use Rattle.mw_core.specs.FromTable.{IsOf, Shared}
 use Rattle.mw_engine.proofs.Branded.{free_of, in_words}

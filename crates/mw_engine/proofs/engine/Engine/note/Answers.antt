@@ -1,5 +1,4 @@
--- Proves goals of `Engine::note` (src/notes.rt) that the check does not prove by itself. Used by: the proof of that function
--- alone. It may change freely as long as this crate checks.
+-- Goals of `Engine::note` (src/notes.rt).
 use Rattle.std.proofs.Common.{ap, sym, subst, ◌∙◌}
 use Rattle.atomic_table.specs.Table.{Me}
 use Rattle.mw_core.specs.FromTable.{IsOf, Shared, View}

@@ -1,5 +1,4 @@
--- Proves goals of `Engine::request` (src/tenants.rt) that the check does not prove by itself. Used by: the proof of that
--- function alone. It may change freely as long as this crate checks.
+-- Goals of `Engine::request` (src/tenants.rt).
 use Rattle.std.proofs.Common.{◌≡◌, ◌<◌, ℕ, [], get_or, ap, sym, subst, ◌∙◌}
 use Rattle.std.proofs.lemmas.List.{length-map}
 use Rattle.mw_actor.specs.ActorState.{first}

@@ -1,5 +1,4 @@
--- Proves goals of `Engine::serve` (src/serving.rt) that the check does not prove by itself. Used by: the proof of that function
--- alone. It may change freely as long as this crate checks.
+-- Goals of `Engine::serve` (src/serving.rt).
 use Rattle.std.specs.Prelude.{Option}
 use Rattle.std.proofs.Common.{sym, ap, subst, ◌∙◌}
 use Rattle.mw_words.specs.declared.replies.Reply.{Reply}

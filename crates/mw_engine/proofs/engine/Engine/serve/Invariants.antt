@@ -1,5 +1,4 @@
--- States what stays true from turn to turn in the loops of `Engine::serve` (src/serving.rt). Used by: the proof of that
--- function alone. It may change freely as long as this crate checks.
+-- Loop invariants of `Engine::serve` (src/serving.rt).
 use Rattle.std.specs.Prelude.{◌≡◌}
 use Rattle.mw_core.specs.FromTable.{IsCarried, IsOfSameWorker}
 use Rattle.mw_engine.specs.History.{IsInProgress}

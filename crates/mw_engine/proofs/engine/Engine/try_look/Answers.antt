@@ -1,5 +1,4 @@
--- Proves goals of `Engine::try_look` (src/reads.rt) that the check does not prove by itself. Used by: the proof of that
--- function alone. It may change freely as long as this crate checks.
+-- Goals of `Engine::try_look` (src/reads.rt).
 use Rattle.std.proofs.Common.{refl, sym, subst}
 use Rattle.mw_actor.specs.ActorState.{ActorState}
 use Rattle.mw_core.specs.ReadRounds.{IsLook}

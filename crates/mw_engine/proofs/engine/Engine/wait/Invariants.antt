@@ -1,5 +1,4 @@
--- States what stays true from turn to turn in the loop of `Engine::wait` (src/combiner.rt). Used by: the proof of that function alone.
--- It may change freely as long as this crate checks.
+-- Loop invariants of `Engine::wait` (src/combiner.rt).
 use Rattle.mw_loan.specs.Loans.{IsReceiptFor, IsReceiptOf}
 use Rattle.mw_engine.specs.declared.errand.Errand.{Errand}
 use Rattle.mw_engine.proofs.engine.Engine.wait.Given as goal

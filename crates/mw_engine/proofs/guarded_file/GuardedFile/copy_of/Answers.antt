@@ -1,5 +1,4 @@
--- Proves goals of `GuardedFile::copy_of` (src/copies.rt) that the check does not prove by itself. Used by: the proof of that
--- function alone. It may change freely as long as this crate checks.
+-- Goals of `GuardedFile::copy_of` (src/copies.rt).
 use Rattle.mw_engine.proofs.FileCopies.{copies_one, still_keeps}
 use Rattle.mw_engine.proofs.guarded_file.GuardedFile.copy_of.Goals as goal
 

@@ -1,5 +1,4 @@
--- Proves goals of `GuardedFile::file` (src/file_calls.rt) that the check does not prove by itself. Used by: the proof of that
--- function alone. It may change freely as long as this crate checks.
+-- Goals of `GuardedFile::file` (src/file_calls.rt).
 use Rattle.std.proofs.Common.{sym, ◌∙◌}
 use Rattle.mw_engine.proofs.GuardedFileLaws.{keeps_some, kept_over, file_pass_of, there_of}
 use Rattle.mw_engine.proofs.RequestAfterFileCall.{file_same}

@@ -1,5 +1,4 @@
--- Proves goals of `GuardedFile::into_disk` (src/end.rt) that the check does not prove by itself. Used by: the proof of that
--- function alone. It may change freely as long as this crate checks.
+-- Goals of `GuardedFile::into_disk` (src/end.rt).
 use Rattle.std.proofs.Common.{subst, sym}
 use Rattle.mw_core.specs.FromTable.{IsFilePassOf, IsSoOfWorld, Shared, config_of, file_kept, openings_of}
 use Rattle.mw_engine.proofs.Disks.{given_as}

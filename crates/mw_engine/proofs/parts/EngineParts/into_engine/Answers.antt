@@ -1,5 +1,4 @@
--- Proves goals of `EngineParts::into_engine` (src/start.rt) that the check does not prove by itself. Used by: the proof of that
--- function alone. It may change freely as long as this crate checks.
+-- Goals of `EngineParts::into_engine` (src/start.rt).
 use Rattle.std.proofs.Common.{subst}
 use Rattle.mw_engine.specs.Brand.{Identity}
 use Rattle.mw_engine.specs.GuardedFile.{AreKept}

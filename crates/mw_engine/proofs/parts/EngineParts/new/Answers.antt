@@ -1,5 +1,4 @@
--- Proves goals of `EngineParts::new` (src/new_parts.rt) that the check does not prove by itself. Used by: the proof of that
--- function alone. It may change freely as long as this crate checks.
+-- Goals of `EngineParts::new` (src/new_parts.rt).
 use Rattle.std.specs.Prelude.{All, List, length, map}
 use Rattle.std.proofs.Common.{sym, ap, subst, ◌∙◌}
 use Rattle.std.proofs.lemmas.List.{length-map}

@@ -1,5 +1,4 @@
--- Proves goals of `TenantWords::free_slots` (src/figures.rt) that the check does not prove by itself. Used by: the proof of
--- that function alone. It may change freely as long as this crate checks.
+-- Goals of `TenantWords::free_slots` (src/figures.rt).
 use Rattle.std.specs.Prelude.{◌≡◌, ◌+◌, cond}
 use Rattle.std.proofs.Common.{sym, ◌∙◌, arith}
 use Rattle.mw_engine.specs.Figures.{is_free}

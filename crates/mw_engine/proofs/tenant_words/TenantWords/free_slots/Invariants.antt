@@ -1,5 +1,4 @@
--- States what stays true from turn to turn in the loops of `TenantWords::free_slots` (src/figures.rt). Used by: the proof of
--- that function alone. It may change freely as long as this crate checks.
+-- Loop invariants of `TenantWords::free_slots` (src/figures.rt).
 use Rattle.std.specs.Prelude.{◌≤◌}
 use Rattle.mw_engine.specs.Figures.{HasLooked, TellsFree}
 use Rattle.mw_engine.specs.TenantWords.{HasPass}

@@ -1,5 +1,4 @@
--- Proves goals of `TenantWords::gate` (src/figures.rt) that the check does not prove by itself. Used by: the proof of that
--- function alone. It may change freely as long as this crate checks.
+-- Goals of `TenantWords::gate` (src/figures.rt).
 use Rattle.std.proofs.Common.{subst, ◌∙◌}
 use Rattle.mw_core.specs.FromTable.{IsOf, Shared}
 use Rattle.mw_engine.proofs.PassAfterCall.{one_on}

@@ -1,5 +1,4 @@
--- Proves goals of `TenantWords::tenant_figures` (src/figures.rt) that the check does not prove by itself. Used by: the proof of
--- that function alone. It may change freely as long as this crate checks.
+-- Goals of `TenantWords::tenant_figures` (src/figures.rt).
 use Rattle.std.specs.Prelude.{ℕ, ◌≡◌, ◌<◌, ◌≤◌, ◌+◌, not, All, List, [], ◌∷◌, ◌++◌, length, map, take}
 use Rattle.std.proofs.Common.{refl, ap, sym, subst, ◌∙◌, get_or, length-append, arith}
 use Rattle.std.proofs.lemmas.List.Elements.{All-push}

@@ -1,5 +1,5 @@
--- The invariant of the loop of TenantWords::tenant_figures (src/figures.rt), which collects each tenant's figures for a report.
--- Only the proof of tenant_figures uses it. It may change freely as long as the crate checks.
+-- The invariant of the loop of TenantWords::tenant_figures (src/figures.rt), which collects each tenant's figures for a
+-- report.
 use Rattle.std.specs.Prelude.{◌≡◌, All, length, map, take}
 use Rattle.mw_report.specs.Table.{IsWithinLimits}
 use Rattle.mw_engine.specs.Figures.{HasLooked, TellTenants}

@@ -1,5 +1,4 @@
--- Proves goals of `TenantFile::copy` (src/memory.rt) that the check does not prove by itself. Used by: the proof of that
--- function alone. It may change freely as long as this crate checks.
+-- Goals of `TenantFile::copy` (src/memory.rt).
 use Rattle.std.proofs.Common.{refl, ◌∙◌}
 use Rattle.mw_disk.specs.Memory.{memory_facts}
 use Rattle.mw_file.proofs.Safety.{keeps_copy}

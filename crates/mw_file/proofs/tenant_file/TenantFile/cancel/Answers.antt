@@ -1,5 +1,4 @@
--- Proves goals of `TenantFile::cancel` (src/calls.rt) that the check does not prove by itself. Used by: the proof of that
--- function alone. It may change freely as long as this crate checks.
+-- Goals of `TenantFile::cancel` (src/calls.rt).
 use Rattle.std.proofs.Common.{refl, arith}
 use Rattle.mw_file.specs.declared.place_states.Stage.TheVariants.{Prepared}
 use Rattle.mw_file.proofs.Places.{state_at, state_there, staged_as}

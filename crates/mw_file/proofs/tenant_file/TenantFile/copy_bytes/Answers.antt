@@ -1,5 +1,4 @@
--- Proves goals of `TenantFile::copy_bytes` (src/copies.rt) that the check does not prove by itself. Used by: the proof of
--- that function alone. It may change freely as long as this crate checks.
+-- Goals of `TenantFile::copy_bytes` (src/copies.rt).
 use Rattle.std.proofs.Common.{refl}
 use Rattle.mw_file.proofs.OnlyRead.{copy_ends, not_read, only_read_safe}
 use Rattle.mw_file.proofs.tenant_file.TenantFile.copy_bytes.Goals as goal

@@ -1,5 +1,4 @@
--- Proves goals of `TenantFile::prepare` (src/calls.rt) that the check does not prove by itself. Used by: the proof of that
--- function alone. It may change freely as long as this crate checks.
+-- Goals of `TenantFile::prepare` (src/calls.rt).
 use Rattle.std.proofs.Common.{sym}
 use Rattle.mw_file.proofs.Places.{found_free}
 use Rattle.mw_file.proofs.tenant_file.TenantFile.prepare.Goals as goal

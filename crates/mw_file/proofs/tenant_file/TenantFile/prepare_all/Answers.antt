@@ -1,5 +1,4 @@
--- Proves goals of `TenantFile::prepare_all` (src/calls.rt) that the check does not prove by itself. Used by: the proof of that
--- function alone. It may change freely as long as this crate checks.
+-- Goals of `TenantFile::prepare_all` (src/calls.rt).
 use Rattle.std.proofs.Common.{◌≡◌, List, [], length, inl, sym, ◌∙◌, refl, subst, arith, All, ◌<◌}
 use Rattle.std.specs.Vec.{with_items}
 use Rattle.std.proofs.lemmas.List.{with_items_is}

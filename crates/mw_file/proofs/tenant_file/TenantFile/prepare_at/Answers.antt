@@ -1,5 +1,4 @@
--- Proves goals of `TenantFile::prepare_at` (src/calls.rt) that the check does not prove by itself. Used by: the proof of that
--- function alone. It may change freely as long as this crate checks.
+-- Goals of `TenantFile::prepare_at` (src/calls.rt).
 use Rattle.std.proofs.Common.{List, ap, sym, ◌∙◌, subst}
 use Rattle.mw_words.specs.Change.{is_change}
 use Rattle.mw_record.specs.Layout.{pairs_of}

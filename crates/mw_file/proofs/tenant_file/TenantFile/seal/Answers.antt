@@ -1,5 +1,4 @@
--- Proves goals of `TenantFile::seal` (src/calls.rt) that the check does not prove by itself. Used by: the proof of that
--- function alone. It may change freely as long as this crate checks.
+-- Goals of `TenantFile::seal` (src/calls.rt).
 use Rattle.mw_file.proofs.NewPlaces.{may_prepare_none, sealed_alone}
 use Rattle.mw_file.proofs.RollLoop.{on_ok}
 use Rattle.mw_file.proofs.tenant_file.TenantFile.seal.Goals as goal

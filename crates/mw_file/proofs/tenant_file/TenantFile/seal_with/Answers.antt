@@ -1,5 +1,4 @@
--- Proves goals of `TenantFile::seal_with` (src/calls.rt) that the check does not prove by itself. Used by: the proof of that
--- function alone. It may change freely as long as this crate checks.
+-- Goals of `TenantFile::seal_with` (src/calls.rt).
 use Rattle.std.proofs.Common.{◌≡◌, List, length, slice_set, sym, ◌∙◌, ap, refl, subst, arith}
 use Rattle.std.specs.Vec.{with_item, with_items}
 use Rattle.std.proofs.lemmas.List.{with_items_is, length-set}

@@ -1,5 +1,4 @@
--- Proves goals of `TenantFile::settle` (src/calls.rt) that the check does not prove by itself. Used by: the proof of that
--- function alone. It may change freely as long as this crate checks.
+-- Goals of `TenantFile::settle` (src/calls.rt).
 use Rattle.std.proofs.Common.{List, Bool, true, false, [], inl, subst, arith, ◌+◌, ap, length, refl, ◌∙◌, sym}
 use Rattle.mw_disk.proofs.RunLaws.{leaves_wider}
 use Rattle.mw_file.specs.declared.place_states.PlaceState.{PlaceState}

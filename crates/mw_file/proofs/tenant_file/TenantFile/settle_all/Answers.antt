@@ -1,5 +1,4 @@
--- Proves goals of `TenantFile::settle_all` (src/calls.rt) that the check does not prove by itself. Used by: the proof of that
--- function alone. It may change freely as long as this crate checks.
+-- Goals of `TenantFile::settle_all` (src/calls.rt).
 use Rattle.std.proofs.Common.{◌≡◌, List, [], length, inl, ap, sym, ◌∙◌, refl, subst, arith}
 use Rattle.std.specs.Vec.{with_items}
 use Rattle.std.proofs.lemmas.List.{with_items_is}

@@ -1,5 +1,4 @@
--- Proves goals of `Feed::next` (src/feed.rt) that the check does not prove by itself. Used by: the proof of that function alone.
--- It may change freely as long as this crate checks.
+-- Goals of `Feed::next` (src/feed.rt).
 use Rattle.std.proofs.Common.{◌+◌, ◌++◌, length, drop, refl, sym, ap, ◌∙◌, arith, subst}
 use Rattle.std.specs.Option.{option_to_list}
 use Rattle.mw_frame.specs.FeedBytes.{stream_of}

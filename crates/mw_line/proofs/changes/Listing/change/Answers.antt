@@ -1,5 +1,4 @@
--- Proves goals of `Listing::change` (src/changes.rt) that the check does not prove by itself. Used by: the proof of that
--- function alone. It may change freely as long as this crate checks.
+-- Goals of `Listing::change` (src/changes.rt).
 use Rattle.std.proofs.Common.{◌≡◌, Bool, true, false, List, refl}
 use Rattle.std.specs.List.{list_all}
 use Rattle.mw_words.specs.declared.jobs.Entry.{Entry}

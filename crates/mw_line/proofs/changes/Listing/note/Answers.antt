@@ -1,5 +1,4 @@
--- Proves goals of `Listing::note` (src/changes.rt) that the check does not prove by itself. Used by: the proof of that function
--- alone. It may change freely as long as this crate checks.
+-- Goals of `Listing::note` (src/changes.rt).
 use Rattle.std.proofs.Common.{◌≡◌, ◌∷◌, ◌++◌, [], true, Result, Ok, Err, ap, sym, ◌∙◌}
 use Rattle.std.specs.Prelude.{OnErr}
 use Rattle.std.specs.Result.{is_err}

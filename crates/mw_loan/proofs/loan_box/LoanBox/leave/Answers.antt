@@ -1,5 +1,4 @@
--- Proves goals of `LoanBox::leave` (src/loan_box.rt) that the check does not prove by itself. Used by: the proof of that function alone.
--- It may change freely as long as this crate checks.
+-- Goals of `LoanBox::leave` (src/loan_box.rt).
 use Rattle.std.proofs.Common.{rules}
 use Rattle.mw_loan.proofs.Moves.{opens_as, leaves_as, put}
 use Rattle.mw_loan.proofs.loan_box.LoanBox.leave.Goals as goal

@@ -1,5 +1,4 @@
--- Proves goals of `LoanBox::lend` (src/loan_box.rt) that the check does not prove by itself. Used by: the proof of that function alone.
--- It may change freely as long as this crate checks.
+-- Goals of `LoanBox::lend` (src/loan_box.rt).
 use Rattle.std.proofs.Common.{Some, rules, refl, sym, ◌∙◌}
 use Rattle.mw_loan.proofs.Moves.{borrows_as, returns_as, found, put, same_content, taken}
 use Rattle.mw_loan.proofs.loan_box.LoanBox.lend.Goals as goal

@@ -1,5 +1,4 @@
--- Proves goals of `LoanBox::seat` (src/loan_box.rt) that the check does not prove by itself. Used by: the proof of that function alone.
--- It may change freely as long as this crate checks.
+-- Goals of `LoanBox::seat` (src/loan_box.rt).
 use Rattle.std.proofs.Common.{rules}
 use Rattle.mw_loan.proofs.Moves.{comes}
 use Rattle.mw_loan.proofs.loan_box.LoanBox.seat.Goals as goal

@@ -1,5 +1,4 @@
--- Proves goals of `LoanBox::take_back` (src/loan_box.rt) that the check does not prove by itself. Used by: the proof of that function alone.
--- It may change freely as long as this crate checks.
+-- Goals of `LoanBox::take_back` (src/loan_box.rt).
 use Rattle.std.proofs.Common.{Some, rules, sym, ◌∙◌, subst}
 use Rattle.mw_loan.proofs.Moves.{reopens_as, closes_as, taken, found, put, same_content}
 use Rattle.mw_loan.proofs.loan_box.LoanBox.take_back.Goals as goal

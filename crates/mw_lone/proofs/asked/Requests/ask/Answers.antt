@@ -1,5 +1,4 @@
--- Proves goals of `Requests::ask` (src/asked.rt) that the check does not prove by itself. Used by: the proof of that function
--- alone. It may change freely as long as this crate checks.
+-- Goals of `Requests::ask` (src/asked.rt).
 use Rattle.mw_lone.proofs.Numbered.{pushed}
 use Rattle.mw_lone.proofs.asked.Requests.ask.Goals as goal
 

@@ -1,5 +1,4 @@
--- Proves goals of `Requests::get` (src/asked.rt) that the check does not prove by itself. Used by: the proof of that function
--- alone. It may change freely as long as this crate checks.
+-- Goals of `Requests::get` (src/asked.rt).
 use Rattle.std.proofs.Common.{sym}
 use Rattle.mw_lone.proofs.Numbered.{numbered-below, numbered-get, read-is}
 use Rattle.mw_lone.proofs.asked.Requests.get.Goals as goal

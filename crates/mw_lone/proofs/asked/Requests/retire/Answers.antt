@@ -1,5 +1,4 @@
--- Proves goals of `Requests::retire` (src/asked.rt) that the check does not prove by itself. Used by: the proof of that
--- function alone. It may change freely as long as this crate checks.
+-- Goals of `Requests::retire` (src/asked.rt).
 use Rattle.std.proofs.Common.{◌≡◌, ◌-◌, true, arith}
 use Rattle.std.proofs.Math.ListN.{length-set}
 use Rattle.mw_lone.specs.Asked.{holds_slot}

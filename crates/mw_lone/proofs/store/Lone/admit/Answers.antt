@@ -1,5 +1,4 @@
--- Proves goals of `Lone::admit` (src/store.rt) that the check does not prove by itself. Used by: the proof of that function
--- alone. It may change freely as long as this crate checks.
+-- Goals of `Lone::admit` (src/store.rt).
 use Rattle.std.proofs.Common.{sym}
 use Rattle.mw_lone.proofs.Steps.{at_some}
 use Rattle.mw_lone.proofs.SoundStores.{sound-insert}

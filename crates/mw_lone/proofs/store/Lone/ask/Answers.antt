@@ -1,5 +1,4 @@
--- Proves goals of `Lone::ask` (src/store.rt) that the check does not prove by itself. Used by: the proof of that function
--- alone. It may change freely as long as this crate checks.
+-- Goals of `Lone::ask` (src/store.rt).
 use Rattle.std.proofs.Common.{◌≡◌, IsTrue, length, subst, sym, arith}
 use Rattle.mw_words.specs.Change.{is_well_formed}
 use Rattle.mw_lone.proofs.SoundStores.{sound-insert}

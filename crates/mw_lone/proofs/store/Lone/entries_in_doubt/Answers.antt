@@ -1,5 +1,4 @@
--- Proves goals of `Lone::entries_in_doubt` (src/store.rt) that the check does not prove by itself. Used by: the proof of that
--- function alone. It may change freely as long as this crate checks.
+-- Goals of `Lone::entries_in_doubt` (src/store.rt).
 use Rattle.std.proofs.Common.{sym, length}
 use Rattle.mw_lone.proofs.SoundStores.{entries-fit}
 use Rattle.mw_lone.proofs.store.Lone.entries_in_doubt.Goals as goal

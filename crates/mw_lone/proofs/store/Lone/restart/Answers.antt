@@ -1,5 +1,4 @@
--- Proves goals of `Lone::restart` (src/store.rt) that the check does not prove by itself. Used by: the proof of that function
--- alone. It may change freely as long as this crate checks.
+-- Goals of `Lone::restart` (src/store.rt).
 use Rattle.mw_lone.proofs.SoundStores.{sound-new_store}
 use Rattle.mw_lone.proofs.store.Lone.restart.Goals as goal
 

@@ -1,5 +1,4 @@
--- Proves goals of `Look::tell_observation` (src/look.rt) that the check does not prove by itself. Used by: the proof of that
--- function alone. It may change freely as long as this crate checks.
+-- Goals of `Look::tell_observation` (src/look.rt).
 use Rattle.std.proofs.Common.{ap}
 use Rattle.mw_look.proofs.RangeLaws.{next_in_range}
 use Rattle.mw_look.proofs.look.Look.tell_observation.Goals as goal

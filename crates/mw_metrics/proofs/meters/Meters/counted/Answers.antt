@@ -1,5 +1,4 @@
--- Proves goals of `Meters::counted` (src/meters.rt) that the check does not prove by itself. Used by: the proof of that function
--- alone. It may change freely as long as this crate checks.
+-- Goals of `Meters::counted` (src/meters.rt).
 use Rattle.std.proofs.Common.{sym, ◌∙◌}
 use Rattle.mw_metrics.proofs.CountedFigures.{begun, one_more, all_told}
 use Rattle.mw_metrics.proofs.meters.Meters.counted.Goals as goal

@@ -1,5 +1,4 @@
--- States what stays true from turn to turn in the loop of `Meters::counted` (src/meters.rt). Used by: the proof of that
--- function alone. It may change freely as long as this crate checks.
+-- Loop invariants of `Meters::counted` (src/meters.rt).
 use Rattle.std.proofs.Common.{◌≡◌, ◌++◌, map}
 use Rattle.mw_metrics.specs.Counted.{figures_of}
 use Rattle.mw_metrics.proofs.meters.Meters.counted.Given as goal

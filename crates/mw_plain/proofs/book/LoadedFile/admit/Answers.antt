@@ -1,5 +1,4 @@
--- Proves goals of `LoadedFile::admit` (src/calls.rt) that the check does not prove by itself. Used by: the proof of that
--- function alone. It may change freely as long as this crate checks.
+-- Goals of `LoadedFile::admit` (src/calls.rt).
 use Rattle.std.proofs.Common.{◌+◌, sym, ap, ◌∙◌, refl, is_err, arith}
 use Rattle.mw_file.specs.File.{states_of}
 use Rattle.mw_file.specs.declared.place_states.Stage.TheVariants.{Prepared as PreparedStage}

@@ -1,5 +1,4 @@
--- Proves goals of `LoadedFile::change` (src/calls.rt) that the check does not prove by itself. Used by: the proof of that
--- function alone. It may change freely as long as this crate checks.
+-- Goals of `LoadedFile::change` (src/calls.rt).
 use Rattle.std.proofs.Common.{◌≡◌, ◌+◌, vec_len, length, refl, sym, ap, subst, ◌∙◌, arith}
 use Rattle.mw_words.specs.Change.{put}
 use Rattle.mw_file.specs.File.{states_of, Ends, WentWell}

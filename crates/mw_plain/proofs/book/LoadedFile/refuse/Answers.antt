@@ -1,5 +1,4 @@
--- Proves goals of `LoadedFile::refuse` (src/calls.rt) that the check does not prove by itself. Used by: the proof of that
--- function alone. It may change freely as long as this crate checks.
+-- Goals of `LoadedFile::refuse` (src/calls.rt).
 use Rattle.std.proofs.Common.{refl, sym, ap, ◌∙◌, arith}
 use Rattle.std.proofs.lemmas.Grind.{common_steps}
 use Rattle.mw_file.specs.File.{words_of, states_of, has_failed, disk_of}

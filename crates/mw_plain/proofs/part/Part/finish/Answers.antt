@@ -1,5 +1,4 @@
--- Proves goals of `Part::finish` (src/serving.rt) that the check does not prove by itself. Used by: the proof of that function
--- alone. It may change freely as long as this crate checks.
+-- Goals of `Part::finish` (src/serving.rt).
 use Rattle.std.proofs.Common.{Option, Some, sym, ap, subst, ◌∙◌, arith}
 use Rattle.mw_plain.specs.declared.book.LoadedFile.{LoadedFile}
 use Rattle.mw_plain.specs.Books.{used_in, words_in, places_in}

@@ -1,5 +1,4 @@
--- Proves goals of `Part::new` (src/opening.rt) that the check does not prove by itself. Used by: the proof of that function
--- alone. It may change freely as long as this crate checks.
+-- Goals of `Part::new` (src/opening.rt).
 use Rattle.std.proofs.Common.{Option, subst, ◌∙◌}
 use Rattle.std.specs.Prelude.{Vec, ℕ}
 use Rattle.std.specs.declared.alloc.Global.{Global}

@@ -1,5 +1,4 @@
--- Proves goals of `Plain::ask` (src/tenants.rt) that the check does not prove by itself. Used by: the proof of that function
--- alone. It may change freely as long as this crate checks.
+-- Goals of `Plain::ask` (src/tenants.rt).
 use Rattle.mw_plain.specs.Cases.{AtStart, AtFinish}
 use Rattle.mw_plain.proofs.Asks.{asks_done, asks_on}
 use Rattle.mw_plain.proofs.plain.Plain.ask.Goals as goal

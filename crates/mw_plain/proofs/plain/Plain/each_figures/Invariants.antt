@@ -1,5 +1,4 @@
--- States what stays true from turn to turn in the loops of `Plain::each_figures` (src/tenants.rt). Used by: the proof of that
--- function alone. It may change freely as long as this crate checks.
+-- Loop invariants of `Plain::each_figures` (src/tenants.rt).
 use Rattle.std.proofs.Common.{◌≡◌, take, map}
 use Rattle.mw_plain.specs.Report.{figures_of}
 use Rattle.mw_plain.proofs.plain.Plain.each_figures.Given as goal

@@ -1,5 +1,4 @@
--- Proves goals of `Plain::figures` (src/tenants.rt) that the check does not prove by itself. Used by: the proof of that
--- function alone. It may change freely as long as this crate checks.
+-- Goals of `Plain::figures` (src/tenants.rt).
 use Rattle.mw_plain.proofs.UsedSlots.{within_limits}
 use Rattle.mw_plain.proofs.plain.Plain.figures.Goals as goal
 

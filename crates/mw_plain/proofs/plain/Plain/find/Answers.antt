@@ -1,5 +1,4 @@
--- Proves goals of `Plain::find` (src/tenants.rt) that the check does not prove by itself. Used by: the proof of that function
--- alone. It may change freely as long as this crate checks.
+-- Goals of `Plain::find` (src/tenants.rt).
 use Rattle.std.specs.Prelude.{length}
 use Rattle.std.proofs.Common.{get_or, sym, ap, ◌∙◌, arith}
 use Rattle.std.specs.Cmp.Lexicographic.{same_text, other_text}

@@ -1,5 +1,4 @@
--- States what stays true from turn to turn in the loops of `Plain::find` (src/tenants.rt). Used by: the proof of that function
--- alone. It may change freely as long as this crate checks.
+-- Loop invariants of `Plain::find` (src/tenants.rt).
 use Rattle.mw_plain.specs.Search.{HasNone}
 use Rattle.mw_plain.proofs.plain.Plain.find.Given as goal
 

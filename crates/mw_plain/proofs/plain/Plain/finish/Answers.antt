@@ -1,5 +1,4 @@
--- Proves goals of `Plain::finish` (src/tenants.rt) that the check does not prove by itself. Used by: the proof of that function
--- alone. It may change freely as long as this crate checks.
+-- Goals of `Plain::finish` (src/tenants.rt).
 use Rattle.std.proofs.Common.{refl}
 use Rattle.mw_plain.proofs.Serves.{serves_one, part_here, finishes_as}
 use Rattle.mw_plain.proofs.plain.Plain.finish.Goals as goal

@@ -1,5 +1,4 @@
--- States what stays true from turn to turn in the loops of `Plain::new` (src/opening.rt). Used by: the proof of that function
--- alone. It may change freely as long as this crate checks.
+-- Loop invariants of `Plain::new` (src/opening.rt).
 use Rattle.std.proofs.Common.{◌≤◌, ◌+◌, ◌++◌, List, length, drop}
 use Rattle.std.specs.Vec.Iter.{into_iter_items}
 use Rattle.mw_plain.specs.declared.part.Part.{Part}

@@ -1,5 +1,4 @@
--- States what stays true from turn to turn in the loops of `Plain::run` (src/tenants.rt). Used by: the proof of that function
--- alone. It may change freely as long as this crate checks.
+-- Loop invariants of `Plain::run` (src/tenants.rt).
 use Rattle.std.proofs.Common.{◌≡◌, ◌≤◌, ◌++◌, List, length, drop, vec_len}
 use Rattle.std.specs.Prelude.{vec_capacity}
 use Rattle.mw_words.specs.declared.replies.Reply.{Reply}

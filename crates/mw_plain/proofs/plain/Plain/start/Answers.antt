@@ -1,5 +1,4 @@
--- Proves goals of `Plain::start` (src/tenants.rt) that the check does not prove by itself. Used by: the proof of that function
--- alone. It may change freely as long as this crate checks.
+-- Goals of `Plain::start` (src/tenants.rt).
 use Rattle.std.proofs.Common.{refl, ap}
 use Rattle.mw_plain.proofs.Serves.{start_of, serves_one, part_here, starts_here}
 use Rattle.mw_plain.proofs.plain.Plain.start.Goals as goal

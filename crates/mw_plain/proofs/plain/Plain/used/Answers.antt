@@ -1,5 +1,4 @@
--- Proves goals of `Plain::used` (src/tenants.rt) that the check does not prove by itself. Used by: the proof of that function
--- alone. It may change freely as long as this crate checks.
+-- Goals of `Plain::used` (src/tenants.rt).
 use Rattle.std.proofs.Common.{arith}
 use Rattle.mw_plain.proofs.UsedSlots.{used_first}
 use Rattle.mw_plain.proofs.plain.Plain.used.Goals as goal

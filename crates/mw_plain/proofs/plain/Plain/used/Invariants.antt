@@ -1,5 +1,4 @@
--- States what stays true from turn to turn in the loops of `Plain::used` (src/tenants.rt). Used by: the proof of that function
--- alone. It may change freely as long as this crate checks.
+-- Loop invariants of `Plain::used` (src/tenants.rt).
 use Rattle.std.proofs.Common.{◌≡◌, take}
 use Rattle.mw_plain.specs.Quotas.{used_by}
 use Rattle.mw_plain.proofs.plain.Plain.used.Given as goal

@@ -1,5 +1,4 @@
--- Proves goals of `Player::go` (src/player.rt) that the check does not prove by itself. Used by: the proof of that function
--- alone. It may change freely as long as this crate checks.
+-- Goals of `Player::go` (src/player.rt).
 use Rattle.std.proofs.Common.{refl, Err}
 use Rattle.mw_player.specs.PlayerSteps.{AreTurns}
 use Rattle.mw_player.proofs.PlayerStepLaws.{plays_call, plays_nothing, plays_step}

@@ -1,5 +1,4 @@
--- Proves goals of `Player::go_before` (src/player.rt) that the check does not prove by itself. Used by: the proof of that
--- function alone. It may change freely as long as this crate checks.
+-- Goals of `Player::go_before` (src/player.rt).
 use Rattle.std.proofs.Common.{Ok, Err}
 use Rattle.mw_player.specs.declared.player.PlayFault.TheVariants.{DidNotArrive}
 use Rattle.mw_player.specs.PlayerSteps.{AreTurns}

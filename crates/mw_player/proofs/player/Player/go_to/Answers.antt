@@ -1,5 +1,4 @@
--- Proves goals of `Player::go_to` (src/player.rt) that the check does not prove by itself. Used by: the proof of that function
--- alone. It may change freely as long as this crate checks.
+-- Goals of `Player::go_to` (src/player.rt).
 use Rattle.mw_player.proofs.PlayerStepLaws.{plays_turns}
 use Rattle.mw_player.proofs.player.Player.go_to.Goals as goal
 

@@ -1,5 +1,4 @@
--- Proves goals of `Player::go_to_end` (src/player.rt) that the check does not prove by itself. Used by: the proof of that
--- function alone. It may change freely as long as this crate checks.
+-- Goals of `Player::go_to_end` (src/player.rt).
 use Rattle.mw_schedule.specs.declared.schedule.Command.TheVariants.{End}
 use Rattle.mw_player.specs.PlayerSteps.{AreTurns, Obeys}
 use Rattle.mw_player.proofs.PlayerStepLaws.{plays_ended, plays_halts}

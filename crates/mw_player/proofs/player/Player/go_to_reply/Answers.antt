@@ -1,5 +1,4 @@
--- Proves goals of `Player::go_to_reply` (src/player.rt) that the check does not prove by itself. Used by: the proof of that
--- function alone. It may change freely as long as this crate checks.
+-- Goals of `Player::go_to_reply` (src/player.rt).
 use Rattle.std.proofs.Common.{Ok, Err}
 use Rattle.mw_player.specs.PlayerSteps.{AreTurns}
 use Rattle.mw_player.proofs.PlayerStepLaws.{is_same, plays_ends, plays_nothing, plays_turns, same_then}

@@ -1,5 +1,4 @@
--- States what stays true from turn to turn in the loops of `Player::go_to_reply` (src/player.rt). Used by: the proof of that
--- function alone. It may change freely as long as this crate checks.
+-- Loop invariants of `Player::go_to_reply` (src/player.rt).
 use Rattle.std.proofs.Common.{Ok}
 use Rattle.mw_player.specs.PlayerSteps.{AreTurns, IsSame, Plays}
 use Rattle.mw_player.proofs.player.Player.go_to_reply.Given as goal

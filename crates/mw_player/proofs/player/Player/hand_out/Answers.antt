@@ -1,5 +1,4 @@
--- Proves goals of `Player::hand_out` (src/player.rt) that the check does not prove by itself. Used by: the proof of that
--- function alone. It may change freely as long as this crate checks.
+-- Goals of `Player::hand_out` (src/player.rt).
 use Rattle.std.proofs.Common.{◌≡◌, ◌∷◌, [], Err}
 use Rattle.mw_world.specs.declared.events.Event.TheVariants.{Hand}
 use Rattle.mw_player.proofs.PlayerStepLaws.{plays_nothing}

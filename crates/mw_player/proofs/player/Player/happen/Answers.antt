@@ -1,5 +1,4 @@
--- Proves goals of `Player::happen` (src/player.rt) that the check does not prove by itself. Used by: the proof of that function
--- alone. It may change freely as long as this crate checks.
+-- Goals of `Player::happen` (src/player.rt).
 use Rattle.std.proofs.Common.{◌≡◌, ◌∷◌, [], Err}
 use Rattle.mw_player.proofs.PlayerStepLaws.{goes_nowhere, goes_once}
 use Rattle.mw_player.proofs.player.Player.happen.Goals as goal

@@ -1,5 +1,4 @@
--- Proves goals of `Player::line_of_reply` (src/player.rt) that the check does not prove by itself. Used by: the proof of that
--- function alone. It may change freely as long as this crate checks.
+-- Goals of `Player::line_of_reply` (src/player.rt).
 use Rattle.mw_player.proofs.ToldLines.{reply_told}
 use Rattle.mw_player.proofs.player.Player.line_of_reply.Goals as goal
 

@@ -1,5 +1,4 @@
--- Proves goals of `Player::obey` (src/player.rt) that the check does not prove by itself. Used by: the proof of that function
--- alone. It may change freely as long as this crate checks.
+-- Goals of `Player::obey` (src/player.rt).
 use Rattle.mw_player.proofs.player.Player.obey.Goals as goal
 
 pub returns-in-Come-clause-plays : goal.returns-in-Come-clause-plays

@@ -1,5 +1,4 @@
--- Proves goals of `Player::step` (src/player.rt) that the check does not prove by itself. Used by: the proof of that function
--- alone. It may change freely as long as this crate checks.
+-- Goals of `Player::step` (src/player.rt).
 use Rattle.std.proofs.Common.{◌≡◌, ◌∷◌, [], Err}
 use Rattle.mw_world.specs.declared.events.Event.TheVariants.{Step}
 use Rattle.mw_player.specs.declared.player.PlayFault.TheVariants.{Memory}

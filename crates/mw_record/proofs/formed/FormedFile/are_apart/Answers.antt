@@ -1,5 +1,4 @@
--- Proves goals of `FormedFile::are_apart` (src/formed.rt) that the check does not prove by itself. Used by: the proof of that
--- function alone. It may change freely as long as this crate checks.
+-- Goals of `FormedFile::are_apart` (src/formed.rt).
 use Rattle.std.proofs.Common.{true, sym, ap, ◌∙◌}
 use Rattle.std.specs.Option.{option_map_or}
 use Rattle.mw_record.specs.Records.{record_at, is_apart}

@@ -1,5 +1,4 @@
--- Proves goals of `FormedFile::homes_fit` (src/formed.rt) that the check does not prove by itself. Used by: the proof of that
--- function alone. It may change freely as long as this crate checks.
+-- Goals of `FormedFile::homes_fit` (src/formed.rt).
 use Rattle.std.proofs.Common.{◌||◌, nat_le, sym, ap, ◌∙◌}
 use Rattle.std.proofs.lemmas.Bool.{or_from, lt-leb}
 use Rattle.mw_words.specs.declared.limits.TheConstants.{MAX_VALUE}

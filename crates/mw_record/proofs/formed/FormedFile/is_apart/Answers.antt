@@ -1,5 +1,4 @@
--- Proves goals of `FormedFile::is_apart` (src/formed.rt) that the check does not prove by itself. Used by: the proof of that
--- function alone. It may change freely as long as this crate checks.
+-- Goals of `FormedFile::is_apart` (src/formed.rt).
 use Rattle.std.proofs.Common.{◌+◌, ◌&&◌, not, Bool, drop, sym, ap, ◌∙◌}
 use Rattle.mw_record.specs.Records.{Pairs, record_at, is_apart}
 use Rattle.mw_record.proofs.Turns.{turn}

@@ -1,5 +1,4 @@
--- Proves goals of `FormedFile::is_covered` (src/formed.rt) that the check does not prove by itself. Used by: the proof of that
--- function alone. It may change freely as long as this crate checks.
+-- Goals of `FormedFile::is_covered` (src/formed.rt).
 use Rattle.std.proofs.Common.{sym, ap, ◌∙◌}
 use Rattle.mw_record.specs.Records.{record_at}
 use Rattle.mw_record.proofs.TestsBelow.{has, covered_at}

@@ -1,5 +1,4 @@
--- States what stays true from turn to turn in the loops of `FormedFile::is_covered` (src/formed.rt). Used by: the proof of that
--- function alone. It may change freely as long as this crate checks.
+-- Loop invariants of `FormedFile::is_covered` (src/formed.rt).
 use Rattle.std.proofs.Common.{◌≡◌, false}
 use Rattle.mw_record.specs.Records as spec
 use Rattle.mw_record.proofs.formed.FormedFile.is_covered.Given as goal

@@ -1,5 +1,4 @@
--- Proves goals of `FormedFile::record` (src/formed.rt) that the check does not prove by itself. Used by: the proof of that
--- function alone. It may change freely as long as this crate checks.
+-- Goals of `FormedFile::record` (src/formed.rt).
 use Rattle.std.proofs.Common.{Some, ap, sym, ◌∙◌, arith}
 use Rattle.mw_record.specs.Records.{record_at, body_at}
 use Rattle.mw_record.proofs.ReadBytes.{record_open, record_shut, length_body}

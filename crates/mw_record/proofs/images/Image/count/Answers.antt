@@ -1,5 +1,4 @@
--- Proves goals of `Image::count` (src/images.rt) that the check does not prove by itself. Used by: the proof of that function
--- alone. It may change freely as long as this crate checks.
+-- Goals of `Image::count` (src/images.rt).
 use Rattle.std.proofs.Common.{◌≡◌, ◌<◌, ap, sym, ◌∙◌, arith}
 use Rattle.mw_record.specs.Records.{record_at}
 use Rattle.mw_record.specs.Damages.{found_places}

@@ -1,5 +1,4 @@
--- Proves goals of `Image::places` (src/images.rt) that the check does not prove by itself. Used by: the proof of that function
--- alone. It may change freely as long as this crate checks.
+-- Goals of `Image::places` (src/images.rt).
 use Rattle.std.proofs.Common.{ap, arith}
 use Rattle.mw_record.specs.Layout.{most_places}
 use Rattle.mw_record.specs.Damages.{layout_of}

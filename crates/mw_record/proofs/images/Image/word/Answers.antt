@@ -1,5 +1,4 @@
--- Proves goals of `Image::word` (src/images.rt) that the check does not prove by itself. Used by: the proof of that function
--- alone. It may change freely as long as this crate checks.
+-- Goals of `Image::word` (src/images.rt).
 use Rattle.std.proofs.Common.{Some, ap, sym, ◌∙◌}
 use Rattle.mw_record.proofs.Undamaged.{read_word}
 use Rattle.mw_record.proofs.images.Image.word.Goals as goal

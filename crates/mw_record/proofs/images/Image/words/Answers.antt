@@ -1,5 +1,4 @@
--- Proves goals of `Image::words` (src/images.rt) that the check does not prove by itself. Used by: the proof of that function
--- alone. It may change freely as long as this crate checks.
+-- Goals of `Image::words` (src/images.rt).
 use Rattle.std.proofs.Common.{arith}
 use Rattle.mw_record.proofs.Undamaged.{sizes}
 use Rattle.mw_record.proofs.images.Image.words.Goals as goal

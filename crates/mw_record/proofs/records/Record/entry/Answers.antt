@@ -1,5 +1,4 @@
--- Proves goals of `Record::entry` (src/records.rt) that the check does not prove by itself. Used by: the proof of that function
--- alone. It may change freely as long as this crate checks.
+-- Goals of `Record::entry` (src/records.rt).
 use Rattle.std.proofs.Common.{◌≡◌, ℕ, ◌+◌, ◌*◌, ◌<◌, Some, slice_get, ap, ◌∙◌, sym, length, arith, zero-add}
 use Rattle.std.proofs.lemmas.Option.{slice_get-get_or}
 use Rattle.mw_record.specs.Layout.{number_at}

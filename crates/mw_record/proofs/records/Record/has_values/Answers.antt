@@ -1,5 +1,4 @@
--- Proves goals of `Record::has_values` (src/records.rt) that the check does not prove by itself. Used by: the proof of that
--- function alone. It may change freely as long as this crate checks.
+-- Goals of `Record::has_values` (src/records.rt).
 use Rattle.std.proofs.Common.{◌≡◌, ◌+◌, ◌&&◌, true, false, nat_le, drop, sym, ap, ◌∙◌}
 use Rattle.std.proofs.lemmas.Bool.{le-leb, lt-leb}
 use Rattle.mw_words.specs.declared.limits.TheConstants.{MAX_VALUE}

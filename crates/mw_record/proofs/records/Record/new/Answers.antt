@@ -1,5 +1,4 @@
--- Proves goals of `Record::new` (src/records.rt) that the check does not prove by itself. Used by: the proof of that function
--- alone. It may change freely as long as this crate checks.
+-- Goals of `Record::new` (src/records.rt).
 use Rattle.std.proofs.Common.{ℕ, ◌+◌, ◌-◌, length, slice_index, arith}
 use Rattle.mw_record.specs.Records.{body_at}
 use Rattle.mw_record.proofs.ReadBytes.{pairs_in_part}

@@ -1,5 +1,4 @@
--- States what stays true from turn to turn in the loop of `put_escaped` (src/text.rt). Used by: the proof of that function alone.
--- It may change freely as long as this crate checks.
+-- Loop invariants of `put_escaped` (src/text.rt).
 use Rattle.std.proofs.Common.{◌≡◌, ◌+◌, ◌*◌, ◌≤◌, ◌++◌, length, take, flat_map}
 use Rattle.mw_server_pages.specs.Escapes.{escape}
 use Rattle.mw_server_pages.proofs.text.Text.put_escaped.Given as goal

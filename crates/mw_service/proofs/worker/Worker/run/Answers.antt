@@ -1,5 +1,4 @@
--- Proves goals of `Worker::run` (src/worker.rt) that the check does not prove by itself. Used by: the proof of that function
--- alone. It may change freely as long as this crate checks.
+-- Goals of `Worker::run` (src/worker.rt).
 use Rattle.mw_service.specs.Served.{Answers}
 use Rattle.mw_service.proofs.Sessions.{part_goes, told_otherwise}
 use Rattle.mw_session.specs.KnownStreams.{reads_of, writes_of}

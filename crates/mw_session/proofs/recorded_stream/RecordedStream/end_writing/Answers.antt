@@ -1,5 +1,4 @@
--- Proves goals of `RecordedStream::end_writing` (src/recorded_stream.rt) that the check does not prove by itself. Used by: the
--- proof of that function alone. It may change freely as long as this crate checks.
+-- Goals of `RecordedStream::end_writing` (src/recorded_stream.rt).
 use Rattle.std.proofs.Common.{refl}
 use Rattle.mw_session.specs.KnownStreams.{reads_of, writes_of}
 use Rattle.mw_session.proofs.Agreements.{agree_kept}

@@ -1,5 +1,4 @@
--- Proves goals of `RecordedStream::read` (src/recorded_stream.rt) that the check does not prove by itself. Used by: the proof of
--- that function alone. It may change freely as long as this crate checks.
+-- Goals of `RecordedStream::read` (src/recorded_stream.rt).
 use Rattle.std.proofs.Common.{ap}
 use Rattle.mw_session.specs.declared.transcript.Transcript.{Transcript}
 use Rattle.mw_session.specs.KnownStreams.{reads_of, writes_of}

@@ -1,5 +1,4 @@
--- Proves goals of `RecordedStream::write` (src/recorded_stream.rt) that the check does not prove by itself. Used by: the proof of
--- that function alone. It may change freely as long as this crate checks.
+-- Goals of `RecordedStream::write` (src/recorded_stream.rt).
 use Rattle.std.proofs.Common.{ap, subst, sym, ◌∙◌, ◌++◌, [], take, append-nil}
 use Rattle.std.specs.Io.KnownBytes.{Appends}
 use Rattle.mw_session.specs.declared.transcript.Transcript.{Transcript}

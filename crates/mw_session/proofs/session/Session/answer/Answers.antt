@@ -1,5 +1,4 @@
--- Proves goals of `Session::answer` (src/session.rt) that the check does not prove by itself. Used by: the proof of that
--- function alone. It may change freely as long as this crate checks.
+-- Goals of `Session::answer` (src/session.rt).
 use Rattle.std.proofs.Common.{sym, ◌∙◌}
 use Rattle.mw_session.specs.KnownStreams.{writes_of}
 use Rattle.mw_session.specs.ServiceCalls.{AreAnswered}

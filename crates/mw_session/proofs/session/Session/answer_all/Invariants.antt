@@ -1,5 +1,4 @@
--- States what stays true from turn to turn in the loops of `Session::answer_all` (src/session.rt). Used by: the proof of that
--- function alone. It may change freely as long as this crate checks.
+-- Loop invariants of `Session::answer_all` (src/session.rt).
 use Rattle.std.proofs.Common.{◌≡◌, length}
 use Rattle.mw_frame.specs.Stream.{lines_of}
 use Rattle.mw_session.specs.KnownStreams.{IsTied, reads_of, writes_of}

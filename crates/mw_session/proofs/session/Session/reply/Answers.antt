@@ -1,5 +1,4 @@
--- Proves goals of `Session::reply` (src/session.rt) that the check does not prove by itself. Used by: the proof of that function
--- alone. It may change freely as long as this crate checks.
+-- Goals of `Session::reply` (src/session.rt).
 use Rattle.std.proofs.Common.{sym, subst, ◌∙◌}
 use Rattle.mw_line.specs.Replies.{text_of}
 use Rattle.mw_session.specs.declared.steps.Step.TheVariants.{Report}

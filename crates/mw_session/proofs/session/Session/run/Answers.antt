@@ -1,5 +1,5 @@
 -- Answers to goals of Session::run (src/session.rt): its loop keeps its invariant, and its contract holds however the session
--- ends. They may change freely as long as the crate checks.
+-- ends.
 use Rattle.std.proofs.Common.{◌≡◌, ◌==◌, false, rules, sym, subst, ◌∙◌, take}
 use Rattle.mw_frame.specs.Stream.{fed}
 use Rattle.mw_session.specs.KnownStreams.{inner_of, reads_of, writes_of}

@@ -1,5 +1,4 @@
--- States what stays true from turn to turn in the loops of `Session::run` (src/session.rt). Used by: the proof of that function
--- alone. It may change freely as long as this crate checks.
+-- Loop invariants of `Session::run` (src/session.rt).
 use Rattle.mw_session.specs.KnownStreams.{IsTied, reads_of, writes_of}
 use Rattle.mw_session.specs.RecordedCalls.{HasMade}
 use Rattle.mw_session.specs.ServiceCalls.{AreAnswered, IsServed}

@@ -1,5 +1,5 @@
--- A transcript owns nothing, so it may go to another thread. This answers `unsafe impl Send for Transcript` in src/transcript.rt; no
--- other file uses it. It must be proved again if Transcript gets a field that owns something.
+-- A transcript owns nothing, so it may go to another thread: the proof of `unsafe impl Send for Transcript`
+-- (src/transcript.rt).
 use denote.Param.Send.{IsSend, owning_send}
 use Rattle.mw_session.specs.contracts.transcript.Transcript.{the_row, the_type}
 

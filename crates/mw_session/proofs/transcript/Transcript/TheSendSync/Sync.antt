@@ -1,5 +1,4 @@
--- A transcript owns nothing, so threads may share it. This answers `unsafe impl Sync for Transcript` in src/transcript.rt; no other file
--- uses it. It must be proved again if Transcript gets a field that owns something.
+-- A transcript owns nothing, so threads may share it: the proof of `unsafe impl Sync for Transcript` (src/transcript.rt).
 use denote.Param.Send.{IsSync, cell_keyless}
 use denote.Memory.{part_of, raw_all}
 use Rattle.mw_session.specs.contracts.transcript.Transcript.{the_row}

@@ -1,5 +1,5 @@
--- A transcript has no bytes at run time. Contracts see that it begins empty.
--- The proof of Transcript::new (src/transcript.rt). It may change freely as long as this crate checks.
+-- A transcript has no bytes at run time. Contracts see that it begins empty. The proof of Transcript::new
+-- (src/transcript.rt).
 use Rattle.std.proofs.Common.{[], ◌∷◌, refl}
 use Rattle.std.proofs.raw_atomic.Walks.{proved}
 use types.Kit.{‵, raw, ◌⊛◌, ◌$◌, ◌∵◌, !, qed, move, keep, split, fjoin, suffices, done}

@@ -1,5 +1,4 @@
--- Proves goals of `SizedFile::first_places` (src/sized.rt) that the check does not prove by itself. Used by: the proof of that
--- function alone. It may change freely as long as this crate checks.
+-- Goals of `SizedFile::first_places` (src/sized.rt).
 use Rattle.std.proofs.Common.{◌++◌, ◌+◌, ◌-◌, List, ℕ, length, length-drop, take, drop, ap, ◌∙◌, arith, append_assoc}
 use Rattle.std.proofs.lemmas.List.{take_all}
 use Rattle.mw_record.specs.Layout.{header}

@@ -1,5 +1,4 @@
--- Proves goals of `SizedFile::home_of` (src/sized.rt) that the check does not prove by itself. Used by: the proof of that
--- function alone. It may change freely as long as this crate checks.
+-- Goals of `SizedFile::home_of` (src/sized.rt).
 use Rattle.std.proofs.Common.{sym, ap, ◌∙◌}
 use Rattle.mw_record.specs.declared.damages.Damage.TheVariants.{Value}
 use Rattle.mw_show.specs.Places.{has_damage, passes_at}

@@ -1,5 +1,4 @@
--- Proves goals of `SizedFile::place_of` (src/sized.rt) that the check does not prove by itself. Used by: the proof of that
--- function alone. It may change freely as long as this crate checks.
+-- Goals of `SizedFile::place_of` (src/sized.rt).
 use Rattle.std.proofs.Common.{sym, ap, ◌∙◌}
 use Rattle.mw_show.specs.Places.{comes_at, has_damage}
 use Rattle.mw_show.proofs.Lowest.{found}

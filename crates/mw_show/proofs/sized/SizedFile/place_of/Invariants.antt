@@ -1,5 +1,4 @@
--- States what stays true from turn to turn in the loops of `SizedFile::place_of` (src/sized.rt). Used by: the proof of that
--- function alone. It may change freely as long as this crate checks.
+-- Loop invariants of `SizedFile::place_of` (src/sized.rt).
 use Rattle.std.proofs.Common.{◌≡◌}
 use Rattle.mw_show.specs.Places.{first_of, comes_at}
 use Rattle.mw_show.proofs.sized.SizedFile.place_of.Given as goal

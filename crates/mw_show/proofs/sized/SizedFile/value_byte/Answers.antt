@@ -1,5 +1,4 @@
--- Proves goals of `SizedFile::value_byte` (src/sized.rt) that the check does not prove by itself. Used by: the proof of that
--- function alone. It may change freely as long as this crate checks.
+-- Goals of `SizedFile::value_byte` (src/sized.rt).
 use Rattle.std.proofs.Common.{ap, length, arith}
 use Rattle.mw_show.proofs.Parts.{length-first_homes}
 use Rattle.mw_show.proofs.sized.SizedFile.value_byte.Goals as goal

@@ -1,5 +1,4 @@
--- Proves goals of `World::all_reopened` (src/world/restarts.rt) that the check does not prove by itself. Used by: the proof of
--- that function alone. It may change freely as long as this crate checks.
+-- Goals of `World::all_reopened` (src/world/restarts.rt).
 use Rattle.std.proofs.Common.{◌≡◌, ℕ, ap, length, get_or, subst, sym, ◌∙◌, ◌+◌, arith}
 use Rattle.std.proofs.lemmas.List.{length_push}
 use Rattle.mw_world_file.specs.SoundBooks.{HasSound}

@@ -1,5 +1,4 @@
--- Proves goals of `World::cut` (src/world/stopped_calls.rt) that the check does not prove by itself. Used by: the proof of that
--- function alone. It may change freely as long as this crate checks.
+-- Goals of `World::cut` (src/world/stopped_calls.rt).
 use Rattle.std.specs.Prelude.{◌≡◌, false, true, length, Some}
 use Rattle.std.proofs.Common.{ap, subst, sym, ◌∙◌}
 use Rattle.mw_actor.specs.ActorState.{entries_of_job, own_entries}

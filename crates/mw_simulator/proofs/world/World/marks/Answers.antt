@@ -1,5 +1,4 @@
--- Proves goals of `World::marks` (src/world/events.rt) that the check does not prove by itself. Used by: the proof of that
--- function alone. It may change freely as long as this crate checks.
+-- Goals of `World::marks` (src/world/events.rt).
 use Rattle.std.proofs.Common.{◌≡◌, subst}
 use Rattle.std.specs.Prelude.{IfOk}
 use Rattle.mw_world.specs.Definition.State.{tenant_at}

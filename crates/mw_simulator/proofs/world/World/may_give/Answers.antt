@@ -1,5 +1,4 @@
--- Proves goals of `World::may_give` (src/world/restarts.rt) that the check does not prove by itself. Used by: the proof of that
--- function alone. It may change freely as long as this crate checks.
+-- Goals of `World::may_give` (src/world/restarts.rt).
 use Rattle.mw_simulator.proofs.Quotas.{cannot_give, has_room, together_gives}
 use Rattle.mw_simulator.proofs.world.World.may_give.Goals as goal
 

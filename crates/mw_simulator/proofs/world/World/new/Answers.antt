@@ -1,5 +1,4 @@
--- Proves goals of `World::new` (src/world/new_worlds.rt) that the check does not prove by itself. Used by: the proof of that
--- function alone. It may change freely as long as this crate checks.
+-- Goals of `World::new` (src/world/new_worlds.rt).
 use Rattle.std.proofs.Common.{subst, sym, refl, ℕ, is_none}
 use Rattle.mw_world.specs.Definition.State.{new_world, tenant_at}
 use Rattle.mw_world.proofs.FirstInvariant.{new_worlds_start}

@@ -1,5 +1,4 @@
--- Proves goals of `World::restart` (src/world/restarts.rt) that the check does not prove by itself. Used by: the proof of that
--- function alone. It may change freely as long as this crate checks.
+-- Goals of `World::restart` (src/world/restarts.rt).
 use Rattle.std.specs.Prelude.{◌≡◌}
 use Rattle.std.proofs.Common.{ap, arith, refl, subst, sym, ℕ, ◌∙◌}
 use Rattle.mw_world.specs.Definition.State.{tenants_of}

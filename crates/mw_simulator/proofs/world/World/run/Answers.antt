@@ -1,5 +1,4 @@
--- Proves goals of `World::run` (src/world/events.rt) that the check does not prove by itself. Used by: the proof of that
--- function alone. It may change freely as long as this crate checks.
+-- Goals of `World::run` (src/world/events.rt).
 use Rattle.std.proofs.Common.{refl, subst, ◌∙◌, take}
 use Rattle.std.proofs.lemmas.List.{take_all}
 use Rattle.mw_simulator.specs.Events.{AllStep, GoesOn}

@@ -1,5 +1,4 @@
--- States what stays true from turn to turn in the loops of `World::run` (src/world/events.rt). Used by: the proof of that
--- function alone. It may change freely as long as this crate checks.
+-- Loop invariants of `World::run` (src/world/events.rt).
 use Rattle.std.proofs.Common.{◌≡◌, List, take}
 use Rattle.mw_world.specs.Definition.Events.{WorldEvent}
 use Rattle.mw_simulator.specs.Events.{AllStep, GoesOn, IsAfterRun}

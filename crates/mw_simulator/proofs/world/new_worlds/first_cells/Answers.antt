@@ -1,5 +1,4 @@
--- Proves goals of `first_cells` (src/world/new_worlds.rt) that the check does not prove by itself. Used by: the proof of that
--- function alone. It may change freely as long as this crate checks.
+-- Goals of `first_cells` (src/world/new_worlds.rt).
 use Rattle.std.proofs.Common.{ℕ, List, Bool, subst, sym}
 use Rattle.std.proofs.lemmas.Result.{IfOk-weaker}
 use Rattle.mw_world.specs.Definition.State as spec

@@ -1,5 +1,4 @@
--- Proves goals of `fresh_tenant_states` (src/world/new_worlds.rt) that the check does not prove by itself. Used by: the proof
--- of that function alone. It may change freely as long as this crate checks.
+-- Goals of `fresh_tenant_states` (src/world/new_worlds.rt).
 use Rattle.std.proofs.Common.{subst, sym, ap, ◌∙◌, ◌+◌, length}
 use Rattle.std.proofs.lemmas.List.{length_push}
 use Rattle.mw_simulator.specs.Starts.{EachOf, IsFresh}

@@ -1,5 +1,4 @@
--- States what stays true from turn to turn in the loops of `fresh_tenant_states` (src/world/new_worlds.rt). Used by: the proof
--- of that function alone. It may change freely as long as this crate checks.
+-- Loop invariants of `fresh_tenant_states` (src/world/new_worlds.rt).
 use Rattle.std.proofs.Common.{◌≡◌, length}
 use Rattle.mw_simulator.specs.Starts.{EachOf, IsFresh}
 use Rattle.mw_simulator.proofs.world.new_worlds.fresh_tenant_states.Given as goal

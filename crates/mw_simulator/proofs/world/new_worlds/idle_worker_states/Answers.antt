@@ -1,5 +1,4 @@
--- Proves goals of `idle_worker_states` (src/world/new_worlds.rt) that the check does not prove by itself. Used by: the proof of
--- that function alone. It may change freely as long as this crate checks.
+-- Goals of `idle_worker_states` (src/world/new_worlds.rt).
 use Rattle.std.proofs.Common.{subst, sym}
 use Rattle.mw_simulator.specs.Starts.{AreIdle}
 use Rattle.mw_simulator.proofs.FirstWorlds.{idle_none, idle_more}

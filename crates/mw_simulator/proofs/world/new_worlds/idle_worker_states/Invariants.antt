@@ -1,5 +1,4 @@
--- States what stays true from turn to turn in the loops of `idle_worker_states` (src/world/new_worlds.rt). Used by: the proof
--- of that function alone. It may change freely as long as this crate checks.
+-- Loop invariants of `idle_worker_states` (src/world/new_worlds.rt).
 use Rattle.mw_simulator.specs.Starts.{AreIdle}
 use Rattle.mw_simulator.proofs.world.new_worlds.idle_worker_states.Given as goal
 

@@ -1,5 +1,4 @@
--- Proves goals of `each_can_be` (src/world/restarts.rt) that the check does not prove by itself. Used by: the proof of that
--- function alone. It may change freely as long as this crate checks.
+-- Goals of `each_can_be` (src/world/restarts.rt).
 use Rattle.std.proofs.Common.{◌<◌, length, arith}
 use Rattle.mw_simulator.proofs.Quotas.{one_can, one_cannot}
 use Rattle.mw_simulator.proofs.world.restarts.each_can_be.Goals as goal

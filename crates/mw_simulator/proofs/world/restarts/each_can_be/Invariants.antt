@@ -1,5 +1,4 @@
--- States what stays true from turn to turn in the loops of `each_can_be` (src/world/restarts.rt). Used by: the proof of that
--- function alone. It may change freely as long as this crate checks.
+-- Loop invariants of `each_can_be` (src/world/restarts.rt).
 use Rattle.std.proofs.Common.{◌≡◌, true}
 use Rattle.mw_world.specs.Definition.State.{each_fits}
 use Rattle.mw_simulator.specs.Quotas.{places_in, quotas_in}

@@ -1,5 +1,4 @@
--- Proves goals of `follow` (src/world/restarts.rt) that the check does not prove by itself. Used by: the proof of that function
--- alone. It may change freely as long as this crate checks.
+-- Goals of `follow` (src/world/restarts.rt).
 use Rattle.std.proofs.Common.{arith}
 use Rattle.mw_simulator.proofs.TakenOverMarks.{all_followed, one_followed}
 use Rattle.mw_simulator.proofs.world.restarts.follow.Goals as goal

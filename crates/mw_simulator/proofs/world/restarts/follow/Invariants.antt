@@ -1,5 +1,4 @@
--- States what stays true from turn to turn in the loops of `follow` (src/world/restarts.rt). Used by: the proof of that
--- function alone. It may change freely as long as this crate checks.
+-- Loop invariants of `follow` (src/world/restarts.rt).
 use Rattle.mw_simulator.proofs.TakenOverMarks.{HaveFollowed}
 use Rattle.mw_simulator.proofs.world.restarts.follow.Given as goal
 

@@ -1,5 +1,4 @@
--- States what stays true from turn to turn in the loops of `stop_of` (src/world/restarts.rt). Used by: the proof of that
--- function alone. It may change freely as long as this crate checks.
+-- Loop invariants of `stop_of` (src/world/restarts.rt).
 use Rattle.std.proofs.Common.{◌≡◌, drop}
 use Rattle.mw_simulator.specs.Events as spec
 use Rattle.mw_simulator.proofs.world.restarts.stop_of.Given as goal

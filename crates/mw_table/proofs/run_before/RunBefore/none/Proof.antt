@@ -1,5 +1,5 @@
--- A run has no bytes at run time. Contracts see that this one has no events.
--- The proof of RunBefore::none (src/run_before.rt). It may change freely as long as this crate checks.
+-- A run has no bytes at run time. Contracts see that this one has no events. The proof of RunBefore::none
+-- (src/run_before.rt).
 use Rattle.std.proofs.Common.{[], ◌∷◌, refl}
 use Rattle.std.proofs.raw_atomic.Walks.{proved}
 use types.Kit.{‵, raw, ◌⊛◌, ◌$◌, ◌∵◌, !, qed, move, keep, split, fjoin, suffices, done}

@@ -1,5 +1,4 @@
--- Proves goals of `Shared::attempt` (src/steps.rt) that the check does not prove by itself. Used by: the proof of that function
--- alone. It may change freely as long as this crate checks.
+-- Goals of `Shared::attempt` (src/steps.rt).
 use Rattle.std.proofs.Common.{◌==◌, cond, ℕ, refl}
 use prog.Atomic.{either}
 use Rattle.mw_look.specs.declared.steps.Kind.TheVariants.{Plant as PlantKind}

@@ -1,5 +1,4 @@
--- Proves goals of `Shared::begin` (src/first_steps.rt) that the check does not prove by itself. Used by: the proof of that
--- function alone. It may change freely as long as this crate checks.
+-- Goals of `Shared::begin` (src/first_steps.rt).
 use Rattle.std.proofs.Common.{◌==◌, ℕ, ap, ◌∙◌}
 use Rattle.mw_words.specs.declared.places.At.TheVariants.{Door as AtDoor}
 use Rattle.mw_look.specs.declared.observations.Got.TheVariants.{Word as Found}

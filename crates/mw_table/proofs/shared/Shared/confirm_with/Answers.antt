@@ -1,5 +1,4 @@
--- Proves goals of `Shared::confirm_with` (src/file_calls.rt) that the check does not prove by itself. Used by: the proof of that
--- function alone. It may change freely as long as this crate checks.
+-- Goals of `Shared::confirm_with` (src/file_calls.rt).
 use Rattle.std.specs.Prelude.{[]}
 use Rattle.std.proofs.Common.{subst, sym}
 use Rattle.mw_rule.specs.declared.views.View.{View}

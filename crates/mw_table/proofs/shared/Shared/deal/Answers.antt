@@ -1,5 +1,4 @@
--- Proves goals of `Shared::deal` (src/new_table.rt) that the check does not prove by itself. Used by: the proof of that
--- function alone. It may change freely as long as this crate checks.
+-- Goals of `Shared::deal` (src/new_table.rt).
 use Rattle.std.proofs.Common.{ℕ, ◌<◌, ◌∙◌, sym, subst, refl, arith, slice_index_or, false}
 use Rattle.mw_table.specs.NewPasses.{IsPassState}
 use Rattle.mw_table.specs.Origins.{basis_of, begun_of}

@@ -1,5 +1,4 @@
--- States what stays true from turn to turn in the loops of `Shared::deal` (src/new_table.rt). Used by: the proof of that
--- function alone. It may change freely as long as this crate checks.
+-- Loop invariants of `Shared::deal` (src/new_table.rt).
 use Rattle.std.proofs.Common.{◌≡◌, All, length}
 use Rattle.mw_table.specs.NewPasses.{AreInOrder, IsDealt}
 use Rattle.mw_table.specs.Origins.{basis_of}

@@ -1,5 +1,4 @@
--- Proves goals of `Shared::end_call` (src/call_steps.rt) that the check does not prove by itself. Used by: the proof of that
--- function alone. It may change freely as long as this crate checks.
+-- Goals of `Shared::end_call` (src/call_steps.rt).
 use Rattle.std.proofs.Common.{◌∙◌}
 use Rattle.mw_words.specs.declared.statuses.Status.{Status}
 use Rattle.mw_words.specs.Patterns.{packed_status}

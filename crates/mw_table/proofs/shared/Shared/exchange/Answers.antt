@@ -1,5 +1,4 @@
--- Proves goals of `Shared::exchange` (src/steps.rt) that the check does not prove by itself. Used by: the proof of that
--- function alone. It may change freely as long as this crate checks.
+-- Goals of `Shared::exchange` (src/steps.rt).
 use Rattle.std.proofs.Common.{◌==◌, cond, ℕ, ap, sym, ◌∙◌}
 use prog.Atomic.{either}
 use Rattle.mw_look.specs.declared.steps.Op.TheVariants.{Change as ChangeBits}

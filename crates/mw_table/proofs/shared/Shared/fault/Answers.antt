@@ -1,5 +1,4 @@
--- Proves goals of `Shared::fault` (src/call_steps.rt) that the check does not prove by itself. Used by: the proof of that
--- function alone. It may change freely as long as this crate checks.
+-- Goals of `Shared::fault` (src/call_steps.rt).
 use Rattle.std.proofs.Common.{◌∙◌}
 use Rattle.mw_table.proofs.FileSteps.{busy_at_file, fault_asks, fault_stays}
 use Rattle.mw_table.proofs.shared.Shared.fault.Goals as goal

@@ -1,5 +1,4 @@
--- Proves goals of `Shared::figure` (src/first_steps.rt) that the check does not prove by itself. Used by: the proof of that
--- function alone. It may change freely as long as this crate checks.
+-- Goals of `Shared::figure` (src/first_steps.rt).
 use Rattle.std.proofs.Common.{ap, ◌∙◌}
 use Rattle.mw_world.specs.declared.config.Config.{Config}
 use Rattle.mw_world.specs.Definition.Extent.{has_place}

@@ -1,5 +1,4 @@
--- Proves goals of `Shared::give_file` (src/new_table.rt) that the check does not prove by itself. Used by: the proof of that
--- function alone. It may change freely as long as this crate checks.
+-- Goals of `Shared::give_file` (src/new_table.rt).
 use Rattle.std.proofs.Common.{ap, arith, length, map, refl, ◌∙◌}
 use Rattle.atomic_table.specs.Table.{Me}
 use Rattle.mw_actor.specs.ActorState.{ActorState}

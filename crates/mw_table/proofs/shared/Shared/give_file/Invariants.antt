@@ -1,5 +1,4 @@
--- States what stays true from turn to turn in the loops of `Shared::give_file` (src/new_table.rt). Used by: the proof of that
--- function alone. It may change freely as long as this crate checks.
+-- Loop invariants of `Shared::give_file` (src/new_table.rt).
 use Rattle.std.proofs.Common.{ℕ, ◌≡◌, length, slice_get, Some}
 use Rattle.mw_table.specs.declared.file_pass.FilePass.{FilePass}
 use Rattle.mw_table.specs.NewFilePasses.{IsOpened}

@@ -1,5 +1,4 @@
--- Proves goals of `Shared::learn` (src/notes.rt) that the check does not prove by itself. Used by: the proof of that function
--- alone. It may change freely as long as this crate checks.
+-- Goals of `Shared::learn` (src/notes.rt).
 use Rattle.std.proofs.Common.{ap, map, ◌∙◌}
 use Rattle.mw_table.specs.Idleness.{has_none}
 use Rattle.mw_table.specs.Numbers.{number_of}

@@ -1,5 +1,4 @@
--- Proves goals of `Shared::load` (src/steps.rt) that the check does not prove by itself. Used by: the proof of that function
--- alone. It may change freely as long as this crate checks.
+-- Goals of `Shared::load` (src/steps.rt).
 use Rattle.std.proofs.Common.{ℕ, refl, ◌∙◌}
 use Rattle.mw_look.specs.declared.steps.Op.TheVariants.{Load as LoadBits}
 use Rattle.mw_look.specs.declared.observations.Got.TheVariants.{Word as Found}

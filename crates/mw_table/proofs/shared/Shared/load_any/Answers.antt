@@ -1,5 +1,4 @@
--- Proves goals of `Shared::load_any` (src/file_calls.rt) that the check does not prove by itself. Used by: the proof of that
--- function alone. It may change freely as long as this crate checks.
+-- Goals of `Shared::load_any` (src/file_calls.rt).
 use Rattle.std.proofs.Common.{ap, map, refl, ◌∙◌}
 use Rattle.mw_rule.specs.WordActions.{Looks}
 use Rattle.mw_rule.proofs.WordActionLaws.{moves_are_allowed}

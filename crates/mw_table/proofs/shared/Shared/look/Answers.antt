@@ -1,5 +1,4 @@
--- Proves goals of `Shared::look` (src/meet.rt) that the check does not prove by itself. Used by: the proof of that function
--- alone. It may change freely as long as this crate checks.
+-- Goals of `Shared::look` (src/meet.rt).
 use Rattle.mw_table.proofs.Meetings.{load_asks}
 use Rattle.mw_table.proofs.shared.Shared.look.Goals as goal
 

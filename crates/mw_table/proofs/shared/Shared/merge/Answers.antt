@@ -1,5 +1,4 @@
--- Proves goals of `Shared::merge` (src/meet.rt) that the check does not prove by itself. Used by: the proof of that function
--- alone. It may change freely as long as this crate checks.
+-- Goals of `Shared::merge` (src/meet.rt).
 use Rattle.std.proofs.Common.{[], ap, sym, subst, ◌∙◌}
 use Rattle.atomic_table.specs.Table.{Me}
 use Rattle.mw_actor.specs.ActorState.{ActorState}

@@ -1,5 +1,4 @@
--- Proves a goal (proof obligation) of Shared::new (src/at_start.rt), which makes a new table: the words at the start keep the
--- rule (invariant) of the table, as its call of Shared::open needs. It may change freely as long as the crate checks.
+-- Goals of `Shared::new` (src/at_start.rt).
 use Rattle.std.proofs.Common.{ℕ, List, Vec, [], ap, sym, subst, ◌∙◌}
 use Rattle.std.specs.declared.alloc.Global.{Global}
 use Rattle.atomic_table.specs.Table.{opening}

@@ -1,5 +1,4 @@
--- Proves goals of `Shared::note` (src/notes.rt) that the check does not prove by itself. Used by: the proof of that function
--- alone. It may change freely as long as this crate checks.
+-- Goals of `Shared::note` (src/notes.rt).
 use Rattle.std.proofs.Common.{ap, map, ◌∙◌}
 use Rattle.atomic_table.specs.Table.{Me}
 use Rattle.mw_actor.specs.ActorState.{ActorState}

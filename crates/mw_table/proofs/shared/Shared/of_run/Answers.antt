@@ -1,5 +1,4 @@
--- Proves goals of `Shared::of_run` (src/after_run.rt) that the check does not prove by itself. Used by: the proof of that
--- function alone. It may change freely as long as this crate checks.
+-- Goals of `Shared::of_run` (src/after_run.rt).
 use Rattle.std.proofs.Common.{◌<◌, ◌∙◌, ℕ, List, Vec, [], Some, length, map, sym, ap, subst}
 use Rattle.std.proofs.lemmas.List.{length-map}
 use Rattle.std.specs.declared.alloc.Global.{Global}

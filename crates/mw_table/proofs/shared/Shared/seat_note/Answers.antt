@@ -1,5 +1,4 @@
--- Proves goals of `Shared::seat_note` (src/meet.rt) that the check does not prove by itself. Used by: the proof of that function
--- alone. It may change freely as long as this crate checks.
+-- Goals of `Shared::seat_note` (src/meet.rt).
 use Rattle.mw_rule.proofs.SplitLaws.{notes_keep}
 use Rattle.mw_table.proofs.Meetings.{some_word}
 use Rattle.mw_table.proofs.shared.Shared.seat_note.Goals as goal

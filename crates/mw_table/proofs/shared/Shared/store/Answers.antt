@@ -1,5 +1,4 @@
--- Proves goals of `Shared::store` (src/steps.rt) that the check does not prove by itself. Used by: the proof of that function
--- alone. It may change freely as long as this crate checks.
+-- Goals of `Shared::store` (src/steps.rt).
 use Rattle.std.proofs.Common.{ℕ, ap, sym, ◌∙◌}
 use Rattle.mw_look.specs.declared.steps.Op.TheVariants.{Change as ChangeBits}
 use Rattle.mw_look.specs.declared.observations.Got.TheVariants.{Won as GotWon}

@@ -1,5 +1,4 @@
--- Proves goals of `Shared::take` (src/file_calls.rt) that the check does not prove by itself. Used by: the proof of that
--- function alone. It may change freely as long as this crate checks.
+-- Goals of `Shared::take` (src/file_calls.rt).
 use Rattle.std.proofs.Common.{ap, map, subst, sym, ◌∙◌}
 use Rattle.atomic_table.specs.Table.{Me}
 use Rattle.mw_actor.specs.ActorState.{ActorState}

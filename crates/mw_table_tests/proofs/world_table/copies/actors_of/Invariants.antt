@@ -1,5 +1,4 @@
--- States what stays true from turn to turn in the loops of `actors_of` (src/copies.rt). Used by: the proof of that function
--- alone. It may change freely as long as this crate checks.
+-- Loop invariants of `actors_of` (src/world_table/copies.rt).
 use Rattle.std.proofs.Common.{◌≡◌, map, take}
 use Rattle.mw_table_tests.specs.Worlds.{actor_of}
 use Rattle.mw_table_tests.proofs.world_table.copies.actors_of.Given as goal

@@ -1,5 +1,4 @@
--- States what stays true from turn to turn in the loops of `tenants_of` (src/copies.rt). Used by: the proof of that function
--- alone. It may change freely as long as this crate checks.
+-- Loop invariants of `tenants_of` (src/world_table/copies.rt).
 use Rattle.std.proofs.Common.{◌≡◌, map, take}
 use Rattle.mw_table.specs.Runs.{last_start}
 use Rattle.mw_table_tests.specs.Worlds.{last_start_of}

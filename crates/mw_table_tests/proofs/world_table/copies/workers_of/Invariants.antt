@@ -1,5 +1,4 @@
--- States what stays true from turn to turn in the loops of `workers_of` (src/copies.rt). Used by: the proof of that function
--- alone. It may change freely as long as this crate checks.
+-- Loop invariants of `workers_of` (src/world_table/copies.rt).
 use Rattle.std.proofs.Common.{◌≡◌, map, take}
 use Rattle.mw_simulator.specs.FromMemory.{worker_state_of}
 use Rattle.mw_table.specs.Runs.{worker_state_so_far}

@@ -1,5 +1,4 @@
--- Proves goals of `of_world` (src/from_world.rt) that the check does not prove by itself. Used by: the proof of that function
--- alone. It may change freely as long as this crate checks.
+-- Goals of `of_world` (src/world_table/from_world.rt).
 use Rattle.std.proofs.Common.{ℕ, List, ap, map, subst, sym, ◌∙◌}
 use Rattle.mw_world.specs.declared.config.Config.{Config}
 use Rattle.mw_world.specs.Definition.State.{WorkerState}

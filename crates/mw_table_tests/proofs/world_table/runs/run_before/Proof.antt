@@ -1,5 +1,4 @@
--- A run has no bytes at run time. Contracts see that this one led to the world.
--- The proof of run_before (src/runs.rt). It may change freely as long as this crate checks.
+-- A run has no bytes at run time. Contracts see that this one led to the world. The proof of run_before (src/runs.rt).
 use Rattle.std.proofs.Common.{[], ◌∷◌, refl}
 use Rattle.std.proofs.raw_atomic.Walks.{proved}
 use mir.Syntax.{named}

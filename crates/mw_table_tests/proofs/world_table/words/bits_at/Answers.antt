@@ -1,5 +1,4 @@
--- Proves goals of `bits_at` (src/words.rt) that the check does not prove by itself. Used by: the proof of that function alone.
--- It may change freely as long as this crate checks.
+-- Goals of `bits_at` (src/world_table/words.rt).
 use Rattle.std.proofs.Common.{ap, sym, ◌∙◌}
 use Rattle.mw_world.specs.declared.config.Config.{Config}
 use Rattle.mw_world.specs.Definition.Extent.{has_place}

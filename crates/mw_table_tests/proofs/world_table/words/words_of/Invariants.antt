@@ -1,5 +1,4 @@
--- States what stays true from turn to turn in the loops of `words_of` (src/words.rt). Used by: the proof of that function
--- alone. It may change freely as long as this crate checks.
+-- Loop invariants of `words_of` (src/world_table/words.rt).
 use Rattle.std.proofs.Common.{◌≡◌, ◌<◌, ℕ, length, slice_index}
 use Rattle.mw_world.specs.Definition.State.{State}
 use Rattle.mw_simulator.specs.Representation.{Represents}

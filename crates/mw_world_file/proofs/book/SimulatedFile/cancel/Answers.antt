@@ -1,5 +1,4 @@
--- Proves goals of `SimulatedFile::cancel` (src/calls.rt) that the check does not prove by itself. Used by: the proof of that
--- function alone. It may change freely as long as this crate checks.
+-- Goals of `SimulatedFile::cancel` (src/calls.rt).
 use Rattle.std.proofs.Common.{◌∙◌, ◌≡◌, true, sym, ap, refl, arith, get_or}
 use Rattle.mw_disk.proofs.RunLaws.{good_none, later_refl}
 use Rattle.mw_disk.specs.Memory.{memory_facts}

@@ -1,5 +1,4 @@
--- Proves goals of `SimulatedFile::new` (src/new_books.rt) that the check does not prove by itself. Used by: the proof of that
--- function alone. It may change freely as long as this crate checks.
+-- Goals of `SimulatedFile::new` (src/new_books.rt).
 use Rattle.std.proofs.Common.{◌∙◌, ℕ, List, length, replicate, None, sym, ap, subst, arith}
 use Rattle.std.proofs.lemmas.List.{length-replicate}
 use Rattle.mw_file.specs.RecoveryInvariant.{IsFile}

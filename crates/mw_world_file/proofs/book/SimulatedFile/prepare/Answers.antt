@@ -1,5 +1,4 @@
--- Proves goals of `SimulatedFile::prepare` (src/calls.rt) that the check does not prove by itself. Used by: the proof of that
--- function alone. It may change freely as long as this crate checks.
+-- Goals of `SimulatedFile::prepare` (src/calls.rt).
 use Rattle.std.proofs.Common.{Ok, get_or, ◌∙◌, ◌≤◌, true, false, length, sym, ap, refl, arith, rules}
 use Rattle.mw_words.specs.declared.limits.TheConstants.{MAX_POOL}
 use Rattle.mw_look.specs.declared.steps.Call.TheVariants.{Prepare}

@@ -1,5 +1,4 @@
--- Proves goals of `SimulatedFile::restart` (src/restarts.rt) that the check does not prove by itself. Used by: the proof of
--- that function alone. It may change freely as long as this crate checks.
+-- Goals of `SimulatedFile::restart` (src/restarts.rt).
 use Rattle.std.proofs.Common.{◌∙◌, ap}
 use Rattle.mw_world_file.specs.Restarts.{takes}
 use Rattle.mw_world_file.proofs.RestartedFiles.{restarted, not_restarted}

@@ -1,5 +1,4 @@
--- Proves goals of `SimulatedFile::seal` (src/calls.rt) that the check does not prove by itself. Used by: the proof of that
--- function alone. It may change freely as long as this crate checks.
+-- Goals of `SimulatedFile::seal` (src/calls.rt).
 use Rattle.std.proofs.Common.{◌∙◌, ◌≡◌, true, false, refl, sym, ap, arith, get_or, is_err, is_ok}
 use Rattle.mw_words.specs.Change.{put}
 use Rattle.mw_world_file.specs.declared.places.Place.TheVariants.{Prepared as KeptPrepared}

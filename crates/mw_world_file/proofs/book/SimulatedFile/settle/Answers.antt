@@ -1,5 +1,4 @@
--- Proves goals of `SimulatedFile::settle` (src/calls.rt) that the check does not prove by itself. Used by: the proof of that
--- function alone. It may change freely as long as this crate checks.
+-- Goals of `SimulatedFile::settle` (src/calls.rt).
 use Rattle.std.proofs.Common.{◌+◌, ◌∙◌, ◌≡◌, true, false, sym, ap, refl, arith, get_or, is_err}
 use Rattle.mw_disk.specs.Memory.{memory_facts}
 use Rattle.mw_file.proofs.Ended.{ended_well, went_well}

@@ -1,5 +1,4 @@
--- Proves goals of `SimulatedFile::stop` (src/stops.rt) that the check does not prove by itself. Used by: the proof of that
--- function alone. It may change freely as long as this crate checks.
+-- Goals of `SimulatedFile::stop` (src/stops.rt).
 use Rattle.std.proofs.Common.{Option, sym, subst}
 use Rattle.mw_world_file.specs.declared.cut.Cut.{Cut}
 use Rattle.mw_world_file.specs.StoppedFiles.{IsStopped}

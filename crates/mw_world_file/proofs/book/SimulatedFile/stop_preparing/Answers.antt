@@ -1,5 +1,4 @@
--- Proves goals of `SimulatedFile::stop_preparing` (src/stops.rt) that the check does not prove by itself. Used by: the proof of
--- that function alone. It may change freely as long as this crate checks.
+-- Goals of `SimulatedFile::stop_preparing` (src/stops.rt).
 use Rattle.std.proofs.Common.{get_or, ◌∙◌, true, false, sym, ap, refl, arith}
 use Rattle.arrayvec.specs.ArrayVec.{ArrayVec}
 use Rattle.mw_words.specs.declared.jobs.Entry.{Entry}

@@ -1,5 +1,4 @@
--- Proves goals of `SimulatedFile::stop_sealing` (src/stops.rt) that the check does not prove by itself. Used by: the proof of
--- that function alone. It may change freely as long as this crate checks.
+-- Goals of `SimulatedFile::stop_sealing` (src/stops.rt).
 use Rattle.mw_world_file.specs.Books.{quota_of, places_of_file}
 use Rattle.mw_world_file.specs.Calls.{place_for}
 use Rattle.mw_world_file.proofs.StoppedFiles.{Finds}

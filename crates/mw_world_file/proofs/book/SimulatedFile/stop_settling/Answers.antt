@@ -1,5 +1,4 @@
--- Proves goals of `SimulatedFile::stop_settling` (src/stops.rt) that the check does not prove by itself. Used by: the proof of
--- that function alone. It may change freely as long as this crate checks.
+-- Goals of `SimulatedFile::stop_settling` (src/stops.rt).
 use Rattle.std.proofs.Common.{◌∙◌, ap, sym, refl, arith, rules, get_or}
 use Rattle.arrayvec.specs.ArrayVec.{ArrayVec}
 use Rattle.mw_words.specs.declared.jobs.Entry.{Entry}

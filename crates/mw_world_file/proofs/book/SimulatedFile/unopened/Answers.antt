@@ -1,5 +1,4 @@
--- Proves goals of `SimulatedFile::unopened` (src/unopened.rt) that the check does not prove by itself. Used by: the proof of
--- that function alone. It may change freely as long as this crate checks.
+-- Goals of `SimulatedFile::unopened` (src/unopened.rt).
 use Rattle.std.proofs.Common.{◌≡◌, ◌∙◌, ◌*◌, ℕ, List, length, replicate, sym, ap, subst, arith}
 use Rattle.std.proofs.lemmas.List.{length-replicate}
 use Rattle.mw_words.specs.declared.jobs.Entry.{Entry}

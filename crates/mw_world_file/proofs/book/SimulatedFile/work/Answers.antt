@@ -1,5 +1,4 @@
--- Proves goals of `SimulatedFile::work` (src/calls.rt) that the check does not prove by itself. Used by: the proof of that
--- function alone. It may change freely as long as this crate checks.
+-- Goals of `SimulatedFile::work` (src/calls.rt).
 use Rattle.mw_look.specs.declared.steps.Call.TheVariants.{Seal, Settle, Cancel}
 use Rattle.mw_world_file.proofs.WorkedFiles.{works_as}
 use Rattle.mw_world_file.proofs.ExactDisks.{exactly_as}

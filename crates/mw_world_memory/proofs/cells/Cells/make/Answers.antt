@@ -1,5 +1,4 @@
--- Proves goals of `Cells::make` (src/cells/steps.rt) that the check does not prove by itself. Used by: the proof of that
--- function alone. It may change freely as long as this crate checks.
+-- Goals of `Cells::make` (src/cells/steps.rt).
 use Rattle.mw_world_memory.proofs.MadeSteps.{made_is}
 use Rattle.mw_world_memory.proofs.cells.Cells.make.Goals as goal
 

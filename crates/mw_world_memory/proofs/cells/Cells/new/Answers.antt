@@ -1,5 +1,4 @@
--- Proves goals of `Cells::new` (src/cells/start.rt) that the check does not prove by itself. Used by: the proof of that
--- function alone. It may change freely as long as this crate checks.
+-- Goals of `Cells::new` (src/cells/start.rt).
 use Rattle.std.proofs.Common.{◌∙◌, ◌*◌, ap, length, map, replicate, subst}
 use Rattle.mw_words.specs.declared.limits.TheConstants.{MAX_ENTRIES}
 use Rattle.mw_world_memory.specs.Bits.{Bits}

@@ -1,5 +1,4 @@
--- Proves goals of `Cells::put` (src/cells.rt) that the check does not prove by itself. Used by: the proof of that function
--- alone. It may change freely as long as this crate checks.
+-- Goals of `Cells::put` (src/cells.rt).
 use Rattle.mw_world_memory.proofs.BitsMatchLaws.{put_is}
 use Rattle.mw_world_memory.proofs.cells.Cells.put.Goals as goal
 

@@ -1,5 +1,4 @@
--- Proves goals of `Cells::status` (src/cells.rt) that the check does not prove by itself. Used by: the proof of that function
--- alone. It may change freely as long as this crate checks.
+-- Goals of `Cells::status` (src/cells.rt).
 use Rattle.std.proofs.Common.{ap, ◌∙◌}
 use Rattle.std.specs.Option.{option_and_then}
 use Rattle.mw_words.specs.Patterns.{unpacked_status}

@@ -1,5 +1,4 @@
--- States what stays true from turn to turn in the loops of `words_at_start` (src/cells/start.rt). Used by: the proof of that
--- function alone. It may change freely as long as this crate checks.
+-- Loop invariants of `words_at_start` (src/cells/start.rt).
 use Rattle.std.proofs.Common.{map}
 use Rattle.mw_world_memory.specs.Openings.{AreFirstWords}
 use Rattle.mw_world_memory.proofs.cells.start.words_at_start.Given as goal

@@ -1,5 +1,4 @@
--- Proves goals of `ClaimLog::latest` (src/claims.rt) that the check does not prove by itself. Used by: the proof of that
--- function alone. It may change freely as long as this crate checks.
+-- Goals of `ClaimLog::latest` (src/claims.rt).
 use Rattle.std.proofs.Common.{◌∙◌, rules}
 use Rattle.std.proofs.lemmas.Iterator.Adapters.{YieldsList-from_rev_slice}
 use Rattle.std.proofs.lemmas.Iterator.Search.{find_from_yields_List}

@@ -1,0 +1,188 @@
+"""Checks what the heads of the crates' files say: the comments at the top of each .rt and .antt file.
+
+Used by: scripts/check-names. faults() tells what is wrong:
+
+- The heads have at most MOST_WORDS words, the marks of comments counted.
+- No head says that its file 'may change freely': CONTRIBUTING says what may.
+- Each name of a list 'Used by: a, b, mw_c.' is a file, a function, a type or a crate, and uses the file. A page of specs/ or
+  proofs/ is used by what imports it; a function, if the page is imported at all, by a file in the function's folder of
+  proofs/; a module of src/, by a file that has its name or one that it defines. A crate is used by those above it in
+  crates.txt alone. What follows a name is not read.
+- A list of a page names each other crate that imports the page, or says 'many crates from mw_a on': more than MOST_CRATES,
+  of which mw_a is the lowest. It need not name pages beside it, nor all functions.
+- `f` (src/a.rt) in the head of a proof is a function of that file, and 'the law `f`' one of the crate.
+- A name that a document cites, as in 'docs/PROMISES cites `f`', is in backquotes in that document.
+"""
+import re
+from collections import defaultdict
+
+MOST_WORDS = 70000
+MOST_CRATES = 5
+IMPORT = re.compile(r"\bRattle\.(\w+)\.(specs|proofs)\.([\w.]+)")
+WORD = re.compile(r"\w+")
+SPAN = re.compile(r"`([^`\n]+)`")
+DEFINED = re.compile(r"^\s*(?:pub(?:\([a-z]+\))? )?(?:const )?(?:unsafe )?(?:fn|struct|trait|enum|type|const) (\w+)", re.M)
+SENTENCE = re.compile(r"(?:(?<=[.])|(?<=[.][)]))\s+(?=[A-Z`\[(]|mw_|docs/|specs/|src/)")
+LIST = re.compile(r"Used by:? (.*?)[.:]?")
+BETWEEN = re.compile(r"(?:, and |; |, | and )(?![^()]*\))")
+NAMED = re.compile(r"(?:and |by )*(?:`([^`]+)`.*|([\w:./-]+)(?: \(.*\))?)")
+MANY = re.compile(r"many crates from (\w+) on")
+PLACED = re.compile(r"`([^`]+)` \((src/[\w/]+\.rt)\)")
+LAW = re.compile(r"Proves the law `(\w+)`")
+CITED = re.compile(r"((?:(?:README|(?:docs/)?[A-Z][A-Z-]+)(?:\.md)?(?:, | and )?)+) cites? ((?:`[\w:]+`(?:, | and | or )?)+)")
+
+
+def head_of(path, text):
+    """The lines of a file's head."""
+    mark = "//!" if path.endswith(".rt") else "--"
+    lines = []
+    for line in text.split("\n"):
+        if not line.startswith(mark):
+            break
+        lines.append(line[len(mark):].strip())
+    return lines
+
+
+def crate_of(path):
+    return path.split("/")[1]
+
+
+class Heads:
+    """The .rt and .antt files by path, their heads, and who uses what."""
+
+    def __init__(self, texts, documents, order):
+        self.texts, self.documents, self.order = texts, documents, order
+        self.heads = {path: head_of(path, text) for path, text in texts.items()}
+        self.words = {path: set(WORD.findall(text)) for path, text in texts.items() if path.endswith(".rt")}
+        self.defined = {path: set(DEFINED.findall(texts[path])) for path in self.words}
+        self.importers, self.imported, self.crates = defaultdict(set), defaultdict(set), defaultdict(list)
+        for path, text in texts.items():
+            self.crates[crate_of(path)].append(path)
+            found = set(IMPORT.findall(text))
+            self.imported[crate_of(path)].update(crate for crate, _, _ in found)
+            for page in {self.page(*names) for names in found} - {None, path}:
+                self.importers[page].add(path)
+        self.missing = []
+
+    def page(self, crate, kind, rest):
+        """The page that Rattle.CRATE.KIND.REST imports from: its longest beginning that is a file."""
+        parts = rest.strip(".").split(".")
+        for count in range(len(parts), 0, -1):
+            page = f"crates/{crate}/{kind}/{'/'.join(parts[:count])}.antt"
+            if page in self.texts:
+                return page
+        return None
+
+    def files(self, crate, name):
+        """The files of a crate whose paths end so."""
+        return [path for path in self.crates[crate] if path.endswith("/" + name)]
+
+    def definers(self, crate, name):
+        """The files of a crate that define a function or a type."""
+        return [path for path in self.crates[crate] if name in self.defined.get(path, ())]
+
+    def tell(self, path, text):
+        self.missing.append(f"{path}: {text}")
+
+    def not_used(self, path, name):
+        self.tell(path, f"is not used by {name}, which its head names")
+
+    def users_of_page(self, path, items):
+        """A list of users in a page of specs/ or proofs/."""
+        above = {crate_of(user) for user in self.importers[path]} - {crate_of(path)}
+        names = [name.group(1) or name.group(2) for name in map(NAMED.fullmatch, items) if name]
+        lowest = next((many.group(1) for many in map(MANY.fullmatch, items) if many), None)
+        if lowest:
+            if len(above) <= MOST_CRATES or min(above, key=self.order.index) != lowest:
+                self.tell(path, f"is used by {len(above)} crates, not by many from {lowest} on")
+        elif "among others" not in items:
+            for other in sorted(above.difference(names)):
+                self.tell(path, f"is used by {other}, which its head does not name")
+        for name in names:
+            self.user_of_page(path, name)
+
+    def user_of_page(self, path, name):
+        """One user of a page: a crate, a file, a function or a type."""
+        crate, importers, last = crate_of(path), self.importers[path], name.split("::")[-1]
+        if name in self.order:
+            if not any(crate_of(user) == name for user in importers):
+                self.not_used(path, name)
+            return
+        is_proof = path.split("/")[2] == "proofs"
+        files = self.files(crate, name if name.endswith(".rt") else f"{name}.antt")
+        if files:
+            if not importers.intersection(files) and not (is_proof and name.endswith(".rt")):
+                self.not_used(path, name)
+        elif not self.definers(crate, last):
+            self.tell(path, f"`{name}` is no file, function, type or crate")
+        elif is_proof and importers and last[0].islower() and not any(f"/{last}/" in user for user in importers):
+            self.not_used(path, f"the proof of {name}")
+
+    def users_of_module(self, path, items):
+        """A list of users in a file of src/, where a name has backquotes or is a crate."""
+        crate, module = crate_of(path), path.split("/")[-1].removesuffix(".rt")
+        mine = set() if module in ("lib", "main") else self.defined[path] | {module}
+        for name in map(NAMED.fullmatch, items):
+            if name and name.group(2) in self.order:
+                user = name.group(2)
+                words = [self.words[file] for file in self.crates[user] if file in self.words]
+                uses = crate in self.imported[user] or any(crate in some or not mine.isdisjoint(some) for some in words)
+                if not uses or self.order.index(user) <= self.order.index(crate):
+                    self.not_used(path, user)
+            elif name and name.group(1):
+                user = name.group(1)
+                files = self.files(crate, user if user.endswith(".rt") else f"{user}.rt") or self.definers(crate, user)
+                if not files:
+                    self.tell(path, f"`{user}` is no module or function of {crate}")
+                elif mine and all(mine.isdisjoint(self.words[file]) for file in files):
+                    self.not_used(path, f"`{user}`")
+
+    def sentence(self, path, sentence):
+        users = LIST.fullmatch(sentence)
+        if users:
+            items = BETWEEN.split(users.group(1))
+            (self.users_of_page if path.endswith(".antt") else self.users_of_module)(path, items)
+        for documents, names in CITED.findall(sentence):
+            for document in re.findall(r"[A-Z][A-Z-]+", documents):
+                words = self.documents.get(document, set())
+                cited = [name.split("::")[-1] for name in re.findall(r"`([\w:]+)`", names)]
+                if len(words.intersection(cited)) < (1 if " or " in names else len(cited)):
+                    self.tell(path, f"{document} does not cite all of {names}")
+
+    def functions(self, path, text):
+        """The functions whose goals, invariants or law the head of a proof names."""
+        for name, file in PLACED.findall(text):
+            function, file = WORD.findall(name.split(" of ")[0])[-1], f"crates/{crate_of(path)}/{file}"
+            if function not in self.words.get(file, ()):
+                self.tell(path, f"`{name}` is not in {file}")
+        for law in LAW.findall(text):
+            if not self.definers(crate_of(path), law):
+                self.tell(path, f"`{law}` is no law of {crate_of(path)}")
+
+    def head(self, path):
+        text = " ".join(self.heads[path])
+        if "change freely" in text:
+            self.tell(path, "its head says 'change freely'")
+        for sentence in SENTENCE.split(text):
+            self.sentence(path, sentence)
+        if path.endswith(".antt") and "Used by" not in text:
+            self.users_of_page(path, [])
+        if "/proofs/" in path:
+            self.functions(path, text)
+
+    def all(self):
+        for path in self.heads:
+            self.head(path)
+        count = sum(len(line.split()) + 1 for head in self.heads.values() for line in head)
+        if count > MOST_WORDS:
+            self.missing.append(f"the heads of the crates' files have {count} words, and may have {MOST_WORDS}")
+        return self.missing
+
+
+def faults(files, read):
+    """What is wrong with the heads of these files, which read() gives."""
+    texts = {path: read(path) for path in files if path.startswith("crates/") and path.endswith((".rt", ".antt"))}
+    documents = {path.split("/")[-1].removesuffix(".md"): set(WORD.findall(" ".join(SPAN.findall(read(path)))))
+                 for path in files if re.fullmatch(r"(docs/)?[A-Z-]+\.md", path)}
+    lines = (line.split("#")[0].split() for line in read("crates.txt").split("\n"))
+    return Heads(texts, documents, [words[0].rstrip(":") for words in lines if words]).all()
