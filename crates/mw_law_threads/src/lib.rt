@@ -31,6 +31,7 @@
 //! - [`answers_are_in_one_run`]: each reply is in the one run behind all passes, and a refused request makes no change.
 //! - [`replies_are_to_own_requests`]: two replies are to two requests, if two workers served them, or if the later one's pass knew the
 //!   other reply when its request came.
+//! - [`sessions_have_own_requests`]: no two borrowers are told the reply to one request, while some thread knows what both notes tell.
 //! - [`replies_have_moments_in_order`]: each reply but WORN was true at a moment of its own call, and each call comes in the run
 //!   after the reply before it.
 //! - [`sessions_keep_changes`]: whichever passes it borrows later, the change of a YES stays in the tenant's file.
@@ -44,8 +45,6 @@
 //! - That a call's device calls are over when its event comes. The body of `Core::file` of mw_core makes them before.
 //! - The change that a call seals fits the words before it. This is said of the change in doubt between calls (`Whole`), and
 //!   of each sealed change.
-//! - That two sessions are not told the reply to one request, if one pass served both at once. A lock lends its pass to one session
-//!   at a time: the library's type says it, and no contract.
 //!
 //! Nothing uses it: its laws are theorems about mw_rule, mw_engine and mw_service.
 //!
@@ -71,6 +70,7 @@ pub use next_run_laws::{
     servers_in_turn_are_of_one_store, stores_go_on,
 };
 pub use session_laws::{
-    replies_are_to_own_requests, replies_have_moments_in_order, sessions_keep_changes,
+    replies_are_to_own_requests, replies_have_moments_in_order, sessions_have_own_requests,
+    sessions_keep_changes,
 };
 pub use whole_laws::{changes_are_whole, refused_requests_make_no_change};

@@ -1,8 +1,7 @@
-//! States of sessions that two replies are to two requests; when the replies of a session that borrows its passes were true; and which
-//! files a crash may leave then. The functions do nothing; their contracts are the facts.
-//!
-//! No code calls them. A change of a contract here changes a theorem.
-ghost use Rattle.mw_law_threads.specs.Sessions.OwnRequests.{BorrowersHaveOwnRequests, RepliesAreToOwnRequests};
+//! States of sessions that two replies are to two requests; when the replies of a session that borrows its passes
+//! were true; and which files a crash may leave then. The functions are empty: their contracts are the facts, and a
+//! change of one changes a theorem.
+ghost use Rattle.mw_law_threads.specs.Sessions.OwnRequests.{BorrowersHaveOwnRequests, RepliesAreToOwnRequests, SessionsAreInOneRun, SessionsHaveOwnRequests};
 ghost use Rattle.mw_law_threads.specs.Sessions.SessionChanges.{SessionsKeepChanges, SessionsLeaveWhollyOrNot};
 ghost use Rattle.mw_law_threads.specs.Sessions.SessionMoments.{SessionRepliesHaveMomentsInOneRun, SessionsKeepTheOrderOfTime, SessionsKeepTheOrderOfTimeAmongThem};
 
@@ -18,11 +17,25 @@ use mw_rule::Begins;
 /// - `borrowed`: the same of two sessions that borrow their passes. A pass knew the other reply if it was lent after it was given back
 ///   with that one.
 ///
-/// A session is told that some lending of some pass gave its reply, and not which. So no contract says that it is told the reply of its
-/// own lending, nor that a lock lends what was given back.
+/// Of two borrowers more is so, whichever workers served them and whatever their passes knew: [`sessions_have_own_requests`].
 pub fn replies_are_to_own_requests<B: Begins>()
     ensures own { (key : B) → RepliesAreToOwnRequests (B.config key) (B.begun key) }
     ensures borrowed { (key : B) → BorrowersHaveOwnRequests (B.config key) (B.begun key) }
+{}
+
+/// No two borrowers are told the reply to one request, whichever passes they borrow, and whenever. A borrower serves one session at a
+/// time. Each reply that it gives comes with the token of its request (`AnswersOwn` of mw_service), and no two borrowers have one token.
+///
+/// - `own`: two replies of one tenant that two borrowers gave are to two requests, and two YES have two changes.
+/// - `right`: each reply to a session is right in the one run behind all passes, and was true at a moment of its call: for BUSY and FAULT
+///   the tenant's door had the cause then. If it is VAL, NO or BUSY, no change of its request is sealed, nor is the change in doubt its
+///   own. The premise is that the table of shared words was made at a start, as an engine's is.
+///
+/// The premise of both is that, at one moment, some thread knows what each pass knew with its reply: the borrower itself does so by its
+/// note.
+pub fn sessions_have_own_requests<B: Begins>()
+    ensures own { (key : B) → SessionsHaveOwnRequests (B.config key) (B.begun key) }
+    ensures right { (key : B) → SessionsAreInOneRun (B.config key) (B.begun key) }
 {}
 
 /// Whichever passes a session borrows, each reply that it is told, but WORN, was true at a moment of its own call. BUSY and

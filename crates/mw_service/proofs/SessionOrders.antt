@@ -1,5 +1,4 @@
--- The replies of a session that borrows its passes are right in one history, in order.
--- Used by: the law of src/laws.rt, mw_law_threads. Its statements may change with mw_law_threads; its proofs may change freely.
+-- The replies of a session that borrows its passes are right in one history, in order. Used by: src/laws.rt, mw_law_threads.
 use Rattle.std.specs.Prelude.{ℕ, ◌≡◌, ◌≤◌, ◌<◌, ◌⊎◌, List, [], ◌∷◌, ◌++◌, length, slice_get, slice_index_or, Option, Some, None}
 use Rattle.std.proofs.Common.{refl, sym, ap, subst, ◌∙◌, inl, inr, arith, length-append}
 use Rattle.std.proofs.lemmas.Option.{none-some, slice_get_cases}
@@ -50,7 +49,7 @@ module _ (before first : View) where
   learned_openings (Some said) learns = learns.keeps.keeps.same_openings
 
 -- what holds of each holds of the last one
-last_of : (P : Finished → Type 0) (all : List Finished) (one : Finished) → Each P (all ++ one ∷ []) → P one
+pub last_of : (P : Finished → Type 0) (all : List Finished) (one : Finished) → Each P (all ++ one ∷ []) → P one
 last_of P [] one each = each.0
 last_of P (first ∷ rest) one each = last_of P rest one each.1
 

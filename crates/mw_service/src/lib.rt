@@ -10,8 +10,11 @@
 //! A [`MeteredService`] is a service over another one, which times its requests and counts them. A [`PassPool`] counts its
 //! passes that are in use, and the requests that waited for one.
 //!
-//! `specs/Served` says what a worker answers, `specs/Borrowed` what a borrower answers, and `specs/SessionOrder` that its
-//! replies come in order.
+//! Each reply of a [`Borrower`] comes with the token of its request, from the source that goes with the pass. No two
+//! borrowers have one token ([`TokenTable`]), so no two are told the reply to one request. A borrower serves one session at a time.
+//!
+//! `specs/Served` says what a worker answers, `specs/Borrowed` what a borrower answers, `specs/OwnReplies` that each reply is to a
+//! request of its borrower's own, and `specs/SessionOrder` that its replies come in order.
 //!
 //! Used by: mw_programs; mw_law_threads has laws about it. `must-fail` edits some bodies.
 #![tactic(auto)]
@@ -23,7 +26,10 @@ mod locked_passes;
 mod metered;
 mod pass_pool;
 mod read_pool;
+mod request_tokens;
 mod served;
+mod token_rule;
+mod token_views;
 mod watch;
 mod worker;
 
@@ -33,5 +39,6 @@ pub use laws::replies_are_in_order;
 pub use metered::MeteredService;
 pub use pass_pool::PassPool;
 pub use read_pool::ReadPool;
+pub use request_tokens::{NewTokenTable, TokenBrand, TokenTable};
 pub use watch::FaultWatch;
 pub use worker::Worker;

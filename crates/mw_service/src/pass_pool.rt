@@ -1,14 +1,16 @@
 //! A pool of passes, from which sessions borrow one for each request.
 //!
-//! mw_programs makes it; `borrower` borrows from it. Its contracts use `specs/Borrowed`: change both together.
+//! mw_programs makes it; `borrower` borrows from it. Change it with `specs/Borrowed` and `specs/OwnReplies`.
 ghost use Rattle.std.specs.Prelude.{◌≡◌, ◌<◌, All, Some, IfOk, vec_len};
 ghost use Rattle.mw_engine.specs.Identity.{IsFor};
 ghost use Rattle.mw_engine.specs.Notes.{IsNoteOf};
 ghost use Rattle.mw_engine.specs.Passes.{IsNew};
 ghost use Rattle.mw_report.specs.Table.{AreWithinLimits};
-ghost use Rattle.mw_service.specs.Borrowed.{AreCountedWith, IsAnsweredWith, IsNoteOfEngine};
+ghost use Rattle.mw_service.specs.Borrowed.{AreCountedWith, IsNoteOfEngine};
+ghost use Rattle.mw_service.specs.OwnReplies.{IsAnsweredOwnWith};
 
 use crate::locked_passes::LockedPasses;
+use crate::request_tokens::{OwnTokens, TokenBrand, TokenTable};
 use crossbeam_channel::{Receiver, Sender};
 use mw_disk::Disk;
 use mw_engine::{Engine, EngineBrand, Hold, Note, Pass};
@@ -21,8 +23,8 @@ use std::sync::Wait;
 /// Passes of an engine, which sessions borrow. Who has a pass's ticket takes its lock without waiting; while all tickets
 /// are out, sessions wait for one. If there are counters, they count the passes that are in use and the waits.
 #[derive(Drop)]
-pub struct PassPool<'a, J: EngineBrand> {
-    passes: LockedPasses<J>,
+pub struct PassPool<'a, J: EngineBrand, K: TokenBrand> {
+    passes: LockedPasses<J, K>,
     /// The tickets of the passes that are free: their numbers.
     free: Receiver<usize>,
     /// Where tickets are returned.
@@ -30,15 +32,16 @@ pub struct PassPool<'a, J: EngineBrand> {
     counters: Option<&'a ServerCounters>,
 }
 
-impl<'a, J: EngineBrand> PassPool<'a, J> {
+impl<'a, J: EngineBrand, K: TokenBrand> PassPool<'a, J, K> {
     /// Makes a pool of these passes, which these counters count.
     ///
     /// # Errors
     ///
-    /// [`AllocError`] if memory is out. The passes are dropped.
+    /// [`AllocError`] if memory is out, or the source of a worker's tokens was given before. The passes are dropped.
     pub fn new<R: Wait>(
         rt: &R,
         alloc: Global,
+        tokens: &TokenTable<K>,
         passes: Vec<Pass>,
         counters: Option<&'a ServerCounters>,
     ) -> Result<Self, AllocError>
@@ -50,7 +53,7 @@ impl<'a, J: EngineBrand> PassPool<'a, J> {
         let Ok((returned, free)) = crossbeam_channel::bounded(alloc, count) else {
             return Err(AllocError);
         };
-        let passes = LockedPasses::new(alloc, passes)?;
+        let passes = LockedPasses::new(alloc, tokens, passes)?;
         give_tickets(rt, &returned, count)?;
         Ok(PassPool {
             passes,
@@ -60,23 +63,26 @@ impl<'a, J: EngineBrand> PassPool<'a, J> {
         })
     }
 
-    /// Serves a job of a session that has seen what the note says, with a pass of this pool. Gives the reply, and a note
-    /// of what the session has seen then. It waits until a pass is free.
+    /// Serves a job of a session that has seen what the note says, with a pass of this pool. Gives the reply, a note of
+    /// what the session has seen then, and the token of the request. It waits until a pass is free.
     pub(crate) fn serve<D: Disk + Drop, H: Hold + Drop, R: Wait>(
         &self,
         rt: &R,
         engine: &Engine<J, D, H>,
+        tokens: &TokenTable<K>,
         note: Option<Note>,
         tenant: u8,
         job: &Job,
-    ) -> (Reply, Note)
+    ) -> (Reply, Note, OwnTokens<K>)
         requires its { IsNoteOfEngine J.identity note }
         requires formed { IsFor J.identity.lines tenant job.now }
-        ensures answered { IsAnsweredWith J.identity note tenant job.now result.0 (Some result.1) }
+        ensures answered { IsAnsweredOwnWith J.identity note tenant job.now result.0 (Some result.1) result.2.seat.me.0.tokens }
         ensures its { IsNoteOf J.identity result.1 }
     {
         let ticket = self.take(rt);
-        let answered = self.passes.serve(rt, engine, ticket, note, tenant, job);
+        let answered = self
+            .passes
+            .serve(rt, engine, tokens, ticket, note, tenant, job);
         self.give_back(rt, ticket);
         answered
     }

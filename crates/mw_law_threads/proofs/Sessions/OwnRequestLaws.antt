@@ -1,7 +1,7 @@
--- Two replies are to two requests: in one run two requests of a tenant with one number are one arrival, so one worker served both, and its
--- pass had not known the reply when the request came.
--- Used by: the law replies_are_to_own_requests. It may change freely as long as this crate checks.
-use Rattle.std.specs.Prelude.{ℕ, ◌≡◌, ◌≢◌, ◌<◌, ◌++◌, ◌⊎◌, List, [], ◌∷◌, slice_get, Option, Some}
+-- Two replies are to two requests. Two requests of a tenant with one number are one arrival in one run, so one worker served
+-- both, and its pass had not known the reply when the request came.
+-- Used by: replies_are_to_own_requests.
+use Rattle.std.specs.Prelude.{ℕ, ◌+◌, ◌≡◌, ◌≢◌, ◌≤◌, ◌<◌, ◌==◌, ◌&&◌, Bool, true, false, ◌++◌, ◌⊎◌, List, [], ◌∷◌, map, slice_get, Option, Some}
 use Rattle.std.proofs.Common.{refl, sym, ap, subst, ◌∙◌, inl, inr, arith}
 use Rattle.std.proofs.lemmas.Option.{same_Some}
 use Rattle.atomic_table.specs.Table.{State as Table}
@@ -14,21 +14,30 @@ use Rattle.mw_world.specs.declared.config.Config.{Config}
 use Rattle.mw_world.specs.Definition.Events.{WorldEvent, Come}
 use Rattle.mw_world.specs.Definition.State.{TenantStart, tenants_of}
 use Rattle.mw_rule.specs.FromLaws.{IsRightAt, SealedChange, sealed_of}
-use Rattle.mw_rule.specs.KnownRuns.{KnownRun, ExtendsKnownRun, ExtendsRun, known_run_of}
+use Rattle.mw_rule.specs.KnownRuns.{KnownRun, ExtendsKnownRun, ExtendsRun, known_run_of, plain}
 use Rattle.mw_rule.specs.Prefixes.{seen_at}
-use Rattle.mw_rule.specs.Rule.{Fits, TableInvariant, words_given}
+use Rattle.mw_rule.specs.Rule.{Fits, TableInvariant, events_of_worker, weight, words_given}
 use Rattle.mw_rule.specs.RunBehind.{Arrives, arrivals, arrives}
 use Rattle.mw_rule.specs.declared.views.View.{View}
 use Rattle.mw_rule.proofs.ArrivalNumbers.{arrivals_more, asked_in_run}
 use Rattle.mw_rule.proofs.KnownRunLaws.{on_again}
 use Rattle.mw_rule.proofs.Totals.{weight_own}
+use Rattle.mw_session.specs.Talk.{Call, Finds, Asks, Counts}
+use Rattle.mw_session.specs.Transitions.{GoesThrough}
+use Rattle.mw_engine.specs.Brand.{Identity}
 use Rattle.mw_engine.specs.History.{IsAnswered}
+use Rattle.mw_service.specs.declared.token_views.RequestToken.{RequestToken}
+use Rattle.mw_service.specs.declared.token_views.TokenView.{TokenView}
+use Rattle.mw_service.specs.OwnReplies.{AnswersOwn, Kept, came_in, token_for}
+use Rattle.mw_service.specs.RequestTokens.{is_token_of, times_had, times_in, token_of}
+use Rattle.mw_service.proofs.TokenMoves.{times_both, total_two}
 use Rattle.mw_law_threads.proofs.Durable.DurableLaws.{got_on, prefix_on, tenant_of}
+use Rattle.mw_law_threads.proofs.History.AnswersInOneRunLaws.{in_one_run as one_run}
 use Rattle.mw_law_threads.proofs.History.ArrivalsInRuns.{ArrivesInRun, arrives_in_run}
 use Rattle.mw_law_threads.proofs.History.OneHistoryLaws.{fits_live}
 use Rattle.mw_law_threads.proofs.Sessions.SessionMomentLaws.{own_run}
 use Rattle.mw_law_threads.specs.History.AnswersInOneRun.{IsKnownAt}
-use Rattle.mw_law_threads.specs.Sessions.OwnRequests.{BorrowersHaveOwnRequests, RepliesAreToOwnRequests}
+use Rattle.mw_law_threads.specs.Sessions.OwnRequests.{BorrowersHaveOwnRequests, RepliesAreToOwnRequests, SessionsAreInOneRun, SessionsHaveOwnRequests, WasAnswered}
 
 -- an arrival counts for its tenant
 own_arrival : (worker tenant : ℕ) (job : Job) → arrives tenant (Come worker tenant job) ≡ 1
@@ -53,6 +62,27 @@ same_arrival one other tenant job asked (event ∷ left) right (its_event ∷ un
     let rest : left ++ Come one tenant job ∷ right ≡ until ++ Come other tenant asked ∷ since = cc in
     let its = ap (arrives tenant) it in
     same_arrival one other tenant job asked left right until since rest (omega (arith, its, same))
+
+-- They come after the same events.
+same_until : (one other tenant : ℕ) (job asked : Job) (left right until since : List WorldEvent) → left ++ Come one tenant job ∷ right ≡ until ++ Come other tenant asked ∷ since → arrivals tenant left ≡ arrivals tenant until
+    → left ≡ until
+same_until one other tenant job asked [] right [] since is same = refl
+same_until one other tenant job asked [] right (event ∷ until) since is same =
+    let it : Come one tenant job ≡ event = cc in
+    let its = ap (arrives tenant) it in
+    let own = own_arrival one tenant job in
+    absurd (omega (arith, its, own, same))
+same_until one other tenant job asked (event ∷ left) right [] since is same =
+    let it : event ≡ Come other tenant asked = cc in
+    let its = ap (arrives tenant) it in
+    let own = own_arrival other tenant asked in
+    absurd (omega (arith, its, own, same))
+same_until one other tenant job asked (event ∷ left) right (its_event ∷ until) since is same =
+    let it : event ≡ its_event = cc in
+    let rest : left ++ Come one tenant job ∷ right ≡ until ++ Come other tenant asked ∷ since = cc in
+    let its = ap (arrives tenant) it in
+    let later = same_until one other tenant job asked left right until since rest (omega (arith, its, same)) in
+    λ i. it i ∷ later i
 
 -- a run that extends a known one
 extends : (old new : Option KnownRun) (known now : KnownRun) → old ≡ Some known → new ≡ Some now → ExtendsKnownRun old new → ExtendsRun known now
@@ -116,6 +146,31 @@ module _ (config : Config) (begun : (ℕ → TenantStart) → List WorldEvent �
       (prefix_on (seen_at now.seen tenant) (seen_at known.view.seen tenant) sealed (known.knows.seen tenant low) (fits.seen tenant there))
       (subst (λ (r : Reply). IsRightAt (words_given now tenant) (seen_at now.seen tenant) one.answered.place one.token.request job r) said one.answered.right)
 
+  -- requests with one number came to one worker at one moment, before which as many others had come to it
+  same_token : (first now begins ends : View) (worker other tenant request number : ℕ) (job asked : Job) → IsKnownAt s now → IsKnownAt s ends → (one : Arrives worker tenant request job first now)
+      → (that : Arrives other tenant number asked begins ends) → request ≡ number → came_in (events_of_worker worker one.until) ≡ came_in (events_of_worker other that.until)
+  same_token first now begins ends worker other tenant request number job asked known also one that same =
+      let here = came first now worker tenant request job known one in
+      let there = came begins ends other tenant number asked also that in
+      let here_asked = asked_in_run config openings (tied.past.before ++ here.until) here.state tenant here.played in
+      let there_asked = asked_in_run config openings (tied.past.before ++ there.until) there.state tenant there.played in
+      let here_parts = arrivals_more tenant tied.past.before here.until in
+      let there_parts = arrivals_more tenant tied.past.before there.until in
+      let is = here.number in
+      let its = there.number in
+      let by = same_worker first now begins ends worker other tenant request number job asked known also one that same in
+      let until = same_until worker other tenant job asked here.until here.since there.until there.since (sym here.parted ∙ there.parted)
+      (omega (arith, here_asked, there_asked, here_parts, there_parts, is, its, same)) in
+      ap (λ (events : List WorldEvent). came_in (events_of_worker worker events)) (sym here.same_until ∙ (ap (map plain) until ∙ there.same_until)) ∙ ap (λ (k : ℕ). came_in (events_of_worker k that.until)) by
+
+  -- so requests with two tokens have two numbers
+  tokens_apart : (first now begins ends : View) (tenant : ℕ) (job asked : Job) (reply said : Reply) (one : IsAnswered first now tenant job reply) (that : IsAnswered begins ends tenant asked said) → IsKnownAt s now → IsKnownAt s ends
+      → token_for one ≢ token_for that → one.token.request ≢ that.token.request
+  tokens_apart first now begins ends tenant job asked reply said one that known also apart same =
+      let by = same_worker first now begins ends one.token.worker that.token.worker tenant one.token.request that.token.request job asked known also one.run.arrival that.run.arrival same in
+      let number = same_token first now begins ends one.token.worker that.token.worker tenant one.token.request that.token.request job asked known also one.run.arrival that.run.arrival same in
+      apart (λ i. token_of (by i) (number i))
+
   numbers : (first now begins ends : View) (tenant : ℕ) (job asked : Job) (reply said : Reply) (one : IsAnswered first now tenant job reply) (that : IsAnswered begins ends tenant asked said) → IsKnownAt s now → IsKnownAt s ends
       → (one.token.worker ≢ that.token.worker) ⊎ ExtendsKnownRun now.known_run begins.known_run → one.token.request ≢ that.token.request
   numbers first now begins ends tenant job asked reply said one that known also (inl apart) same =
@@ -144,3 +199,52 @@ borrowers config begun s tied identity old new before after tenant job asked rep
       | inr knew ↦ inr (on_again its.1.seat.me.0.known_run that.0.seat.me.0.known_run that.2.borrows.learned.seat.me.0.known_run knew
           (own_run that.0.seat.me.0 that.2.borrows.learned.seat.me.0 before that.2.borrows.learns))
     ])
+
+-- A session keeps the tokens that it has.
+keeps_tokens : (identity : Identity) (calls : List Call) (old new : Kept) → GoesThrough (AnswersOwn identity) old calls new → (worker number : ℕ) → times_in worker number old.tokens ≤ times_in worker number new.tokens
+keeps_tokens identity [] old new same worker number = let is = ap (λ (kept : Kept). times_in worker number kept.tokens) same in omega (arith, is)
+keeps_tokens identity (Finds name found ∷ later) old new goes worker number =
+    let rest = keeps_tokens identity later goes.0 new goes.2 worker number in
+    let is = ap (times_in worker number) goes.1.1 in omega (arith, rest, is)
+keeps_tokens identity (Asks tenant job reply ∷ later) old new goes worker number =
+    let rest = keeps_tokens identity later goes.0 new goes.2 worker number in
+    let is = ap (times_in worker number) goes.1.1 in
+    let both = times_both worker number old.tokens (token_for goes.1.0.2.answered ∷ []) in omega (arith, rest, is, both)
+keeps_tokens identity (Counts figures ∷ later) old new goes worker number =
+    let rest = keeps_tokens identity later goes.0 new goes.2 worker number in
+    let is = ap (times_in worker number) goes.1.1 in omega (arith, rest, is)
+
+-- a token is itself
+own_token : (token : RequestToken) → weight (is_token_of token.worker token.number token) ≡ 1
+own_token token = both (token.worker == token.worker) (token.number == token.number) (weight_own token.worker token.worker refl) (weight_own token.number token.number refl)
+  where
+    both : (a b : Bool) → weight a ≡ 1 → weight b ≡ 1 → weight (a && b) ≡ 1
+    both true b first second = second
+    both false b first second = absurd (omega (arith, first))
+
+-- a session that was answered has the token of this request
+has_its : (identity : Identity) (tokens : Table ℕ TokenView) (id tenant : ℕ) (job : Job) (reply : Reply) (one : WasAnswered identity tokens id tenant job reply)
+    → 1 ≤ times_had (token_for one.its.0.2.answered).worker (token_for one.its.0.2.answered).number one.has.view
+has_its identity tokens id tenant job reply one =
+    let token = token_for one.its.0.2.answered in
+    let kept = keeps_tokens identity one.calls one.new one.last one.goes token.worker token.number in
+    let is = ap (times_in token.worker token.number) one.its.1 in
+    let both = times_both token.worker token.number one.old.tokens (token ∷ []) in
+    let own = own_token token in
+    let has = ap (times_in token.worker token.number) one.has.has in omega (arith, kept, is, both, own, has)
+
+pub sessions : (config : Config) (begun : (ℕ → TenantStart) → List WorldEvent → Type 0) → SessionsHaveOwnRequests config begun
+sessions config begun s tied tokens own identity id other tenant job asked reply said one that apart known also =
+    let first = one.its.0.2.borrows.learned.seat.me.0 in
+    let begins = that.its.0.2.borrows.learned.seat.me.0 in
+    let distinct : token_for one.its.0.2.answered ≢ token_for that.its.0.2.answered = λ same.
+    let token = token_for one.its.0.2.answered in
+    let here = has_its identity tokens id tenant job reply one in
+    let there = subst (λ (its : RequestToken). 1 ≤ times_had its.worker its.number that.has.view) (sym same) (has_its identity tokens other tenant asked said that) in
+    let two = total_two (times_had token.worker token.number) tokens.views id other one.has.view that.has.view (λ e. apart (sym e)) one.has.at that.has.at in
+    let once = own.once token.worker token.number in absurd (omega (arith, here, there, two, once)) in
+    let numbers = tokens_apart config begun s tied first one.its.0.1.seat.me.0 begins that.its.0.1.seat.me.0 tenant job asked reply said one.its.0.2.answered that.its.0.2.answered known also distinct in
+    record { numbers = numbers; changes = changes config begun s tied first one.its.0.1.seat.me.0 begins that.its.0.1.seat.me.0 tenant job asked reply said one.its.0.2.answered that.its.0.2.answered known also numbers }
+
+pub in_one_run : (config : Config) (begun : (ℕ → TenantStart) → List WorldEvent → Type 0) → SessionsAreInOneRun config begun
+in_one_run config begun s tied identity old new tenant job reply its at_start known = one_run config begun s tied its.0.2.borrows.learned.seat.me.0 its.0.1.seat.me.0 tenant job reply its.0.2.answered at_start known

@@ -1,5 +1,4 @@
--- Proves goals of `locked` (src/locked_passes.rt) that the check does not prove by itself. Used by: the proof of that function
--- alone. It may change freely as long as this crate checks.
+-- Goals of `locked` (src/locked_passes.rt).
 use Rattle.std.proofs.Common.{◌≡◌, ◌+◌, length, sym, ◌∙◌}
 use Rattle.std.specs.Vec.Iter.{into_iter_items}
 use Rattle.mw_engine.specs.Passes.{IsNew}
@@ -12,7 +11,7 @@ invariant_of-idle g c =
     let left = into_iter_items c.loop-pass.pass-iterator in
     let rest = into_iter_items c.next.new.self in
     let new = of_next (IsNew g.J.EngineBrand.identity) left rest c.in-Some.pass c.in-Some.ensures.steps.0 c.loop-pass.invariant.new in
-    record { own = new.own; idle = new.idle; begun = of_new g.J.EngineBrand.identity c.in-Some.pass new }
+    record { own = new.own; idle = new.idle; begun = of_new g.J.EngineBrand.identity c.in-Some.pass new; counted = c.in-Some-source.ensures }
 
 pub loop-pass-preserved : goal.loop-pass-preserved
 loop-pass-preserved g c =

@@ -1,7 +1,6 @@
--- Proves goals of `Borrower::figures` (src/borrower.rt) that the check does not prove by itself. Used by: the proof of that function
--- alone. It may change freely as long as this crate checks.
+-- Goals of `Borrower::figures` (src/borrower.rt).
 use Rattle.std.specs.Prelude.{◌≡◌, Option, Some}
-use Rattle.std.proofs.Common.{subst, sym}
+use Rattle.std.proofs.Common.{rules, subst, sym}
 use Rattle.mw_report.specs.declared.figures.Figures.{Figures}
 use Rattle.mw_engine.specs.Brand.{Identity}
 use Rattle.mw_engine.specs.FromBelow.{Note}
@@ -18,7 +17,7 @@ counted_so identity note old got figures same_note is counted =
 
 pub returns-clause-answered : goal.returns-clause-answered
 returns-clause-answered g c = elim c.match-self.branch [
-  | in-Some w ↦ counted_so g.J.EngineBrand.identity c.take-note.result c.args.self.now.note w.figures.result c.match-self.figures c.take-note.ensures.value w.figures-is w.figures.ensures.counted
+  | in-Some w ↦ (counted_so g.J.EngineBrand.identity c.take-note.result c.args.self.now.note w.figures.result c.match-self.figures c.take-note.ensures.value w.figures-is w.figures.ensures.counted, search rules)
   | in-None w ↦
-      counted_so g.J.EngineBrand.identity c.take-note.result c.args.self.now.note w.figures-in-None.result c.match-self.figures c.take-note.ensures.value w.figures-is w.figures-in-None.ensures.counted
+      (counted_so g.J.EngineBrand.identity c.take-note.result c.args.self.now.note w.figures-in-None.result c.match-self.figures c.take-note.ensures.value w.figures-is w.figures-in-None.ensures.counted, search rules)
 ]

@@ -1,11 +1,13 @@
--- Proves goals of `IdlePass::figures` (src/idle_pass.rt) that the check does not prove by itself. Used by: the proof of that
--- function alone. It may change freely as long as this crate checks.
+-- Goals of `IdlePass::figures` (src/idle_pass.rt).
 use Rattle.std.specs.Prelude.{map}
 use Rattle.std.proofs.Common.{ap, sym, subst, ◌∙◌}
 use Rattle.mw_rule.specs.Steps.{ExtendsView}
 use Rattle.mw_engine.specs.Figures.{TellAll}
 use Rattle.mw_engine.specs.FromBelow.{note}
 use Rattle.mw_engine.specs.LinesOfWorld.{places_told}
+use Rattle.mw_service.specs.OwnReplies.{came_to}
+use Rattle.mw_service.specs.RequestTokens.{source_of}
+use Rattle.mw_service.proofs.OwnTokens.{same_figures}
 use Rattle.mw_service.proofs.idle_pass.IdlePass.figures.Goals as goal
 
 -- the note changes nothing of what the pass knows
@@ -31,3 +33,11 @@ returns-clause-counted g c =
       keeps = subst (ExtendsView first) same c.figures-figures.ensures.looked.keeps;
       told = subst (TellAll identity.config.pool identity.config.pool identity.lines (map places_told identity.openings) figures.tenants.items figures.pool_free first) same c.figures-figures.ensures.tells;
     }
+
+-- loads that are no steps bring no request
+pub invariant_of-self-clause-counted : goal.invariant_of-self-clause-counted
+invariant_of-self-clause-counted g c =
+    let learned = c.learn.new.self in
+    let worker = c.note-note.ensures.stays.same_worker ∙ c.figures-figures.ensures.looked.same_worker in
+    let tokens = (λ i. (c.note-note.ensures.knows i).0.tokens) ∙ same_figures _ _ _ _ _ _ _ _ c.figures-figures.ensures.tells in
+    learned.counted ∙ (λ i. source_of (sym worker i) (came_to (sym tokens i)))
