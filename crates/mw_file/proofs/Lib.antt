@@ -7,6 +7,7 @@ pub mod Grown
 pub mod RollLoop
 pub mod Migrated
 pub mod Opened
+mod OpeningCallLaws
 pub mod NewPlaces
 pub mod Parts
 pub mod Places

@@ -1,5 +1,6 @@
 pub mod Copies
 pub mod DeviceCalls
+pub mod OpeningCalls
 pub mod Reopenings
 pub mod File
 pub mod RecoveryInvariant

@@ -1,13 +1,15 @@
 //! Adds the second layout to a file that has its first layout alone.
 //!
-//! Only `opening.rt` calls it. It may change with `specs/Migration`; the bytes that it writes are in docs/FILES.
-ghost use Rattle.std.specs.Prelude.{◌≡◌, ◌+◌, ◌*◌, ◌≤◌, ℕ, List, length, IsTrue, OnOk};
+//! Only `opening.rt` calls it. Change it with `specs/Migration`; docs/FILES has the bytes.
+ghost use Rattle.std.specs.Prelude.{◌≡◌, ◌+◌, ◌*◌, ◌≤◌, ℕ, List, length, is_ok, IsTrue, OnOk};
+ghost use Rattle.mw_disk.specs.DeviceCalls.{Makes};
 ghost use Rattle.mw_disk.specs.Facts.{IsSynced, patched};
 ghost use Rattle.mw_disk.specs.Runs.{Later, LeavesOnly};
 ghost use Rattle.mw_record.specs.declared.layout.TheConstants.{SECOND_AT, WORD_SIZE, PLACES_GROW};
 ghost use Rattle.mw_record.specs.Layout.{number_bytes};
 ghost use Rattle.mw_file.specs.RecoveryInvariant.{IsFile};
 ghost use Rattle.mw_file.specs.Migration.{migration_calls, InSwitch, Grown, given_second, IsLaid, CanMigrate, IsMigrated};
+ghost use Rattle.mw_file.specs.OpeningCalls.{lay_list, migration_list};
 ghost use Rattle.mw_file.specs.RollForward.{InRange};
 ghost use Rattle.mw_file.specs.Run.{Ran};
 
@@ -21,6 +23,7 @@ use mw_record::{COMMITTED, SECOND_AT, SWITCH_AT, home_word};
 /// crash at any moment leaves one or the other, so the words stay.
 pub(crate) fn migrate<D: Disk>(disk: &mut D, second: &[u8], at: u64) -> Result<(), DiskFault>
     ensures calls { Ran migration_calls (D.facts disk.old) (D.facts disk.new) result }
+    ensures made { Makes D.made (migration_list at second.now) (is_ok result) disk.old disk.new }
     ensures later { Later (D.facts disk.old) (D.facts disk.new) }
     ensures moments { (words places : ℕ) (contents : List ℕ) → CanMigrate (D.facts disk.old) at words places contents second.now
         → LeavesOnly (D.facts disk.old) (D.facts disk.new) (IsFile (PLACES_GROW * places) contents) }
@@ -41,6 +44,7 @@ pub(crate) fn migrate<D: Disk>(disk: &mut D, second: &[u8], at: u64) -> Result<(
 /// Writes a second layout at an offset and the offset into the file's head, and syncs.
 fn lay<D: Disk>(disk: &mut D, second: &[u8], at: u64) -> Result<(), DiskFault>
     ensures calls { Ran 3 (D.facts disk.old) (D.facts disk.new) result }
+    ensures made { Makes D.made (lay_list at second.now) (is_ok result) disk.old disk.new }
     ensures later { Later (D.facts disk.old) (D.facts disk.new) }
     ensures grown { IsTrue (D.facts disk.old).honest → Grown (InRange SECOND_AT WORD_SIZE) at (D.facts disk.old) (D.facts disk.new) }
     ensures rest { OnOk result (IsTrue (D.facts disk.old).honest → IsSynced (D.facts disk.new)) }

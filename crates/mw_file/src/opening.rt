@@ -2,18 +2,21 @@
 //! (settled), and adds the second layout (format version 2) if the file has only the first.
 //!
 //! mw_opening opens each tenant's file by it before a server serves; mw_world_file and tests open files in memory.
-//! `specs/OpeningEnds` says how it ends. A new [`OpenFault`] needs a case there, in mw_opening and in mw_world_file
-//! (`opening.rt` of each). docs/PROMISES and docs/THEOREM cite `open`.
-ghost use Rattle.std.specs.Prelude.{◌≡◌, true, false, ◌*◌, ◌≤◌, ◌<◌, ◌^◌, ◌==◌, ℕ, not, if◌then◌else◌, List, length, None, vec_len, min, take, IsTrue, IfOk, OnOk};
+//! `specs/OpeningEnds` says how it ends, and `specs/OpeningCalls` which device calls it makes. A new [`OpenFault`] needs a
+//! case in both, in mw_opening and in mw_world_file (`opening.rt` of each). docs/PROMISES and docs/THEOREM cite `open`.
+ghost use Rattle.std.specs.Prelude.{◌≡◌, true, false, ◌*◌, ◌≤◌, ◌<◌, ◌^◌, ◌==◌, ℕ, not, if◌then◌else◌, List, length, None, vec_len, min, take, is_ok, [], IsTrue, IfOk, OnOk};
 ghost use Rattle.mw_words.specs.declared.limits.TheConstants.{MAX_PLACES, MAX_WORDS};
 ghost use Rattle.mw_record.specs.declared.layout.Layout.TheVariants.{First};
 ghost use Rattle.mw_record.specs.declared.layout.TheConstants.{MAX_FILE, MAX_FIRST, MAX_SECOND, PLACES_GROW};
+ghost use Rattle.mw_disk.specs.DeviceCalls.{Makes};
 ghost use Rattle.mw_disk.specs.Runs.{Later, Touched, LeavesOnly};
 ghost use Rattle.mw_record.specs.Layout as layout;
 ghost use Rattle.mw_record.specs.Damages.{is_switched, layout_of, at_of, words_of, found_places, places_of, words_in, pairs_in, records_of};
 ghost use Rattle.mw_record.specs.Contents.{HasSecond};
 ghost use Rattle.mw_file.specs.RecoveryInvariant.{IsFile};
 ghost use Rattle.mw_file.specs.Migration.{migration_calls, InSwitch, Grown, given_second, CanGrow, IsMigrated};
+ghost use Rattle.mw_file.specs.DeviceCalls.{roll_device_calls};
+ghost use Rattle.mw_file.specs.OpeningCalls.{front_list, migration_list, ready_list, repair_list};
 ghost use Rattle.mw_file.specs.OpeningEnds as spec;
 ghost use Rattle.mw_file.specs.OpeningEnds.{repair_calls, ready_calls, CanOpen};
 ghost use Rattle.mw_file.specs.RollForward.{CanRepair, CanFinish, IsRolled, IsRecalled, Nowhere, record_of};
@@ -45,6 +48,7 @@ pub enum OpenFault {
 }
 
 impl<D: Disk> TenantFile<D> {
+    ghost use Rattle.mw_file.specs.OpeningCalls.{OpensBy};
     ghost use Rattle.mw_file.specs.OpeningEnds.{Opens};
 
     /// Opens the file on a disk. It reads the file and finishes the changes that were sealed and not settled.
@@ -66,7 +70,8 @@ impl<D: Disk> TenantFile<D> {
     /// gives and in what a crash at any moment leaves. This holds if the disk keeps the model of [`Disk`] and had
     /// nothing unsynced before.
     pub fn open(alloc: Global, disk: D) -> Result<(TenantFile<D>, Vec<u64>), (OpenFault, D)>
-        ensures { Opens D.facts disk result }
+        ensures opens { Opens D.facts disk result }
+        ensures made { OpensBy D.facts D.made disk result }
     {
         let mut disk = disk;
         let Ok(len) = disk.len() else {
@@ -150,6 +155,7 @@ fn free_states(alloc: Global) -> Result<Vec<PlaceState>, AllocError>
 pub(crate) fn read_front<D: Disk>(disk: &mut D, bytes: &mut [u8]) -> Result<(), DiskFault>
     requires within { IsTrue (D.facts disk.old).honest → length bytes.old ≤ length (D.facts disk.old).reads }
     ensures calls { Ran (min 1 (length bytes.old)) (D.facts disk.old) (D.facts disk.new) result }
+    ensures made { Makes D.made (front_list (length bytes.old)) (is_ok result) disk.old disk.new }
     ensures later { Later (D.facts disk.old) (D.facts disk.new) }
     ensures untouched { IsUntouched (D.facts disk.old) (D.facts disk.new) }
     ensures touched { IsTrue (D.facts disk.old).honest → Touched Nowhere (D.facts disk.old) (D.facts disk.new) }
@@ -211,6 +217,7 @@ fn make_ready<D: Disk>(
     requires free { IsTrue (all_free states.old) }
     requires room { length second.old ≡ MAX_SECOND }
     ensures calls { Ran (ready_calls image.now) (D.facts disk.old) (D.facts disk.new) result }
+    ensures made { Makes D.made (ready_list image.now words.now) (is_ok result) disk.old disk.new }
     ensures later { Later (D.facts disk.old) (D.facts disk.new) }
     ensures free { IsTrue (all_free states.new) }
     ensures moments { CanOpen (D.facts disk.old) image.now words.now
@@ -243,6 +250,8 @@ fn give_second<D: Disk>(
     requires count { length words.now ≡ words_of image.now }
     requires room { length second.old ≡ MAX_SECOND }
     ensures calls { Ran migration_calls (D.facts disk.old) (D.facts disk.new) result }
+    ensures made { Makes D.made (migration_list (layout.size First (words_of image.now) (found_places image.now))
+        (layout.second_part (PLACES_GROW * found_places image.now) words.now)) (is_ok result) disk.old disk.new }
     ensures later { Later (D.facts disk.old) (D.facts disk.new) }
     ensures moments { CanGrow (D.facts disk.old) image.now words.now
         → LeavesOnly (D.facts disk.old) (D.facts disk.new) (IsFile (PLACES_GROW * found_places image.now) words.now) }
@@ -274,6 +283,7 @@ fn finish<D: Disk>(
     requires each { length states.old ≡ found_places image.now }
     requires few { length states.old ≤ MAX_PLACES }
     ensures calls { Ran (repair_calls image.now) (D.facts disk.old) (D.facts disk.new) result }
+    ensures made { Makes D.made (repair_list image.now) (is_ok result) disk.old disk.new }
     ensures later { Later (D.facts disk.old) (D.facts disk.new) }
     ensures free { IsTrue (all_free states.new) }
     ensures moments { (contents : List ℕ) → CanFinish (D.facts disk.old) image.now contents
@@ -344,6 +354,7 @@ fn repair<D: Disk>(
     requires near { at ≤ MAX_FIRST }
     requires few { length states.now < 2 ^ 16 }
     ensures calls { Ran (if commit_writes states.now == 0 then 0 else roll_calls states.now) (D.facts disk.old) (D.facts disk.new) result }
+    ensures made { Makes D.made (if commit_writes states.now == 0 then [] else roll_device_calls at words 0 states.now) (is_ok result) disk.old disk.new }
     ensures later { Later (D.facts disk.old) (D.facts disk.new) }
     ensures moments { (contents : List ℕ) → CanRepair (D.facts disk.old) at words (length states.now) states.now contents
         → LeavesOnly (D.facts disk.old) (D.facts disk.new) (HasSecond at words (length states.now) contents) }

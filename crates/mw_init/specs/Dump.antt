@@ -1,6 +1,8 @@
--- Defines the text of a dump, as `mwshow --words` prints it of a file without damage, and the new file that is made of it.
--- Used by: the contracts of src/dump.rt and src/dumped_file.rt. mw_show/specs/Text defines what is printed: change both together.
-use Rattle.std.specs.Prelude.{◌≡◌, ◌<◌, ◌≤◌, ℕ, ◌+◌, ◌*◌, ◌++◌, ⊤, Bool, true, false, List, [], ◌∷◌, Some, codes, decimal, length, slice_get, slice_index}
+-- Defines the text of a dump, as `mwshow --words` prints it of a file without damage, and the new file that is made of it, or
+-- without a dump.
+-- Used by: src/dump.rt, src/dumped_file.rt, src/new_file.rt. mw_show/specs/Text defines what is printed: change both
+-- together.
+use Rattle.std.specs.Prelude.{◌≡◌, ◌<◌, ◌≤◌, ℕ, ◌+◌, ◌*◌, ◌++◌, ⊤, Bool, true, false, List, [], ◌∷◌, Option, None, Some, codes, decimal, length, slice_get, slice_index}
 use Rattle.std.specs.List.{flat_map}
 use Rattle.mw_record.specs.declared.layout.Layout.TheVariants.{First}
 use Rattle.mw_record.specs.declared.layout.TheConstants.{PLACES_GROW}
@@ -65,6 +67,12 @@ pub record IsFileOfDump (text image : List ℕ) (words places : ℕ) : Type 0 wh
   pub words_fit : length told ≤ words
   pub places_fit : places_served has_second told_places ≤ PLACES_GROW * places
   pub is_file : IsNewFile told words places image
+
+-- The bytes are the new file that a command line asks for, with so many words and places. If it names no dump, all words are 0.
+-- If it names one, the words are those of the dump that was read.
+abbrev pub IsFileOf : {Path : Type 0} → Option Path → ℕ → ℕ → List ℕ → Type 0
+IsFileOf None words places image = IsNewFile [] words places image
+IsFileOf (Some path) words places image = (text : List ℕ) × IsFileOfDump text image words places
 
 -- a whole dump with more words than these
 pub record HasMoreWords (text : List ℕ) (words : ℕ) : Type 0 where

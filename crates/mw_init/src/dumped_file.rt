@@ -1,7 +1,7 @@
-//! Makes the bytes of a new file that has the words of a dump.
+//! Makes the bytes of a new file: all its words are 0, or they are those of a dump.
 //!
 //! Used by: `new_file`. `specs/Dump` says which file it is: change both together.
-ghost use Rattle.std.specs.Prelude.{◌≡◌, ◌≤◌, ◌*◌, nat_le, true, slice_index, MatchResult};
+ghost use Rattle.std.specs.Prelude.{◌≡◌, ◌≤◌, ◌*◌, nat_le, true, slice_index, [], IfOk, MatchResult};
 ghost use Rattle.mw_words.specs.declared.limits.TheConstants.{MAX_WORDS};
 ghost use Rattle.mw_record.specs.declared.layout.TheConstants.{FIRST_PLACES, PLACES_GROW};
 ghost use Rattle.mw_init.specs.Dump as spec;
@@ -85,13 +85,28 @@ fn places_fit(dump: &Dump, places: u16) -> bool
     }
 }
 
+/// Makes the bytes of a new file whose words are all 0, in a first layout with so many words and places.
+///
+/// # Errors
+///
+/// Memory was refused. The bytes are read again before they are returned, and this is the error too if they aren't such a
+/// file.
+pub fn file_of_zeros(alloc: Global, words: u16, places: u16) -> Result<Vec<u8>, AllocError>
+    requires some_word { 1 ≤ words }
+    requires words_fit { words ≤ MAX_WORDS }
+    requires some_place { 1 ≤ places }
+    requires places_fit { places ≤ FIRST_PLACES }
+    ensures is_file { IfOk result (λ bytes. spec.IsNewFile [] words places bytes.items) }
+{
+    let bytes = file_bytes(alloc, &[], words, places)?;
+    if !is_new_file(&bytes, &[], words, places) {
+        return Err(AllocError);
+    }
+    Ok(bytes)
+}
+
 /// Makes the bytes of a new file: its head, the words that were told, and zeros.
-pub fn file_bytes(
-    alloc: Global,
-    told: &[u64],
-    words: u16,
-    places: u16,
-) -> Result<Vec<u8>, AllocError>
+fn file_bytes(alloc: Global, told: &[u64], words: u16, places: u16) -> Result<Vec<u8>, AllocError>
     requires some_word { 1 ≤ words }
     requires words_fit { words ≤ MAX_WORDS }
     requires some_place { 1 ≤ places }

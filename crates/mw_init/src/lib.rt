@@ -8,5 +8,5 @@ mod dumped_file;
 mod new_file;
 
 pub use dump::DumpFault;
-pub use dumped_file::file_of_dump;
+pub use dumped_file::{file_of_dump, file_of_zeros};
 pub use new_file::init;

@@ -1,12 +1,13 @@
 //! Implements `mwinit`: makes a tenant's file with words that are 0, or with those of a dump, and syncs it.
 //!
 //! `mwinit` calls `init`. docs/OPERATING tells its form, its notes and its statuses: change both together.
-ghost use Rattle.std.specs.Prelude.{◌≤◌, IfSome};
+ghost use Rattle.std.specs.Prelude.{◌≤◌, IfOk, IfSome};
 ghost use Rattle.mw_words.specs.declared.limits.TheConstants.{MAX_WORDS};
 ghost use Rattle.mw_record.specs.declared.layout.TheConstants.{FIRST_PLACES};
+ghost use Rattle.mw_init.specs.Dump.{IsFileOf};
 
 use crate::dump::DumpFault;
-use crate::dumped_file::{file_bytes, file_of_dump};
+use crate::dumped_file::{file_of_dump, file_of_zeros};
 use clap::error::ErrorKind;
 use clap::{Arg, ArgAction, ArgMatches, Command, value_parser};
 use mw_main::VERSION;
@@ -77,8 +78,9 @@ struct NewFile<'a> {
 /// Makes the file that the command line `args` asks for. Its first argument is the program's own name.
 ///
 /// The form is `mwinit [--from DUMP] PATH WORDS PLACES`, with 1 to [`MAX_WORDS`] words, all 0, and 1 to
-/// [`FIRST_PLACES`] record places. With a dump the first words are those of the dump, by [`file_of_dump`]. It
-/// syncs the file and its folder, and then writes `made SIZE` to `out`. The file is locked until it returns.
+/// [`FIRST_PLACES`] record places. With a dump the first words are those of the dump, by [`file_of_dump`].
+/// Before it writes the bytes, it checks that they are read as such a file. It syncs the file and its folder, and then
+/// writes `made SIZE` to `out`. The file is locked until it returns.
 ///
 /// Gives the exit status: 0 if the file was made; 1 if it couldn't be made, because it exists, a call
 /// failed, memory was refused, or the dump is refused; 2 if the command line is wrong. It writes what went
@@ -235,13 +237,15 @@ fn size_of<'a>(alloc: Global, name: &'a str, most: u16, help: &'a str) -> Arg<'a
 fn contents<R: Files<File = File> + AllocGlobal>(
     rt: &R,
     file: &NewFile<'_>,
-) -> Result<Vec<u8>, InitFault> {
+) -> Result<Vec<u8>, InitFault>
+    ensures is_file { IfOk result (λ bytes. IsFileOf file.now.dump file.now.words file.now.places bytes.items) }
+{
     match file.dump {
         Some(path) => {
             let text = read_text(rt, path)?;
             Ok(file_of_dump(rt.alloc(), &text, file.words, file.places)?)
         }
-        None => Ok(file_bytes(rt.alloc(), &[], file.words, file.places)?),
+        None => Ok(file_of_zeros(rt.alloc(), file.words, file.places)?),
     }
 }
 
@@ -264,7 +268,9 @@ fn read_text<R: Files<File = File> + AllocGlobal>(
 
 /// Makes a new file that only its owner may read and write, locks it, writes these bytes and syncs it. After a
 /// fault it removes the file that it made, but never one that existed before.
-fn write_file<R: Files<File = File>>(rt: &R, file: &NewFile<'_>, bytes: &[u8]) -> io::Result<File> {
+fn write_file<R: Files<File = File>>(rt: &R, file: &NewFile<'_>, bytes: &[u8]) -> io::Result<File>
+    requires is_file { IsFileOf file.now.dump file.now.words file.now.places bytes.now }
+{
     let mut options = OpenOptions::new();
     options.write(true).create_new(true).mode(OWN_ONLY);
     let mut made = options.open(rt, file.path)?;

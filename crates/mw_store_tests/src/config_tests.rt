@@ -1,6 +1,4 @@
 //! Tests how a tenants file and a command line are read: what is accepted, and the text of each refusal.
-//!
-//! Nothing else uses it: it may change with what it tests.
 use crate::same::{MEMORY, holds, same, same_text};
 use mw_config::*;
 use std::process::Abort;
@@ -321,27 +319,27 @@ const ACCEPTED: [(&str, &str); 7] = [
         "mwserve --tenants t --script s",
     ),
     (
-        "Args { tenants: \"t\", pool: 256, workers: 4, strict: false, verbose: false, journal: false, times: false, mode: Listen(Listening { address: \"a:1\", admin: None, http: None, http_names: [], connections: None, shared: None, wait: None, idle: None, line_time: None, faults: None, open: false, socket_mode: 384 }) }",
+        "Args { tenants: \"t\", pool: 256, workers: 4, strict: false, verbose: false, journal: false, times: false, mode: Listen(Listening { address: \"a:1\", admin: None, http: None, http_names: [], connections: None, shared: None, wait: None, idle: None, line_time: None, faults: None, end_on_failure: false, lease: None, open: false, socket_mode: 384 }) }",
         "mwserve --listen a:1 --tenants t",
     ),
     (
-        "Args { tenants: \"t\", pool: 1, workers: 64, strict: false, verbose: false, journal: false, times: false, mode: Listen(Listening { address: \"a:1\", admin: None, http: None, http_names: [], connections: Some(1000000), shared: None, wait: None, idle: Some(86400), line_time: Some(86400), faults: None, open: false, socket_mode: 511 }) }",
+        "Args { tenants: \"t\", pool: 1, workers: 64, strict: false, verbose: false, journal: false, times: false, mode: Listen(Listening { address: \"a:1\", admin: None, http: None, http_names: [], connections: Some(1000000), shared: None, wait: None, idle: Some(86400), line_time: Some(86400), faults: None, end_on_failure: false, lease: None, open: false, socket_mode: 511 }) }",
         "mwserve --tenants t --pool 1 --workers 64 --listen a:1 --connections 1000000 --idle 86400 --mode 777",
     ),
     (
-        "Args { tenants: \"t\", pool: 256, workers: 1, strict: true, verbose: true, journal: true, times: true, mode: Listen(Listening { address: \"a:1\", admin: Some(\"a:2\"), http: None, http_names: [], connections: Some(1), shared: None, wait: None, idle: Some(1), line_time: Some(1), faults: None, open: false, socket_mode: 432 }) }",
+        "Args { tenants: \"t\", pool: 256, workers: 1, strict: true, verbose: true, journal: true, times: true, mode: Listen(Listening { address: \"a:1\", admin: Some(\"a:2\"), http: None, http_names: [], connections: Some(1), shared: None, wait: None, idle: Some(1), line_time: Some(1), faults: None, end_on_failure: false, lease: None, open: false, socket_mode: 432 }) }",
         "mwserve --tenants t --pool=256 --workers=1 --listen=a:1 --connections=1 --strict --idle=1 --admin=a:2 --verbose --times --journal --mode=0660",
     ),
     (
-        "Args { tenants: \"t\", pool: 256, workers: 2, strict: false, verbose: false, journal: false, times: false, mode: Listen(Listening { address: \"a:1\", admin: None, http: Some(\"unix:h\"), http_names: [], connections: None, shared: Some(SharedWorkers { clients: 1, readers: 1 }), wait: Some(1), idle: None, line_time: Some(86400), faults: None, open: false, socket_mode: 384 }) }",
+        "Args { tenants: \"t\", pool: 256, workers: 2, strict: false, verbose: false, journal: false, times: false, mode: Listen(Listening { address: \"a:1\", admin: None, http: Some(\"unix:h\"), http_names: [], connections: None, shared: Some(SharedWorkers { clients: 1, readers: 1 }), wait: Some(1), idle: None, line_time: Some(86400), faults: None, end_on_failure: false, lease: None, open: false, socket_mode: 384 }) }",
         "mwserve --tenants t --workers 2 --listen a:1 --clients 1 --wait 1 --line-time 86400 --http unix:h",
     ),
     (
-        "Args { tenants: \"t\", pool: 256, workers: 64, strict: false, verbose: false, journal: false, times: false, mode: Listen(Listening { address: \"a:1\", admin: None, http: None, http_names: [], connections: None, shared: Some(SharedWorkers { clients: 4096, readers: 63 }), wait: Some(86400), idle: Some(9), line_time: Some(2), faults: None, open: false, socket_mode: 384 }) }",
+        "Args { tenants: \"t\", pool: 256, workers: 64, strict: false, verbose: false, journal: false, times: false, mode: Listen(Listening { address: \"a:1\", admin: None, http: None, http_names: [], connections: None, shared: Some(SharedWorkers { clients: 4096, readers: 63 }), wait: Some(86400), idle: Some(9), line_time: Some(2), faults: None, end_on_failure: false, lease: None, open: false, socket_mode: 384 }) }",
         "mwserve --tenants t --workers 64 --listen a:1 --clients 4096 --readers 63 --wait 86400 --idle 9 --line-time 2",
     ),
     (
-        "Args { tenants: \"t\", pool: 256, workers: 4, strict: false, verbose: false, journal: false, times: false, mode: Listen(Listening { address: \"a:1\", admin: None, http: Some(\"a:2\"), http_names: [\"w\", \"W-1.example\"], connections: None, shared: None, wait: None, idle: None, line_time: None, faults: Some(1000000), open: true, socket_mode: 384 }) }",
+        "Args { tenants: \"t\", pool: 256, workers: 4, strict: false, verbose: false, journal: false, times: false, mode: Listen(Listening { address: \"a:1\", admin: None, http: Some(\"a:2\"), http_names: [\"w\", \"W-1.example\"], connections: None, shared: None, wait: None, idle: None, line_time: None, faults: Some(1000000), end_on_failure: false, lease: None, open: true, socket_mode: 384 }) }",
         "mwserve --tenants t --listen a:1 --http a:2 --http-name w --open --faults 1000000 --http-name=W-1.example",
     ),
 ];

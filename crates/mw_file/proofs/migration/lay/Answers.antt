@@ -1,6 +1,7 @@
--- Proves goals of `lay` (src/migration.rt) that the check does not prove by itself. Used by: the proof of that function alone.
--- It may change freely as long as this crate checks.
-use Rattle.std.proofs.Common.{◌≤◌, length, true, false, arith, ap, ◌∙◌}
+-- Goals of `lay` (src/migration.rt).
+use Rattle.std.proofs.Common.{◌≤◌, ℕ, List, [], ◌∷◌, length, true, false, arith, ap, subst, ◌∙◌}
+use Rattle.mw_disk.specs.DeviceCalls.{Sync, WriteAt}
+use Rattle.mw_disk.proofs.MakesLaws.{makes_one, makes_step}
 use Rattle.mw_disk.specs.Facts.{patched}
 use Rattle.mw_disk.proofs.RunLaws.{good_call, bad_call, good_trans, called_later, still_honest}
 use Rattle.mw_record.specs.declared.layout.TheConstants.{SECOND_AT, WORD_SIZE}
@@ -109,3 +110,11 @@ returns-clause-written g c honest low within =
     c.in_ok-sync.ensures.same honest2 ∙ c.in_ok-write_at-2.ensures.written honest1 there
     ∙ ap (patched one.reads SECOND_AT) c.home_word.ensures.bytes
     ∙ ap (λ bs. patched bs SECOND_AT (number_bytes WORD_SIZE c.args.at)) (c.in_ok-write_at.ensures.written honest within)
+
+pub returns-clause-made : goal.returns-clause-made
+returns-clause-made g c =
+    let told = WriteAt SECOND_AT (number_bytes WORD_SIZE c.args.at) in
+    makes_step g.D.Disk.made (WriteAt c.args.at c.args.second.now) (told ∷ Sync ∷ []) true c.args.disk.now c.write_at.new.self c.sync.new.self c.in_ok-write_at.ensures.made
+    (makes_step g.D.Disk.made told (Sync ∷ []) true c.write_at.new.self c.write_at-2.new.self c.sync.new.self
+    (subst (λ (bs : List ℕ). g.D.Disk.made (WriteAt SECOND_AT bs) true c.write_at.new.self c.write_at-2.new.self) c.home_word.ensures.bytes c.in_ok-write_at-2.ensures.made)
+    (makes_one g.D.Disk.made Sync true c.write_at-2.new.self c.sync.new.self c.in_ok-sync.ensures.made))

@@ -1,6 +1,9 @@
--- Proves goals of `migrate` (src/migration.rt) that the check does not prove by itself. Used by: the proof of that function
--- alone. It may change freely as long as this crate checks.
-use Rattle.std.proofs.Common.{arith}
+-- Goals of `migrate` (src/migration.rt).
+use Rattle.std.proofs.Common.{true, false, arith}
+use Rattle.mw_disk.specs.DeviceCalls.{Makes}
+use Rattle.mw_disk.proofs.MakesLaws.{makes_after}
+use Rattle.mw_disk.proofs.Remembered.{on_err}
+use Rattle.mw_file.specs.OpeningCalls.{lay_list, migration_list, switch_list}
 use Rattle.mw_disk.proofs.RunLaws.{still_honest}
 use Rattle.mw_file.proofs.Migrated.{laying_moments, laying_read, switch_fits, switching_moments, switching_read, migrated, low_enough, reaches, laying_grown, switching_grown, all_given}
 use Rattle.mw_file.proofs.Ran.{stops, goes_on}
@@ -139,3 +142,12 @@ returns-clause-done g c words places contents can =
     let fits = switch_fits old at words places contents second can mid grown rest in
     migrated old at words places contents second can mid grown rest laid new (c.write_and_sync.ensures.touched honest fits)
     (c.in_ok-write_and_sync.ensures.rest honest) (c.in_ok-write_and_sync.ensures.written honest (omega (arith, fits.reads)))
+
+pub returns-in_err-write_and_sync-clause-made : goal.returns-in_err-write_and_sync-clause-made
+returns-in_err-write_and_sync-clause-made g c =
+    on_err (λ ok. Makes g.D.Disk.made (migration_list c.args.at c.args.second.now) ok c.args.disk.now c.write_and_sync.new.disk) _ c.from_residual-in_err-write_and_sync.ensures.0
+    (makes_after g.D.Disk.made (lay_list c.args.at c.args.second.now) switch_list false c.args.disk.now c.lay.new.disk c.write_and_sync.new.disk c.in_ok-lay.ensures.made c.in_err-write_and_sync.ensures.made)
+
+pub returns-clause-made : goal.returns-clause-made
+returns-clause-made g c =
+    makes_after g.D.Disk.made (lay_list c.args.at c.args.second.now) switch_list true c.args.disk.now c.lay.new.disk c.write_and_sync.new.disk c.in_ok-lay.ensures.made c.in_ok-write_and_sync.ensures.made

@@ -1,12 +1,15 @@
--- Proves goals of `finish` (src/opening.rt) that the check does not prove by itself. Used by: the proof of that function alone.
--- It may change freely as long as this crate checks.
-use Rattle.std.proofs.Common.{◌≤◌, ℕ, refl, subst}
+-- Goals of `finish` (src/opening.rt).
+use Rattle.std.proofs.Common.{◌≤◌, ◌==◌, ℕ, List, [], if◌then◌else◌, is_ok, refl, subst, ap, ◌∙◌}
+use Rattle.mw_disk.specs.DeviceCalls.{DeviceCall, Makes}
 use Rattle.mw_disk.specs.Runs.{Touched, LeavesOnly}
 use Rattle.mw_record.specs.Contents.{HasSecond}
+use Rattle.mw_record.specs.Damages.{at_of}
+use Rattle.mw_file.specs.DeviceCalls.{roll_device_calls}
+use Rattle.mw_file.specs.PlaceStates.{commit_writes}
 use Rattle.mw_file.specs.Run.{Ran}
 use Rattle.mw_file.proofs.RollLoop.{on_ok}
 use Rattle.mw_file.proofs.Ready.{roll_as, second_as, rolled_as}
-use Rattle.mw_file.proofs.Recalled.{repair_is, roll_recalled, finish_durable}
+use Rattle.mw_file.proofs.Recalled.{repair_is, repair_listed, roll_recalled, finish_durable}
 use Rattle.mw_file.proofs.opening.finish.Goals as goal
 
 pub returns-clause-calls : goal.returns-clause-calls
@@ -60,3 +63,13 @@ returns-clause-touched g c contents can =
     let at = c.at.ensures.value in
     let roll = roll_as f _ _ _ _ states contents at c.words.ensures.value (roll_recalled image states c.recall.ensures f contents can) in
     subst (λ (n : ℕ). Touched (λ k. n ≤ k) f f2) at (c.repair-ran.ensures.touched contents roll)
+
+pub returns-clause-made : goal.returns-clause-made
+returns-clause-made g c =
+    let image = c.args.image.now in
+    let states = c.recall.new.states in
+    let list =
+    ap (λ k. if commit_writes states == 0 then [] else roll_device_calls k c.words.result 0 states) c.at.ensures.value
+    ∙ ap (λ n. if commit_writes states == 0 then [] else roll_device_calls (at_of image) n 0 states) c.words.ensures.value
+    ∙ repair_listed image states c.recall.ensures in
+    subst (λ (calls : List DeviceCall). Makes g.D.Disk.made calls (is_ok c.repair-ran.result) c.args.disk.now c.repair-ran.new.disk) list c.repair-ran.ensures.made

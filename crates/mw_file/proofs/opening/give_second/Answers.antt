@@ -1,5 +1,4 @@
--- Proves goals of `give_second` (src/opening.rt) that the check does not prove by itself. Used by: the proof of that function
--- alone. It may change freely as long as this crate checks.
+-- Goals of `give_second` (src/opening.rt).
 use Rattle.std.proofs.Common.{◌*◌, ℕ, ap, ◌∙◌, subst}
 use Rattle.mw_record.specs.declared.layout.Layout.TheVariants.{First}
 use Rattle.mw_record.specs.declared.layout.TheConstants.{PLACES_GROW}
@@ -7,6 +6,7 @@ use Rattle.mw_record.specs.Layout.{size, second_part}
 use Rattle.mw_record.specs.Damages.{words_of, found_places}
 use Rattle.mw_file.specs.Migration.{InSwitch, Grown, given_second, IsMigrated}
 use Rattle.mw_file.proofs.RollLoop.{on_ok}
+use Rattle.mw_file.proofs.OpeningCallLaws.{migration_as}
 use Rattle.mw_file.proofs.Ready.{can_migrate}
 use Rattle.mw_file.proofs.opening.give_second.Goals as goal
 
@@ -63,3 +63,11 @@ returns-clause-grown g c grow =
     let bytes = c.write_second.ensures ∙ ap (λ n. second_part (PLACES_GROW * n) words) c.places-places.ensures.value in
     subst (λ (k : ℕ). Grown InSwitch k f f2) ends
     (c.migrate.ensures.grown (words_of image) (found_places image) words (can_migrate f image words _ _ grow ends bytes))
+
+pub returns-clause-made : goal.returns-clause-made
+returns-clause-made g c =
+    let image = c.args.image.now in
+    let words = c.args.words.now in
+    let ends = c.size.ensures ∙ ap (λ n. size First n c.places.result) c.words-2.ensures.value ∙ ap (size First (words_of image)) c.places.ensures.value in
+    let bytes = c.write_second.ensures ∙ ap (λ n. second_part (PLACES_GROW * n) words) c.places-places.ensures.value in
+    migration_as g.D.Disk.made _ _ _ _ _ c.args.disk.now c.migrate.new.disk ends bytes c.migrate.ensures.made

@@ -1,7 +1,7 @@
--- Proves goals of `make_ready` (src/opening.rt) that the check does not prove by itself. Used by: the proof of that function
--- alone. It may change freely as long as this crate checks.
-use Rattle.std.proofs.Common.{ℕ, sym, ap, ◌∙◌, subst}
+-- Goals of `make_ready` (src/opening.rt).
+use Rattle.std.proofs.Common.{ℕ, List, is_ok, sym, ap, ◌∙◌, subst}
 use Rattle.std.proofs.lemmas.Bool.{both_ways}
+use Rattle.mw_disk.specs.DeviceCalls.{DeviceCall, Makes}
 use Rattle.mw_record.specs.declared.layout.Layout.TheVariants.{First}
 use Rattle.mw_record.specs.Layout.{size, second_part}
 use Rattle.mw_record.specs.Damages.{is_switched, at_of, words_of, found_places, places_of}
@@ -11,6 +11,7 @@ use Rattle.mw_file.specs.Stores.{IsDurable}
 use Rattle.mw_file.specs.Run.{Ran}
 use Rattle.mw_file.proofs.RollLoop.{on_ok}
 use Rattle.mw_file.proofs.Ready.{is_unset, is_set, places_unset, places_set, begins_unset, begins_set, calls_unset, calls_set, can_grow, can_finish, migrated_durable, file_moments, second_moments}
+use Rattle.mw_file.proofs.OpeningCallLaws.{ready_unset, ready_set}
 use Rattle.mw_file.proofs.Safety.{is_file}
 use Rattle.mw_file.proofs.opening.make_ready.Goals as goal
 
@@ -121,3 +122,15 @@ pub returns-in-Second-clause-given : goal.returns-in-Second-clause-given
 returns-in-Second-clause-given g c =
     let set = is_set c.args.image.now (sym c.layout.ensures ∙ c.in-Second.is) in
     on_ok _ _ c.finish.result (λ done can unset. absurd (both_ways (is_switched c.args.image.now) unset set)) c.finish.ensures.done
+
+pub returns-in-First-clause-made : goal.returns-in-First-clause-made
+returns-in-First-clause-made g c =
+    let first = sym c.layout.ensures ∙ c.in-First.is in
+    subst (λ (calls : List DeviceCall). Makes g.D.Disk.made calls (is_ok c.give_second.result) c.args.disk.now c.give_second.new.disk)
+    (ready_unset c.args.image.now c.args.words.now first) c.give_second.ensures.made
+
+pub returns-in-Second-clause-made : goal.returns-in-Second-clause-made
+returns-in-Second-clause-made g c =
+    let second = sym c.layout.ensures ∙ c.in-Second.is in
+    subst (λ (calls : List DeviceCall). Makes g.D.Disk.made calls (is_ok c.finish.result) c.args.disk.now c.finish.new.disk)
+    (ready_set c.args.image.now c.args.words.now second) c.finish.ensures.made

@@ -1,6 +1,6 @@
--- Proves goals of `TenantFile::open` (src/opening.rt) that the check does not prove by itself. Used by: the proof of that
--- function alone. It may change freely as long as this crate checks.
-use Rattle.std.proofs.Common.{◌≡◌, ◌≤◌, ◌+◌, ℕ, List, length, min, take, arith, sym, ap, ◌∙◌, refl, Some, true, false, IsTrue, subst}
+-- Goals of `TenantFile::open` (src/opening.rt).
+use Rattle.std.proofs.Common.{◌≡◌, ◌≤◌, ◌+◌, ℕ, List, length, min, take, arith, sym, ap, ◌∙◌, refl, Some, true, false, inl, IsTrue, subst}
+use Rattle.std.proofs.lemmas.List.{length-take}
 use Rattle.std.proofs.lemmas.List.FromFn.{length-map-range_with_len}
 use Rattle.mw_disk.specs.Facts.{IsSynced}
 use Rattle.mw_disk.specs.Runs.{Good, Bad, Touched}
@@ -18,13 +18,14 @@ use Rattle.mw_file.proofs.Ready.{open_file}
 use Rattle.mw_file.specs.RollForward.{Nowhere}
 use Rattle.mw_file.specs.Migration.{InSwitch, Grown, given_second}
 use Rattle.mw_file.specs.OpeningEnds.{front, open_calls, ready_calls, begins_at, CanOpen, OpensSafely}
+use Rattle.mw_file.proofs.OpeningCallLaws.{made_well, made_badly, front_bytes, failed_read, damaged_read, made_ready}
 use Rattle.mw_file.proofs.Ran.{ran_well, ran_badly}
 use Rattle.mw_file.proofs.Opened.{whole, front_read, first_unwritten, first_spared, first_kept_unwritten, first_kept_on, second_told, second_given, untouched_trans, nothing_written, rest_stays, reads_stay, all_ready, can_open, whole_words, whole_damage, calls_sound, calls_damaged, calls_before}
 use Rattle.mw_file.proofs.Safety.{keeps_well, durable_as}
 use Rattle.mw_file.proofs.tenant_file.TenantFile.open.Goals as goal
 
-pub returns-in_default : goal.returns-in_default
-returns-in_default g c =
+pub returns-in_default-clause-opens : goal.returns-in_default-clause-opens
+returns-in_default-clause-opens g c =
     let f0 = g.D.Disk.facts c.args.disk in
     let f1 = g.D.Disk.facts c.len.new.self in
     record {
@@ -37,8 +38,8 @@ returns-in_default g c =
       within = λ honest. omega arith;
     }
 
-pub returns-then-is_err : goal.returns-then-is_err
-returns-then-is_err g c =
+pub returns-then-is_err-clause-opens : goal.returns-then-is_err-clause-opens
+returns-then-is_err-clause-opens g c =
     let f0 = g.D.Disk.facts c.args.disk in
     let f1 = g.D.Disk.facts c.len.new.self in
     let f2 = g.D.Disk.facts c.read_front.new.disk in
@@ -59,8 +60,8 @@ returns-then-is_err g c =
       within = λ honest. calls_before f0 c.in-Ok.len size (c.in-Ok.ensures.length honest) size_is;
     }
 
-pub returns-in-Err : goal.returns-in-Err
-returns-in-Err g c =
+pub returns-in-Err-clause-opens : goal.returns-in-Err-clause-opens
+returns-in-Err-clause-opens g c =
     let f0 = g.D.Disk.facts c.args.disk in
     let f1 = g.D.Disk.facts c.len.new.self in
     let f2 = g.D.Disk.facts c.read_front.new.disk in
@@ -101,8 +102,8 @@ make_ready-requires-clause-free g c =
     subst (λ (ss : List PlaceState). IsTrue (all_free ss)) (sym (c.deref_mut-2.ensures.value ∙ c.truncate.ensures.items))
     (first_free _ c.in-Ok-new.room.states.items c.in-Ok-new.ensures.3)
 
-pub returns-then-is_err-2 : goal.returns-then-is_err-2
-returns-then-is_err-2 g c =
+pub returns-then-is_err-2-clause-opens : goal.returns-then-is_err-2-clause-opens
+returns-then-is_err-2-clause-opens g c =
     let f0 = g.D.Disk.facts c.args.disk in
     let f1 = g.D.Disk.facts c.len.new.self in
     let f2 = g.D.Disk.facts c.read_front.new.disk in
@@ -154,8 +155,8 @@ returns-then-is_err-2 g c =
       within = λ honest. let e = ap open_calls (seen honest) in omega arith;
     }
 
-pub returns : goal.returns
-returns g c =
+pub returns-clause-opens : goal.returns-clause-opens
+returns-clause-opens g c =
     let f0 = g.D.Disk.facts c.args.disk in
     let f1 = g.D.Disk.facts c.len.new.self in
     let f2 = g.D.Disk.facts c.read_front.new.disk in
@@ -234,4 +235,103 @@ returns g c =
           let durable = went_well c.make_ready.result _ ended c.make_ready.ensures.done (can honest rest) in
           keeps_well g.D.Disk.facts _ c.fill_words.new.words.items (sym count)
           (durable_as f3 _ _ _ _ _ _ _ _ c.begins_at.ensures.value words_are (sym c.deref-2.ensures.value) states_are durable);
+    }
+
+-- ---- the device calls
+
+pub returns-in_default-clause-made : goal.returns-in_default-clause-made
+returns-in_default-clause-made g c =
+    let f0 = g.D.Disk.facts c.args.disk in
+    record { image = front f0; seen = λ honest. refl; calls = inl (refl, c.in_default.ensures.made) }
+
+pub returns-then-is_err-clause-made : goal.returns-then-is_err-clause-made
+returns-then-is_err-clause-made g c =
+    let f0 = g.D.Disk.facts c.args.disk in
+    let f1 = g.D.Disk.facts c.len.new.self in
+    let size = length c.deref_mut.result.now in
+    let size_is = c.deref_mut.ensures.len ∙ c.in-Ok-new.ensures.0 in
+    let bytes = front_bytes f0 size f0.honest refl (λ honest. let long = c.in-Ok.ensures.length honest in length-take MAX_FILE f0.reads ∙ omega (arith, long, size_is)) in
+    let read = made_badly g.D.Disk.made _ c.len.new.self c.read_front.new.disk c.read_front.result (sym c.is_err.ensures.value ∙ c.if-is_err.true) c.read_front.ensures.made in
+    record {
+      image = bytes.0;
+      seen = bytes.1;
+      calls = failed_read g.D.Disk.made bytes.0 size bytes.2 c.args.disk c.len.new.self c.read_front.new.disk c.in-Ok.ensures.made read;
+    }
+
+pub returns-in-Err-clause-made : goal.returns-in-Err-clause-made
+returns-in-Err-clause-made g c =
+    let f0 = g.D.Disk.facts c.args.disk in
+    let f1 = g.D.Disk.facts c.len.new.self in
+    let size = length c.deref_mut.result.now in
+    let size_is = c.deref_mut.ensures.len ∙ c.in-Ok-new.ensures.0 in
+    let f2 = g.D.Disk.facts c.read_front.new.disk in
+    let first = called_later f0 f1 true c.in-Ok.ensures.call in
+    let well = sym c.is_err.ensures.value ∙ c.if-is_err.false in
+    let image = c.deref.result.now in
+    let is : image ≡ c.read_front.new.bytes =
+    c.deref.ensures.value ∙ whole _ c.read_front.new.bytes _ (c.read_front.auto.bytes ∙ c.deref_mut.ensures.len) in
+    let long : length image ≡ size = ap length is ∙ c.read_front.auto.bytes in
+    let seen : IsTrue f0.honest → image ≡ front f0 = λ honest.
+    let read = went_well c.read_front.result _ well c.read_front.ensures.read (still_honest f0 f1 first honest) in
+    is ∙ front_read f0 f1 c.in-Ok.len _ _ (c.in-Ok.ensures.length honest) size_is (c.in-Ok.ensures.same honest) read in
+    let read_all = made_well g.D.Disk.made _ c.len.new.self c.read_front.new.disk c.read_front.result well c.read_front.ensures.made in
+    record {
+      image = image;
+      seen = seen;
+      found = c.in-Err.ensures;
+      calls = damaged_read g.D.Disk.made image size long c.args.disk c.len.new.self c.read_front.new.disk c.in-Ok.ensures.made _ c.in-Err.ensures read_all;
+    }
+
+pub returns-then-is_err-2-clause-made : goal.returns-then-is_err-2-clause-made
+returns-then-is_err-2-clause-made g c =
+    let f0 = g.D.Disk.facts c.args.disk in
+    let f1 = g.D.Disk.facts c.len.new.self in
+    let size = length c.deref_mut.result.now in
+    let size_is = c.deref_mut.ensures.len ∙ c.in-Ok-new.ensures.0 in
+    let f2 = g.D.Disk.facts c.read_front.new.disk in
+    let first = called_later f0 f1 true c.in-Ok.ensures.call in
+    let well = sym c.is_err.ensures.value ∙ c.if-is_err.false in
+    let image = c.deref.result.now in
+    let is : image ≡ c.read_front.new.bytes =
+    c.deref.ensures.value ∙ whole _ c.read_front.new.bytes _ (c.read_front.auto.bytes ∙ c.deref_mut.ensures.len) in
+    let long : length image ≡ size = ap length is ∙ c.read_front.auto.bytes in
+    let seen : IsTrue f0.honest → image ≡ front f0 = λ honest.
+    let read = went_well c.read_front.result _ well c.read_front.ensures.read (still_honest f0 f1 first honest) in
+    is ∙ front_read f0 f1 c.in-Ok.len _ _ (c.in-Ok.ensures.length honest) size_is (c.in-Ok.ensures.same honest) read in
+    let read_all = made_well g.D.Disk.made _ c.len.new.self c.read_front.new.disk c.read_front.result well c.read_front.ensures.made in
+    let filled : c.deref-2.result.now ≡ words_in c.in-Ok-decode.image = c.deref-2.ensures.value ∙ c.fill_words.ensures in
+    let ready = made_badly g.D.Disk.made _ c.read_front.new.disk c.make_ready.new.disk c.make_ready.result (sym c.is_err-2.ensures.value ∙ c.if-is_err-2.true) c.make_ready.ensures.made in
+    record {
+      image = image;
+      seen = seen;
+      calls = made_ready g.D.Disk.made image size long c.args.disk c.len.new.self c.read_front.new.disk c.in-Ok.ensures.made c.in-Ok-decode.image c.deref-2.result.now false c.make_ready.new.disk
+          c.in-Ok-decode.ensures.0 c.in-Ok-decode.ensures.1 filled read_all ready;
+    }
+
+pub returns-clause-made : goal.returns-clause-made
+returns-clause-made g c =
+    let f0 = g.D.Disk.facts c.args.disk in
+    let f1 = g.D.Disk.facts c.len.new.self in
+    let size = length c.deref_mut.result.now in
+    let size_is = c.deref_mut.ensures.len ∙ c.in-Ok-new.ensures.0 in
+    let f2 = g.D.Disk.facts c.read_front.new.disk in
+    let first = called_later f0 f1 true c.in-Ok.ensures.call in
+    let well = sym c.is_err.ensures.value ∙ c.if-is_err.false in
+    let image = c.deref.result.now in
+    let is : image ≡ c.read_front.new.bytes =
+    c.deref.ensures.value ∙ whole _ c.read_front.new.bytes _ (c.read_front.auto.bytes ∙ c.deref_mut.ensures.len) in
+    let long : length image ≡ size = ap length is ∙ c.read_front.auto.bytes in
+    let seen : IsTrue f0.honest → image ≡ front f0 = λ honest.
+    let read = went_well c.read_front.result _ well c.read_front.ensures.read (still_honest f0 f1 first honest) in
+    is ∙ front_read f0 f1 c.in-Ok.len _ _ (c.in-Ok.ensures.length honest) size_is (c.in-Ok.ensures.same honest) read in
+    let read_all = made_well g.D.Disk.made _ c.len.new.self c.read_front.new.disk c.read_front.result well c.read_front.ensures.made in
+    let filled : c.deref-2.result.now ≡ words_in c.in-Ok-decode.image = c.deref-2.ensures.value ∙ c.fill_words.ensures in
+    let ready = made_well g.D.Disk.made _ c.read_front.new.disk c.make_ready.new.disk c.make_ready.result (sym c.is_err-2.ensures.value ∙ c.if-is_err-2.false) c.make_ready.ensures.made in
+    record {
+      image = image;
+      seen = seen;
+      undamaged = c.in-Ok-decode.ensures.0;
+      has = c.fill_words.ensures ∙ ap words_in c.in-Ok-decode.ensures.1;
+      calls = made_ready g.D.Disk.made image size long c.args.disk c.len.new.self c.read_front.new.disk c.in-Ok.ensures.made c.in-Ok-decode.image c.deref-2.result.now true c.make_ready.new.disk
+          c.in-Ok-decode.ensures.0 c.in-Ok-decode.ensures.1 filled read_all ready;
     }

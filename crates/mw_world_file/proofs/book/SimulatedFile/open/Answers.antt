@@ -1,5 +1,4 @@
--- Proves goals of `SimulatedFile::open` (src/opening.rt) that the check does not prove by itself. Used by: the proof of that
--- function alone. It may change freely as long as this crate checks.
+-- Goals of `SimulatedFile::open` (src/opening.rt).
 use Rattle.std.proofs.Common.{◌∙◌, ℕ, List, ap, arith}
 use Rattle.mw_words.specs.declared.limits.TheConstants.{MAX_POOL}
 use Rattle.mw_disk.specs.Memory.{Memory, memory_facts, scripted}
@@ -11,19 +10,19 @@ pub opened-requires-clause-room : goal.opened-requires-clause-room
 opened-requires-clause-room c =
     let image = c.in-Ok.ensures.1 ∙ c.deref.ensures.value in
     room_opened c.in_ok-disk.disk c.args.bytes.items c.in-Ok-open.opened.0 c.in-Ok-open.opened.1.items c.args.quota c.places_once_open-file_places.result
-    (ap (λ (m : Memory). (memory_facts m).reads) c.in_ok-disk.ensures.made) c.in-Ok-open.ensures (c.places_once_open-file_places.ensures ∙ ap places_of image)
+    (ap (λ (m : Memory). (memory_facts m).reads) c.in_ok-disk.ensures.made) c.in-Ok-open.ensures.opens (c.places_once_open-file_places.ensures ∙ ap places_of image)
     (omega (arith, c.from.ensures, c.if-from-quota.false))
 
 pub returns-in-Ok-open : goal.returns-in-Ok-open
 returns-in-Ok-open c words is room =
     opened_ends c.in_ok-disk.disk c.args.bytes.items words c.args.quota c.args.fails_at (ap (λ (m : Memory). (memory_facts m).reads) c.in_ok-disk.ensures.made) c.in_ok-disk.ensures.at_rest (ap (λ (m : Memory). (memory_facts m).moment) c.in_ok-disk.ensures.made) is
     (λ k. c.in_ok-disk.ensures.plan k ∙ ap (λ (script : List ℕ). scripted script k) c.in_ok-script_of.ensures)
-    c.in-Ok-open.opened.0 c.in-Ok-open.opened.1.items c.in-Ok-open.ensures c.opened.result c.opened.ensures
+    c.in-Ok-open.opened.0 c.in-Ok-open.opened.1.items c.in-Ok-open.ensures.opens c.opened.result c.opened.ensures
 
 pub returns-in-Disk : goal.returns-in-Disk
 returns-in-Disk c words is room =
     let image = c.in-Ok.ensures.1 ∙ c.deref.ensures.value in
     shut_ends c.in_ok-disk.disk c.args.bytes.items words c.args.quota c.args.fails_at (ap (λ (m : Memory). (memory_facts m).reads) c.in_ok-disk.ensures.made) c.in_ok-disk.ensures.at_rest (ap (λ (m : Memory). (memory_facts m).moment) c.in_ok-disk.ensures.made) is
     (λ k. c.in_ok-disk.ensures.plan k ∙ ap (λ (script : List ℕ). scripted script k) c.in_ok-script_of.ensures)
-    c.in-Err.failed.1 c.in-Err.failed.0 c.in-Disk.is c.in-Err.ensures (ap (λ (m : Memory). m.refused) c.in_ok-disk.ensures.made) c.in_ok-found.found.items _ MAX_POOL
+    c.in-Err.failed.1 c.in-Err.failed.0 c.in-Disk.is c.in-Err.ensures.opens (ap (λ (m : Memory). m.refused) c.in_ok-disk.ensures.made) c.in_ok-found.found.items _ MAX_POOL
     (c.in_ok-found.ensures ∙ ap words_in image ∙ words_found c.args.bytes.items words is) (c.places_once_open-file_places.ensures ∙ ap places_of image) c.shut.result c.shut.ensures
