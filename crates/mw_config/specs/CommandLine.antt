@@ -1,6 +1,5 @@
 -- Defines what the command line of `mwserve` may ask for: connections, clients, limits of time, file modes, pool and workers.
--- Used by: mw_programs, the contracts of command_line.rt. A change here changes what mwserve promises of its options: its help
--- and docs/OPERATING change with it.
+-- Used by: mw_programs, command_line.rt. Change it with the program's help and docs/OPERATING.
 use Rattle.std.specs.Prelude.{ℕ, ◌≤◌, ◌<◌, IfSome, vec_len}
 use Rattle.mw_words.specs.declared.limits.TheConstants.{MAX_POOL, MAX_WORKERS, MAX_CONNECTIONS}
 use Rattle.mw_config.specs.declared.command_line.TheConstants.{MAX_CLIENTS, MAX_FAULTS, MAX_HTTP_NAMES, MAX_IDLE, MAX_SOCKET_MODE}
@@ -21,7 +20,7 @@ pub record AreSharedWell (workers : ℕ) (shared : SharedWorkers) : Type 0 where
   pub some_change : shared.readers < workers
 
 -- The number of connections, if given, is 1 to MAX_CONNECTIONS. The limits of waiting, of silence and of a line's time, where
--- given, are 1 to MAX_IDLE seconds. A session ends after 1 to MAX_FAULTS faults, if it does for faults. There are at most
+-- given, are 1 to MAX_IDLE seconds, and so is the time of a lease. A session ends after 1 to MAX_FAULTS faults, if it does for faults. There are at most
 -- MAX_HTTP_NAMES names for the pages. A local socket's file mode is at most MAX_SOCKET_MODE.
 pub record IsPermittedListening (listening : Listening) : Type 0 where
   pub connections : IfSome listening.connections (IsUpTo MAX_CONNECTIONS)
@@ -29,6 +28,7 @@ pub record IsPermittedListening (listening : Listening) : Type 0 where
   pub idle : IfSome listening.idle (IsUpTo MAX_IDLE)
   pub line_time : IfSome listening.line_time (IsUpTo MAX_IDLE)
   pub faults : IfSome listening.faults (IsUpTo MAX_FAULTS)
+  pub lease : IfSome listening.lease (λ terms. IsUpTo MAX_IDLE terms.seconds)
   pub http_names : vec_len listening.http_names ≤ MAX_HTTP_NAMES
   pub socket_mode : listening.socket_mode ≤ MAX_SOCKET_MODE
 

@@ -1,10 +1,11 @@
-//! Reads the command line of `mwserve`, the program of the server.
+//! Reads the command line of `mwserve`.
 //!
-//! mw_programs calls [`read_args`] for `mwserve`. A new option needs a field here, its use in mw_programs, a clause
-//! in `specs/CommandLine` if it has limits, and its row in docs/OPERATING.
+//! Used by: mw_programs. A new option needs a field here, its use in mw_programs, a clause in `specs/CommandLine` if
+//! it has limits, and its row in docs/OPERATING.
 ghost use Rattle.std.specs.Prelude.{ℕ, ◌≡◌, ◌≤◌, IfOk, IfSome, length, vec_len};
 ghost use Rattle.mw_config.specs.CommandLine.{ArePermittedArgs, AreSharedWell, IsPermittedMode, IsUpTo, SuitsWorkers};
 
+use crate::lease_terms::{LeaseTerms, lease_of};
 use clap::builder::ValueParser;
 use clap::error::ErrorKind;
 use clap::parser::ValueSource;
@@ -74,6 +75,10 @@ pub struct Listening {
     pub line_time: Option<u32>,
     /// A session ends after so many lines that are answered by `ERR`, 1 to [`MAX_FAULTS`]. None: it doesn't end for this.
     pub faults: Option<u32>,
+    /// If set, the server ends when a tenant's file fails or is given up.
+    pub end_on_failure: bool,
+    /// The lease by which the server tells what its tenants have. None: it tells it without one.
+    pub lease: Option<LeaseTerms>,
     /// If set, it is meant that clients of other machines may connect, and no note says that they may.
     pub open: bool,
     /// The file mode of each local socket, at most [`MAX_SOCKET_MODE`]. Who may write to the socket's file
@@ -169,8 +174,8 @@ impl From<clap::Error> for ArgFault {
 ///
 /// The form is `mwserve --tenants FILE [--pool P] [--workers N] [--strict] [--verbose] [--journal] [--times]` with either
 /// `--listen ADDR` or `--script FILE`. After `--listen` there may be `[--admin ADDR] [--http ADDR [--http-name NAME ..]]
-/// [--connections C] [--clients M [--readers R]] [--wait SECONDS] [--idle SECONDS] [--line-time SECONDS] [--faults F] [--open]
-/// [--mode MODE]`.
+/// [--connections C] [--clients M [--readers R]] [--wait SECONDS] [--idle SECONDS] [--line-time SECONDS] [--faults F]
+/// [--end-on-failure] [--lease FILE --lease-time SECONDS] [--open] [--mode MODE]`.
 /// - P is 1 to [`MAX_POOL`], and [`MAX_POOL`] if it isn't given.
 /// - N is 1 to [`MAX_WORKERS`], and 4 if it isn't given.
 /// - C is 1 to [`MAX_CONNECTIONS`], and SECONDS 1 to [`MAX_IDLE`]. `--line-time` is `--idle` if it isn't given.
@@ -184,7 +189,7 @@ impl From<clap::Error> for ArgFault {
 /// [`ArgFault::Refused`] if clap refuses them, or they ask for the help or the version. [`ArgFault::Mode`], with the
 /// rule that they break, if they haven't exactly one of `--listen` and `--script`, have an option of `--listen` with
 /// `--script`, have a `--mode` that is no file mode, have `--http-name` without `--http`, with no name, or too often, have
-/// `--readers` without `--clients`, or would leave no worker for changes. [`ArgFault::Memory`] if memory was refused. `args` is only read.
+/// `--readers` without `--clients`, have one of `--lease` and `--lease-time` without the other, or would leave no worker for changes. [`ArgFault::Memory`] if memory was refused. `args` is only read.
 pub fn read_args(alloc: Global, args: &[String]) -> Result<Args, ArgFault>
     ensures permitted { IfOk result (λ args. ArePermittedArgs args) }
 {
@@ -255,6 +260,7 @@ fn listen_mode(
     let socket_mode = socket_mode_of(matches.get_str("mode"))?;
     let http_names = names_of(alloc, matches)?;
     let shared = shared_of(matches, workers)?;
+    let lease = lease_of(alloc, matches)?;
     let idle = number_of(matches, "idle", MAX_IDLE);
     let address = String::from_str(alloc, address)?;
     Ok(Mode::Listen(Listening {
@@ -268,6 +274,8 @@ fn listen_mode(
         idle,
         line_time: number_of(matches, "line-time", MAX_IDLE).or(idle),
         faults: number_of(matches, "faults", MAX_FAULTS),
+        end_on_failure: matches.get_flag("end-on-failure"),
+        lease,
         open: matches.get_flag("open"),
         socket_mode,
     }))
@@ -360,7 +368,7 @@ fn copy_of(alloc: Global, text: Option<&str>) -> Result<Option<String>, AllocErr
 
 /// Gives the number of an option, if it was given or has a default. It is 1 to `most`; the option's parser
 /// checks the range too.
-fn number_of(matches: &ArgMatches<'_>, name: &str, most: u32) -> Option<u32>
+pub(crate) fn number_of(matches: &ArgMatches<'_>, name: &str, most: u32) -> Option<u32>
     ensures { IfSome result (λ number. IsUpTo most number) }
 {
     match matches.get_one::<u32>(name) {
@@ -458,7 +466,7 @@ const OPTIONS: [Choice; 9] = [
 ];
 
 /// The options that need `--listen`.
-const OF_CONNECTIONS: [Choice; 12] = [
+const OF_CONNECTIONS: [Choice; 15] = [
     (
         "admin",
         Given::Text("ADDR"),
@@ -508,6 +516,21 @@ const OF_CONNECTIONS: [Choice; 12] = [
         "faults",
         Given::Number("1..1000000", MAX_FAULTS),
         "after how many lines that are answered ERR to end a session; without it, never",
+    ),
+    (
+        "end-on-failure",
+        Given::Flag,
+        "end with status 3 when a tenant's file fails or is given up, so that another server may take its lock",
+    ),
+    (
+        "lease",
+        Given::Text("FILE"),
+        "a file to lock, and to write to again and again; replies that tell of words need it; without it, none does",
+    ),
+    (
+        "lease-time",
+        Given::Number("1..86400", MAX_IDLE),
+        "how many seconds a write to the file of --lease counts; needs --lease",
     ),
     (
         "open",

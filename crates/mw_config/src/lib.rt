@@ -7,6 +7,7 @@
 mod command_line;
 mod forms;
 mod laws;
+mod lease_terms;
 mod lines;
 mod refusals;
 mod tenants;
@@ -17,6 +18,7 @@ pub use command_line::{
 };
 pub use forms::{FormRule, broken_rule};
 pub use laws::one_answer;
+pub use lease_terms::LeaseTerms;
 pub use lines::TenantLine;
 pub use refusals::Refusal;
 pub use tenants::read_tenants;

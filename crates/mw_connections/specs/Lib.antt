@@ -3,3 +3,4 @@ pub mod Pauses
 pub mod TimesLeft
 pub mod Metered
 pub mod FaultLimits
+pub mod Leases

@@ -1,9 +1,11 @@
 //! The listener for clients that stay for one request and its answer.
 //!
-//! mw_programs listens for them, and mw_server_pages serves them. Two limits of time run from the moment when the client comes,
-//! one for all reads and one for all writes, whatever the client sends meanwhile. `timed_stream.rt` keeps them. Nothing is proved
-//! of sockets.
+//! mw_programs listens for them, and mw_server_pages serves them. Two limits of time run from the moment when the
+//! client comes, one for all reads and one for all writes; `timed_stream.rt` keeps them. Nothing is proved of
+//! sockets.
 
+use crate::lease::Lease;
+use crate::leased_stream::{ClientLease, LeasedStream};
 use crate::listening_socket::{Closer, ListeningSocket};
 use crate::peer::StreamListener;
 use crate::sockets::open_door;
@@ -30,6 +32,8 @@ pub struct BriefListener<'a, K> {
     door: ListeningSocket,
     clock: &'a K,
     limits: BriefLimits,
+    /// The lease that each answer needs, if it needs one.
+    lease: Option<&'a Lease>,
 }
 
 /// Listens at an address, as [`crate::listen_at`] does, for clients that stay for one request.
@@ -51,10 +55,17 @@ where
         door,
         clock: rt,
         limits,
+        lease: None,
     })
 }
 
-impl<K> BriefListener<'_, K> {
+impl<'a, K> BriefListener<'a, K> {
+    /// Has each answer to the clients that it gives from now on need this lease, as [`LeasedStream`] tells. None: it needs none.
+    pub fn with_lease(mut self, lease: Option<&'a Lease>) -> Self {
+        self.lease = lease;
+        self
+    }
+
     /// Gives what ends the wait for these clients.
     ///
     /// # Errors
@@ -84,20 +95,27 @@ impl<K> BriefListener<'_, K> {
 }
 
 impl<'a, K: Clock + Sync> StreamListener for BriefListener<'a, K> {
-    type Stream = TimedStream<'a, K>;
+    type Stream = LeasedStream<TimedStream<'a, K>, ClientLease<'a, K>>;
 
     ghost accepts = { λ _ _ _. Unit {0} };
 
-    fn accept(&mut self) -> io::Result<RecordedStream<TimedStream<'a, K>>> {
+    fn accept(
+        &mut self,
+    ) -> io::Result<RecordedStream<LeasedStream<TimedStream<'a, K>, ClientLease<'a, K>>>> {
         let stream = self.door.next()?;
         let begun = Instant::now(self.clock)?;
         let (request, whole) = (self.limits.request, self.limits.whole);
-        Ok(RecordedStream::new(TimedStream::brief(
+        let stream = TimedStream::brief(
             stream,
             self.clock,
             span_of(begun, request),
             span_of(begun, whole),
-        )))
+        );
+        let lease = ClientLease {
+            lease: self.lease,
+            clock: self.clock,
+        };
+        Ok(RecordedStream::new(LeasedStream::new(stream, lease)))
     }
 }
 

@@ -10,6 +10,9 @@
 //! With [`ClientListener::with_faults`] a session by a socket ends after so many lines with a fault, so that a program which
 //! speaks another protocol isn't served on.
 //!
+//! With [`ClientListener::with_lease`] and [`BriefListener::with_lease`] a server without its [`Lease`] tells no word of its tenants:
+//! the [`LeasedStream`] of a client asks it before each write of a text that needs one.
+//!
 //! A connection is closed so that the client can read all that it was told. After the session's end,
 //! [`Connection::leave`] reads and drops what the client sends until the client closes its side, for a second at most.
 //!
@@ -31,6 +34,8 @@
 
 mod brief;
 mod fault_limit;
+mod lease;
+mod leased_stream;
 mod listening_socket;
 mod local;
 mod metered;
@@ -41,6 +46,8 @@ mod time_limits;
 mod timed_stream;
 
 pub use brief::{BriefLimits, BriefListener, listen_briefly};
+pub use lease::Lease;
+pub use leased_stream::{AsksLease, ClientLease, LeasedStream};
 pub use listening_socket::Closer;
 pub use metered::{MeteredConnection, MeteredListener};
 pub use patience::{FIRST_PAUSE, LONGEST_PAUSE, Patient, RoomWatch};

@@ -1,11 +1,13 @@
 //! Implements listeners and connections by TCP sockets and local sockets.
 //!
-//! mw_programs calls [`listen_at`]. No contract says what a socket carries; what was read from it and written to it is
-//! recorded. The limits at the top may have other numbers; docs/OPERATING and docs/PROTOCOL tell what follows from them.
+//! mw_programs calls [`listen_at`]. No contract says what a socket carries; what was read and written is recorded.
+//! The limits at the top may have other numbers; docs/OPERATING and docs/PROTOCOL tell them.
 ghost use Rattle.std.specs.Prelude.{◌≡◌, None};
 ghost use Rattle.mw_session.specs.KnownStreams.{reads_of, writes_of};
 
 use crate::fault_limit::FaultLimit;
+use crate::lease::Lease;
+use crate::leased_stream::{ClientLease, LeasedStream};
 use crate::listening_socket::{Closer, ListeningSocket, listening};
 use crate::local::listen_local;
 use crate::peer::{Connection, Listener};
@@ -40,12 +42,14 @@ pub struct ClientListener<'a, K> {
     faults: Option<u32>,
     /// What counts the bytes of its clients, if they are counted.
     counters: Option<&'a ServerCounters>,
+    /// The lease that its clients' replies need, if they need one.
+    lease: Option<&'a Lease>,
 }
 
 /// A client's connection, over TCP or by a local socket.
 #[derive(Drop)]
 pub struct Client<'a, K> {
-    stream: RecordedStream<FaultLimit<TimedStream<'a, K>>>,
+    stream: RecordedStream<LeasedStream<FaultLimit<TimedStream<'a, K>>, ClientLease<'a, K>>>,
 }
 
 /// Listens at an address. At `127.0.0.1:7000` it listens over TCP; at port 0 the system picks a free port.
@@ -73,6 +77,7 @@ where
         limits: limits.of_a_session(),
         faults: None,
         counters: None,
+        lease: None,
     })
 }
 
@@ -114,6 +119,12 @@ impl<'a, K> ClientListener<'a, K> {
         self
     }
 
+    /// Has the replies to all clients that it gives from now on need this lease, as [`LeasedStream`] tells. None: they need none.
+    pub fn with_lease(mut self, lease: Option<&'a Lease>) -> Self {
+        self.lease = lease;
+        self
+    }
+
     /// Tells whether clients of other machines may come: it listens over TCP, and not at a loopback address.
     ///
     /// # Errors
@@ -145,8 +156,13 @@ impl<'a, K: Clock + Sync> Listener for ClientListener<'a, K> {
             return Err(io::Error::from(ErrorKind::ConnectionAborted));
         }
         let stream = TimedStream::new(stream, self.clock, self.limits, self.counters);
+        let lease = ClientLease {
+            lease: self.lease,
+            clock: self.clock,
+        };
+        let stream = LeasedStream::new(FaultLimit::new(stream, self.faults), lease);
         Ok(Client {
-            stream: RecordedStream::new(FaultLimit::new(stream, self.faults)),
+            stream: RecordedStream::new(stream),
         })
     }
 }

@@ -1,5 +1,5 @@
-//! Plays stories: what is done in a folder and what comes of it, a line each. Programs run under one runtime and write to
-//! one type of output, so that they are compiled once for all stories. All else is done under the system's own runtime.
+//! Plays stories: what is done in a folder and what comes of it, a line each. Programs run under one runtime and
+//! write to one type of output, so that they are compiled once.
 //!
 //! - `mwinit ARGS` and `mwserve ARGS` run a program. `serve OPTIONS` has `mwserve` serve the script of the folder to the
 //!   tenants of its tenants file.
@@ -12,16 +12,16 @@
 //!   played. They begin when the server is ready, and `<PORT>` is its port. After `stop` it is the program that ran last.
 //! - `files` tells the lines that make, change or look at files, and `talks` those of the server's clients.
 //!
-//! `DIR` means the folder, in a text `;` means a line's end, and after `long BYTES LETTER` `<LONG>` means so many of these
-//! letters. The lines after `for each of` are cases: the story is played for each, with its fields, which have `|` between
-//! them, in the places of `$1`, `$2` and so on.
+//! `DIR` means the folder, in a text `;` means a line's end, and after `long BYTES LETTER` `<LONG>` means so many of
+//! these letters. The lines after `for each of` are cases: the story is played for each, with its fields, which have
+//! `|` between them, in the places of `$1`, `$2` and so on.
 //!
-//! Used by: the tests. It may change freely as long as this crate checks and its tests pass.
+//! Used by: tests.
 use crate::files::play_file;
 use crate::outputs::{Output, Told, wait_for};
 use crate::stage::{Outcome, Stage, new_folder};
 use mw_init::init;
-use mw_programs::{SeesPaths, serve};
+use mw_programs::{SeesPaths, ServerEnd, serve};
 use mw_test_peers::{Place, come_and_go};
 use std::alloc::{AllocError, Global};
 use std::fs::File;
@@ -269,7 +269,7 @@ where
     };
     let status = match args.first() {
         Some(word) if word.as_str() == "mwinit" => init(rt, args, &mut out, &mut err),
-        _ => serve(rt, args, &mut out, &mut err),
+        _ => serve(rt, args, &mut out, &mut err, &ServerEnd::new()),
     };
     Ok(Outcome {
         status,

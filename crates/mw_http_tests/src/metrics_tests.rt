@@ -1,6 +1,4 @@
 //! Tests counters and the text of all figures.
-//!
-//! Nothing else uses it: it may change with what it tests.
 use crate::checks::{MEMORY, holds};
 use mw_metrics::{
     CloseReason, DeviceCall, ReplyKind, RequestKind, ServerCounters, TenantCounters, TenantMetrics,
@@ -11,11 +9,12 @@ use mw_words::Name;
 use std::alloc::{AllocError, Global};
 
 /// Lines that a scraper reads after `record_all`.
-static LINES: [&str; 23] = [
+static LINES: [&str; 24] = [
     "# HELP mondlexi_build_info The version of the server. The value is always 1.",
     "# TYPE mondlexi_build_info gauge",
     "mondlexi_build_info{version=\"1.\\\"2\\\\\"} 1",
     "mondlexi_uptime_seconds 61.000000005",
+    "mondlexi_lease_age_seconds 1.500000000",
     "mondlexi_pool_free_slots 30",
     "mondlexi_connections_total 2",
     "mondlexi_connections_served 1",
@@ -92,7 +91,7 @@ fn text_of_all(alloc: Global) -> Result<Vec<u8>, AllocError> {
         place: tenant.place(),
         counts: tenant.counts(),
     }];
-    let figures = server.figures(61_000_000_005, 30);
+    let figures = server.figures(61_000_000_005, Some(1_500_000_000), 30);
     metrics_text(alloc, b"1.\"2\\", &figures, &tenants)
 }
 

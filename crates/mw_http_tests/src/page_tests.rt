@@ -1,6 +1,4 @@
 //! Tests what a server shows: its pages by a service, and each text by hand.
-//!
-//! Nothing else uses it: it may change with what it tests.
 use crate::checks::{MEMORY, holds};
 use crate::http_peers::{HandClock, OneFile};
 use mw_http::{ContentType, Route, Status};
@@ -320,10 +318,10 @@ static REPLACED: [&str; 1] = [
 
 #[test]
 fn the_page_names_those_that_are_not_well(rt: HostRuntime) {
-    let page = status_page(rt.alloc(), b"1", 0, &tenants(), &[], &[], 7).expect(&rt, MEMORY);
+    let page = status_page(rt.alloc(), b"1", 0, None, &tenants(), &[], &[], 7).expect(&rt, MEMORY);
     are_in(&rt, &UNWELL, &page);
     let one = [tenant(b"d", true, FilePlace::Replaced)];
-    let page = status_page(rt.alloc(), b"1", 0, &one, &[], &[], 7).expect(&rt, MEMORY);
+    let page = status_page(rt.alloc(), b"1", 0, None, &one, &[], &[], 7).expect(&rt, MEMORY);
     are_in(&rt, &REPLACED, &page);
 }
 
@@ -333,8 +331,9 @@ fn is_text(bytes: &[u8], text: &str) -> bool {
 }
 
 /// Parts of the page of a tenant whose name has characters that are escaped.
-static ESCAPED: [&str; 4] = [
+static ESCAPED: [&str; 5] = [
     "<p>Version &lt;, up for 1 d 1 h 1 min 1 s.</p>\n",
+    "<p>Seconds since the last beat of the lease began: 3.</p>\n",
     "<p class=\"down\">Not well: &lt;a&amp;&quot;&gt; (down).</p>\n",
     "<tr class=\"down\"><td>&lt;a&amp;&quot;&gt;</td><td>down</td><td>0</td><td>0 of 0</td><td>0</td></tr>",
     "<p>Free slots of the pool: 7.</p>\n",
@@ -350,7 +349,9 @@ fn are_in<R: Abort>(rt: &R, parts: &[&str], page: &[u8]) {
 #[test]
 fn names_are_escaped(rt: HostRuntime) {
     let tenants = [tenant(b"<a&\">", false, FilePlace::InPlace)];
-    let page = status_page(rt.alloc(), b"<", 90061, &tenants, &[], &[], 7).expect(&rt, MEMORY);
+    let page = status_page(rt.alloc(), b"<", 90061, Some(3), &tenants, &[], &[], 7).expect(
+        &rt, MEMORY,
+    );
     are_in(&rt, &ESCAPED, &page);
 }
 
@@ -414,7 +415,9 @@ static DRAWN: [&str; 5] = [
 #[test]
 fn limits_and_curves_are_drawn(rt: HostRuntime) {
     let (limits, recents) = (limits(), [recent()]);
-    let page = status_page(rt.alloc(), b"1", 0, &[], &limits, &recents, 0).expect(&rt, MEMORY);
+    let page = status_page(rt.alloc(), b"1", 0, None, &[], &limits, &recents, 0).expect(
+        &rt, MEMORY,
+    );
     are_in(&rt, &DRAWN, &page);
 }
 

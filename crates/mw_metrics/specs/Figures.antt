@@ -1,6 +1,6 @@
 -- Defines the text of all figures: the families of metrics in their order, and the samples of each.
--- Used by: the contracts of exposition.rt. A change here changes what a scraper reads, and docs/OPERATING with it.
-use Rattle.std.specs.Prelude.{ℕ, Bool, true, false, ◌+◌, ◌-◌, ◌^◌, ◌++◌, List, [], ◌∷◌, min, sum, take, flat_map, codes, decimal, if◌then◌else◌}
+-- Used by: exposition.rt, mw_server_pages. A change here changes what a scraper reads, and docs/OPERATING with it.
+use Rattle.std.specs.Prelude.{ℕ, Bool, true, false, ◌+◌, ◌-◌, ◌^◌, ◌++◌, List, [], ◌∷◌, min, sum, take, flat_map, codes, decimal, Option, Some, None, if◌then◌else◌}
 use Rattle.mw_report.specs.declared.figures.TenantFigures.{TenantFigures}
 use Rattle.mw_metrics.specs.declared.histogram.HistogramFigures.{HistogramFigures}
 use Rattle.mw_metrics.specs.declared.histogram.TheConstants.{BOUNDS}
@@ -27,7 +27,7 @@ use Rattle.mw_metrics.specs.declared.families.TenantGauge.TheVariants.{Words, Qu
 use Rattle.mw_metrics.specs.declared.families.ServerFigure.{ServerFigure}
 use Rattle.mw_metrics.specs.declared.families.ServerFigure.TheVariants.{PoolFree, Served, Waiting, Accepted, PassesInUse, PassWaits, Received, Sent}
 use Rattle.mw_metrics.specs.declared.families.Family.{Family}
-use Rattle.mw_metrics.specs.declared.families.Family.TheVariants.{Build, Uptime, Server, Closed, Tenant, Requests, DeviceFailures, RequestTime, DeviceTime}
+use Rattle.mw_metrics.specs.declared.families.Family.TheVariants.{Build, Uptime, Lease, Server, Closed, Tenant, Requests, DeviceFailures, RequestTime, DeviceTime}
 use Rattle.mw_metrics.specs.declared.families.TheConstants.{TENANT_GAUGES, SERVER_FIGURES}
 use Rattle.mw_metrics.specs.Exposition.{Label, label, sample, seconds}
 use Rattle.mw_metrics.specs.Names.{kind_text, reply_text, call_text, reason_text, family_name, family_help, family_type}
@@ -146,6 +146,11 @@ build_family version = header Build ++ number Build (label (codes "version") ver
 unfoldable pub uptime_family : ℕ → List ℕ
 uptime_family nanos = header Uptime ++ sample (family_name Uptime) [] (seconds nanos)
 
+-- the time since the last beat of the lease that went well began; nothing if there is no lease
+unfoldable pub lease_family : Option ℕ → List ℕ
+lease_family None = []
+lease_family (Some nanos) = header Lease ++ sample (family_name Lease) [] (seconds nanos)
+
 -- one figure of the server
 abbrev pub figure_family : ServerMetrics → ServerFigure → List ℕ
 figure_family s f = header (Server f) ++ number (Server f) [] (figure_of s f)
@@ -219,7 +224,7 @@ tenant_family family lines tenants = header family ++ flat_map lines tenants
 -- the families of the whole server
 unfoldable pub of_server : List ℕ → ServerMetrics → List ℕ
 of_server version s =
-    build_family version ++ uptime_family s.uptime_nanos ++ figure_families s ++ closed_family s.closed
+    build_family version ++ uptime_family s.uptime_nanos ++ lease_family s.lease_nanos ++ figure_families s ++ closed_family s.closed
 
 -- the families that have a sample of each tenant
 unfoldable pub of_tenants : List TenantMetrics → List ℕ

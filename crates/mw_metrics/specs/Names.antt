@@ -1,6 +1,5 @@
 -- Defines what metrics and their labels are called, and what each metric tells.
--- Used by: specs/Figures, the contracts of kinds.rt and families.rt. A change here changes what a scraper reads, and
--- docs/OPERATING with it.
+-- Used by: kinds.rt, families.rt. A change here changes what a scraper reads, and docs/OPERATING with it.
 use Rattle.std.specs.Prelude.{ℕ, List, codes}
 use Rattle.mw_metrics.specs.declared.kinds.RequestKind.{RequestKind}
 use Rattle.mw_metrics.specs.declared.kinds.RequestKind.TheVariants.{Get, Cas, Other}
@@ -15,7 +14,7 @@ use Rattle.mw_metrics.specs.declared.families.TenantGauge.TheVariants.{Words, Qu
 use Rattle.mw_metrics.specs.declared.families.ServerFigure.{ServerFigure}
 use Rattle.mw_metrics.specs.declared.families.ServerFigure.TheVariants.{PoolFree, Served, Waiting, Accepted, PassesInUse, PassWaits, Received, Sent}
 use Rattle.mw_metrics.specs.declared.families.Family.{Family}
-use Rattle.mw_metrics.specs.declared.families.Family.TheVariants.{Build, Uptime, Server, Closed, Tenant, Requests, DeviceFailures, RequestTime, DeviceTime}
+use Rattle.mw_metrics.specs.declared.families.Family.TheVariants.{Build, Uptime, Lease, Server, Closed, Tenant, Requests, DeviceFailures, RequestTime, DeviceTime}
 
 -- the label kind of a request
 unfoldable pub kind_text : RequestKind → List ℕ
@@ -104,6 +103,7 @@ figure_type Sent = codes "counter"
 unfoldable pub family_name : Family → List ℕ
 family_name Build = codes "mondlexi_build_info"
 family_name Uptime = codes "mondlexi_uptime_seconds"
+family_name Lease = codes "mondlexi_lease_age_seconds"
 family_name (Server figure) = figure_name figure
 family_name Closed = codes "mondlexi_connections_closed_total"
 family_name (Tenant gauge) = gauge_name gauge
@@ -116,6 +116,7 @@ family_name DeviceTime = codes "mondlexi_device_seconds"
 unfoldable pub family_help : Family → List ℕ
 family_help Build = codes "The version of the server. The value is always 1."
 family_help Uptime = codes "Seconds since the server started."
+family_help Lease = codes "Seconds since the last beat of the lease that went well began."
 family_help (Server figure) = figure_help figure
 family_help Closed = codes "Connections that were closed, by the reason."
 family_help (Tenant gauge) = gauge_help gauge
@@ -128,6 +129,7 @@ family_help DeviceTime = codes "Seconds of a call of the device of a tenant's fi
 unfoldable pub family_type : Family → List ℕ
 family_type Build = codes "gauge"
 family_type Uptime = codes "gauge"
+family_type Lease = codes "gauge"
 family_type (Tenant _) = codes "gauge"
 family_type (Server figure) = figure_type figure
 family_type Closed = codes "counter"

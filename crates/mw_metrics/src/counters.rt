@@ -1,5 +1,4 @@
-//! Counters that the threads of a server share. A record is one or a few additions: it takes no lock and no memory, and
-//! waits for nobody.
+//! Counters that the threads of a server share. A record is one or a few additions: no lock, no memory, no wait.
 //!
 //! Each figure is what it was when it was read. Figures that are read together may be of different moments.
 
@@ -247,10 +246,16 @@ impl ServerCounters {
         self.sent.add(bytes);
     }
 
-    /// Gives the figures of the server, with these of the moment: the time since its start, in nanoseconds, and how many
-    /// slots of the pool are free.
-    pub fn figures(&self, uptime_nanos: u64, pool_free: u64) -> ServerMetrics
+    /// Gives the figures of the server, with these of the moment: the times since its start and since the beat of
+    /// its lease, in nanoseconds, and how many slots of the pool are free.
+    pub fn figures(
+        &self,
+        uptime_nanos: u64,
+        lease_nanos: Option<u64>,
+        pool_free: u64,
+    ) -> ServerMetrics
         ensures uptime { result.uptime_nanos ≡ uptime_nanos }
+        ensures lease { result.lease_nanos ≡ lease_nanos }
         ensures pool { result.pool_free ≡ pool_free }
     {
         let [
@@ -264,6 +269,7 @@ impl ServerCounters {
         ] = values(&self.closed);
         ServerMetrics {
             uptime_nanos,
+            lease_nanos,
             pool_free,
             served: self.served.get(),
             waiting: self.waiting.get(),

@@ -1,4 +1,6 @@
 //! The families of metrics: what each is called, what it tells, and of which type it is.
+//!
+//! Used by: `samples`, and what writes lines. Change it with `specs/Names`.
 ghost use Rattle.std.specs.Prelude.{◌≡◌, ◌≤◌, length, codes};
 ghost use Rattle.mw_metrics.specs.Names as spec;
 
@@ -31,6 +33,7 @@ pub(crate) enum ServerFigure {
 pub(crate) enum Family {
     Build,
     Uptime,
+    Lease,
     Server(ServerFigure),
     Closed,
     Tenant(TenantGauge),
@@ -198,6 +201,11 @@ impl Family {
             Family::Uptime => Description {
                 name: b"mondlexi_uptime_seconds",
                 help: b"Seconds since the server started.",
+                type_text: b"gauge",
+            },
+            Family::Lease => Description {
+                name: b"mondlexi_lease_age_seconds",
+                help: b"Seconds since the last beat of the lease that went well began.",
                 type_text: b"gauge",
             },
             Family::Server(figure) => figure.description(),

@@ -1,4 +1,6 @@
 //! The figures of a server: those that are counted, and those of the moment.
+//!
+//! Used by: `meters`, `exposition`, mw_server_pages. Change it with `specs/Figures`.
 ghost use Rattle.std.specs.Prelude.{◌≡◌};
 ghost use Rattle.mw_metrics.specs.Figures as spec;
 
@@ -116,6 +118,8 @@ pub struct ClosedCounts {
 pub struct ServerMetrics {
     /// The time since the start, in nanoseconds.
     pub uptime_nanos: u64,
+    /// The time since the last beat of the lease that went well began, in nanoseconds. None: there is no lease.
+    pub lease_nanos: Option<u64>,
     /// How many slots of the pool are free.
     pub pool_free: u64,
     /// How many connections a session serves.

@@ -19,6 +19,7 @@ use arrayvec::ArrayVec;
 use mw_report::{Figures, TenantFigures};
 use mw_words::{Job, MAX_TENANTS, Reply};
 use std::alloc::{AllocError, Global};
+use std::sync::atomic::{AtomicU64, Ordering};
 use std::time::Clock;
 
 /// All counters of one server, and when it started. Threads share it by `&`.
@@ -27,6 +28,8 @@ pub struct Meters {
     tenants: [TenantCounters; MAX_TENANTS],
     server: ServerCounters,
     started: Stopwatch,
+    /// When the last beat of the lease that went well began, in nanoseconds since the start, and 1. 0: there is no lease.
+    beaten: AtomicU64,
 }
 
 impl Meters {
@@ -36,6 +39,7 @@ impl Meters {
             tenants: Default::default(),
             server: ServerCounters::new(),
             started: Stopwatch::start(clock),
+            beaten: AtomicU64::new(0),
         }
     }
 
@@ -59,6 +63,25 @@ impl Meters {
         }
     }
 
+    /// Gives the time since the start, in nanoseconds.
+    pub fn uptime<K: Clock>(&self, clock: &K) -> u64 {
+        self.started.nanos(clock)
+    }
+
+    /// Keeps that a beat of the lease went well, which began so many nanoseconds after the start.
+    pub fn record_beat(&self, began: u64) {
+        self.beaten
+            .store(began.saturating_add(1), Ordering::Relaxed);
+    }
+
+    /// Gives how long ago the last beat of the lease that went well began, in nanoseconds, if there is a lease.
+    pub fn lease_age<K: Clock>(&self, clock: &K) -> Option<u64> {
+        match self.beaten.load(Ordering::Relaxed) {
+            0 => None,
+            beaten => Some(self.uptime(clock).saturating_sub(beaten - 1)),
+        }
+    }
+
     /// Gives the text of all figures in the text format of Prometheus: the version of the server, of at most
     /// [`MAX_LABEL_VALUE`] bytes, what was counted, and these figures of the moment. It has at most [`MAX_METRICS`]
     /// bytes.
@@ -78,9 +101,8 @@ impl Meters {
         ensures short { IfOk result (λ text. length text.items ≤ MAX_METRICS) }
     {
         let Figures { tenants, pool_free } = figures;
-        let server = self
-            .server
-            .figures(self.started.nanos(clock), u64::from(pool_free));
+        let (uptime, lease) = (self.uptime(clock), self.lease_age(clock));
+        let server = self.server.figures(uptime, lease, u64::from(pool_free));
         let tenants = self.counted(alloc, tenants)?;
         metrics_text(alloc, version, &server, &tenants)
     }

@@ -1,4 +1,6 @@
 //! Writes the header of a family of metrics, and the families of the whole server.
+//!
+//! Used by: `exposition`, `tenant_lines`. Change it with `specs/Figures`.
 ghost use Rattle.std.specs.Prelude.{◌≡◌, ◌+◌, ◌*◌, ◌≤◌, [], ◌∷◌, ◌++◌, length};
 ghost use Rattle.mw_metrics.specs.Figures as spec;
 
@@ -14,8 +16,8 @@ use itoa::Buffer;
 /// The most bytes of a family's header.
 pub(crate) const MAX_HEADER: usize = 228;
 
-/// The most bytes of the families of the whole server: 11 headers and 17 samples.
-pub(crate) const MAX_SERVER: usize = 6112;
+/// The most bytes of the families of the whole server: 12 headers and 18 samples.
+pub(crate) const MAX_SERVER: usize = 6552;
 
 /// Puts the two lines before a family's samples.
 #[tactic(auto, unfolding(crate::specs::Figures::header))]
@@ -41,7 +43,7 @@ pub(crate) fn put_header(text: &mut Text, family: Family)
 }
 
 /// Puts the families of the whole server.
-#[tactic(auto, unfolding(crate::specs::Figures::of_server, crate::specs::Figures::build_family, crate::specs::Figures::uptime_family))]
+#[tactic(auto, unfolding(crate::specs::Figures::of_server, crate::specs::Figures::build_family))]
 pub(crate) fn put_server(text: &mut Text, version: &[u8], server: &ServerMetrics)
     requires version { length version.now ≤ MAX_LABEL_VALUE }
     requires room { length text.old.bytes.items + MAX_SERVER ≤ MAX_METRICS }
@@ -50,11 +52,36 @@ pub(crate) fn put_server(text: &mut Text, version: &[u8], server: &ServerMetrics
 {
     put_header(text, Family::Build);
     put_number(text, Family::Build, &one_label(b"version", version), 1);
-    put_header(text, Family::Uptime);
-    let uptime = seconds(server.uptime_nanos);
-    put_plain_sample(text, Family::Uptime.description().name, &uptime);
+    put_uptime(text, server.uptime_nanos);
+    put_lease(text, server.lease_nanos);
     put_figures(text, server);
     put_closed(text, &server.closed);
+}
+
+/// Puts the time since the start.
+#[tactic(auto, unfolding(crate::specs::Figures::uptime_family))]
+fn put_uptime(text: &mut Text, nanos: u64)
+    requires room { length text.old.bytes.items + (MAX_HEADER + MAX_SAMPLE) ≤ MAX_METRICS }
+    ensures family { text.new.bytes.items ≡ text.old.bytes.items ++ spec.uptime_family nanos }
+    ensures room { length text.new.bytes.items ≤ length text.old.bytes.items + (MAX_HEADER + MAX_SAMPLE) }
+{
+    put_header(text, Family::Uptime);
+    let uptime = seconds(nanos);
+    put_plain_sample(text, Family::Uptime.description().name, &uptime);
+}
+
+/// Puts the age of the lease, if there is one.
+#[tactic(auto, unfolding(crate::specs::Figures::lease_family))]
+fn put_lease(text: &mut Text, nanos: Option<u64>)
+    requires room { length text.old.bytes.items + (MAX_HEADER + MAX_SAMPLE) ≤ MAX_METRICS }
+    ensures family { text.new.bytes.items ≡ text.old.bytes.items ++ spec.lease_family nanos }
+    ensures room { length text.new.bytes.items ≤ length text.old.bytes.items + (MAX_HEADER + MAX_SAMPLE) }
+{
+    if let Some(nanos) = nanos {
+        put_header(text, Family::Lease);
+        let age = seconds(nanos);
+        put_plain_sample(text, Family::Lease.description().name, &age);
+    }
 }
 
 /// Puts each figure of the server that has no label.

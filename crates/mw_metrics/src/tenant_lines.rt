@@ -1,4 +1,6 @@
 //! Writes the families of metrics that have a sample of each tenant.
+//!
+//! Used by: `exposition`. Change it with `specs/TenantLines`.
 ghost use Rattle.std.specs.Prelude.{◌≡◌, ◌+◌, ◌*◌, ◌≤◌, [], ◌∷◌, ◌++◌, length, codes, flat_map};
 ghost use Rattle.mw_words.specs.declared.limits.TheConstants.{MAX_TENANTS};
 ghost use Rattle.mw_metrics.specs.Figures as spec;
@@ -79,7 +81,7 @@ fn put_tenant(text: &mut Text, family: Family, tenant: &TenantMetrics)
         Family::DeviceFailures => put_failures(text, tenant),
         Family::RequestTime => put_request_times(text, tenant),
         Family::DeviceTime => put_call_times(text, tenant),
-        Family::Build | Family::Uptime | Family::Server(_) | Family::Closed => {}
+        Family::Build | Family::Uptime | Family::Lease | Family::Server(_) | Family::Closed => {}
     }
 }
 

@@ -6,7 +6,7 @@ ghost use Rattle.mw_metrics.specs.declared.text.TheConstants.{MAX_METRICS};
 use std::alloc::{AllocError, Global};
 
 /// The most bytes of the text of all figures: those of the server, and those of all tenants.
-pub const MAX_METRICS: usize = 415_432;
+pub const MAX_METRICS: usize = 415_872;
 
 /// A text under way.
 #[derive(Drop)]

@@ -1,9 +1,9 @@
 //! Opens what a server needs before it serves: the tenants file, and each tenant's own file under a lock.
 //!
-//! [`read_tenants_file`] reads the tenants, and [`open_parts`] opens their files, each on a disk that [`LockedFiles`]
-//! opens, and makes an engine's parts of them. [`sync_folders`] syncs the folders of those that opened. Such a file is a
-//! [`WatchedFile`], which times its calls and counts them, and keeps in a [`FileState`] what is known of it. [`open_plain`]
-//! opens a file only if it is plain. [`Notes`] writes notes.
+//! [`read_tenants_file`] reads the tenants. [`open_parts`] opens their files, each on a disk that [`LockedFiles`]
+//! opens, and makes an engine's parts of them. [`sync_folders`] syncs their folders. Such a file is a
+//! [`WatchedFile`], which times its calls and counts them, and keeps in a [`FileState`] what is known of it.
+//! [`open_plain`] opens a file only if it is plain. [`Notes`] writes notes.
 //!
 //! Used by: mw_programs. docs/OPERATING lists the notes and says which files a server opens: change them together.
 #![tactic(auto)]
@@ -12,6 +12,7 @@ mod file_fault;
 mod file_state;
 mod folders;
 mod last_error;
+mod lease_file;
 mod notes;
 mod opened_parts;
 mod opening;
@@ -23,6 +24,7 @@ pub use file_fault::FileFault;
 pub use file_state::{FRONT, FileState, FileStates, SeenFile};
 pub use folders::sync_folders;
 pub use last_error::LastError;
+pub use lease_file::{LeaseFault, LeaseFile};
 pub use notes::{NoteForm, Notes, note_cause, note_place, note_why};
 pub use opened_parts::{OpenedParts, are_all_open, open_parts};
 pub use opening::{TenantsFault, read_tenants_file};

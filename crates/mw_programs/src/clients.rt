@@ -1,9 +1,9 @@
 //! Serves the clients that come to the addresses of a server, each by a service that is free.
 //!
-//! Used by: `services`, which makes them. docs/OPERATING tells what it prints and its notes: change
-//! both together.
+//! Used by: `services`. Change it with docs/OPERATING, which has what it prints and its notes.
 ghost use Rattle.std.specs.Prelude.{◌<◌, vec_len};
 
+use crate::beats::{HeldLease, LeaseLook};
 use crate::doors::{AdminDoor, ClientDoors, Doors, PagesDoor, open_doors};
 use crate::pages::show_pages;
 use crate::replaced::{FileLook, PERIOD, Stop, look_on};
@@ -11,7 +11,7 @@ use crate::room_notes::RoomNotes;
 use crate::serving::ServeFault;
 use log::Log;
 use mw_config::Listening;
-use mw_connections::{ClientListener, MeteredListener, Patient};
+use mw_connections::{ClientListener, Lease, MeteredListener, Patient};
 use mw_metrics::Meters;
 use mw_server_pages::Pages;
 use mw_session::Service;
@@ -33,6 +33,18 @@ pub(crate) struct Server<'e, R, L, T> {
     /// Is told of each request that is answered FAULT, and looks at the tenants' files.
     pub(crate) watch: &'e T,
     pub(crate) meters: &'e Meters,
+    /// The lease that it has taken, if it has to have one.
+    pub(crate) held: Option<&'e HeldLease<'e>>,
+}
+
+impl<'e, R, L, T> Server<'e, R, L, T> {
+    /// Gives what replies ask before they tell of words.
+    fn lease(&self) -> Option<&'e Lease> {
+        match self.held {
+            Some(held) => Some(held.lease()),
+            None => None,
+        }
+    }
 }
 
 /// Opens the addresses of a server, writes to `out` where it listens, and serves clients, each by one of these services. If
@@ -64,10 +76,11 @@ where
 {
     let (rt, counters) = (server.rt, server.meters.server());
     let doors = open_doors(rt, server.listening, out, server.notes, counters)?;
-    serve_watched(server, doors, services, pages)
+    serve_watched(server, doors.with_lease(server.lease()), services, pages)
 }
 
-/// Serves clients and shows the pages, while a thread looks at the tenants' files.
+/// Serves clients and shows the pages, while a thread looks at the tenants' files, and another one beats the lease, if there is
+/// one.
 fn serve_watched<
     'e,
     S: Service + Send + Drop,
@@ -85,7 +98,14 @@ fn serve_watched<
 {
     let stop = Stop::new();
     let stop = &stop;
-    let (rt, watch) = (server.rt, server.watch);
+    let rt = server.rt;
+    let look = LeaseLook {
+        rt,
+        notes: server.notes,
+        held: server.held,
+        files: server.watch,
+    };
+    let look = &look;
     thread::scope(
         thread::scope_env(),
         rt,
@@ -93,10 +113,16 @@ fn serve_watched<
             requires { 0 < vec_len services }
         {
             if scope
-                .spawn(move || look_on(rt, watch, PERIOD, stop))
+                .spawn(move || look_on(rt, look, PERIOD, stop))
                 .is_err()
             {
                 return Err(ServeFault::Memory);
+            }
+            if let Some(held) = server.held {
+                if scope.spawn(move || held.beat_on(rt, stop)).is_err() {
+                    stop.ask(rt);
+                    return Err(ServeFault::Memory);
+                }
             }
             let ended = serve_and_show(server, doors, services, pages);
             stop.ask(rt);

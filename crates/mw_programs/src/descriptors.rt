@@ -36,22 +36,23 @@ fn needed_to_wait(is_limited: bool) -> u64
 
 /// Gives how many descriptors a server needs: for the standard streams, the tenants' files and a look at them, the listener,
 /// each connection that is served at once, and the connections that wait for a session, for ever or for a limited time. With an address for
-/// the administrator it needs more, and with one for the pages too.
+/// the administrator it needs more, and with one for the pages too. A lease needs one.
 pub(crate) fn needed(
     tenants: usize,
     served: u16,
     is_limited: bool,
     has_admin: bool,
     has_pages: bool,
+    has_lease: bool,
 ) -> u64
     requires { tenants ≤ MAX_TENANTS }
-    ensures { result ≡ needed tenants served is_limited has_admin has_pages }
+    ensures { result ≡ needed tenants served is_limited has_admin has_pages has_lease }
 {
     let connections = u64::from(served) + needed_to_wait(is_limited);
     let clients = STREAMS + tenants as u64 + FOR_LOOKS + 1 + connections;
     let admin = if has_admin { FOR_ADMIN } else { 0 };
     let pages = if has_pages { FOR_PAGES } else { 0 };
-    clients + admin + pages
+    clients + admin + pages + u64::from(has_lease)
 }
 
 /// How large the stack of a thread must be, in bytes. The system gives each the limit of the stack.

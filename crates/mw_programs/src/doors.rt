@@ -8,7 +8,7 @@ use crate::serving::ServeFault;
 use log::{Log, error, warn};
 use mw_config::Listening;
 use mw_connections::{
-    BriefListener, ClientListener, Closer, TimeLimits, listen_at, listen_briefly, port_of,
+    BriefListener, ClientListener, Closer, Lease, TimeLimits, listen_at, listen_briefly, port_of,
 };
 use mw_metrics::ServerCounters;
 use mw_opening::{note_place, note_why};
@@ -23,6 +23,35 @@ use std::rt::Files;
 pub(crate) struct Doors<'e, R> {
     pub(crate) clients: ClientDoors<'e, R>,
     pub(crate) pages: Option<PagesDoor<'e, R>>,
+}
+
+impl<'e, R> Doors<'e, R> {
+    /// Has all replies and pages need this lease. None: they need none.
+    pub(crate) fn with_lease(self, lease: Option<&'e Lease>) -> Self {
+        let (clients, pages) = (self.clients, self.pages);
+        Doors {
+            clients: ClientDoors {
+                all: clients.all.with_lease(lease),
+                port: clients.port,
+                admin: match clients.admin {
+                    Some(door) => Some(AdminDoor {
+                        address: door.address,
+                        listener: door.listener.with_lease(lease),
+                        port: door.port,
+                        closer: door.closer,
+                    }),
+                    None => None,
+                },
+            },
+            pages: match pages {
+                Some(door) => Some(PagesDoor {
+                    listener: door.listener.with_lease(lease),
+                    end: door.end,
+                }),
+                None => None,
+            },
+        }
+    }
 }
 
 /// The address for clients, and the one for the administrator if there is one.

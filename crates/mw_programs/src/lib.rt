@@ -3,10 +3,12 @@
 //! Used by: mwserve, mw_examples. docs/OPERATING describes the program for users: change them together.
 #![tactic(auto)]
 
+mod beats;
 mod clients;
 mod copies;
 mod descriptors;
 mod doors;
+mod ending;
 mod pages;
 mod prompt;
 mod replaced;
@@ -15,6 +17,7 @@ mod services;
 mod serving;
 mod tenants;
 
+pub use ending::{ServedApart, ServerEnd, ends_on_failure};
 pub use prompt::PromptErrors;
 pub use replaced::SeesPaths;
 pub use serving::serve;

@@ -1,8 +1,7 @@
-//! Looks, while clients are served, whether each tenant's path still leads to the file that was opened, as long as it must be
-//! and with the same front.
+//! Looks, while clients are served, whether each tenant's path still leads to the file that was opened, as long as it
+//! must be and with the same front.
 //!
-//! `clients` has it done once a second, by a thread; `tenants` writes the notes. docs/OPERATING tells what comes of a
-//! file that was replaced: change both together.
+//! Used by: `clients`, once a second; `tenants` writes the notes. Change it with docs/OPERATING.
 ghost use Rattle.std.specs.Prelude.{◌≡◌, ◌↔◌, false};
 ghost use Rattle.mw_programs.specs.Replaced.{LeadsTo};
 
@@ -45,7 +44,7 @@ impl Stop {
     }
 
     /// Waits until it is asked for, or this time has passed. Gives whether it was asked for.
-    fn comes_within<R: Wait + Clock>(&self, rt: &R, time: Duration) -> bool {
+    pub(crate) fn comes_within<R: Wait + Clock>(&self, rt: &R, time: Duration) -> bool {
         let is_asked = self.is_asked.lock(rt);
         let waited = self
             .asked

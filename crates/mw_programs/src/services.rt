@@ -1,11 +1,12 @@
-//! Makes the services that answer clients: a worker for each pass, or with `--clients` a borrower for each client. Makes the
-//! pages too, with `--http`, and has the requests counted for them.
+//! Makes the services that answer clients: a worker for each pass, or with `--clients` a borrower for each client;
+//! and the pages, with `--http`.
 //!
-//! Used by: `serving`, if the command line says `--listen`. docs/OPERATING tells how many of each there are: change both
-//! together.
+//! Used by: `serving`, for `--listen`. Change it with docs/OPERATING.
 ghost use Rattle.std.specs.Prelude.{ℕ, ◌≡◌, ◌≤◌, ◌<◌, ◌+◌, All, IfOk, IfSome, is_some, if◌then◌else◌, vec_len};
 ghost use Rattle.mw_engine.specs.Passes.{IsNew};
+ghost use Rattle.mw_service.specs.TokenTables.{table_of};
 
+use crate::beats::HeldLease;
 use crate::clients::{Server, serve_clients};
 use crate::copies::EngineFiles;
 use crate::pages::version;
@@ -17,10 +18,14 @@ use mw_disk::Disk;
 use mw_engine::{Engine, EngineBrand, NoHold, Pass};
 use mw_metrics::{Meters, ServerCounters};
 use mw_server_pages::{Capacity, Pages, ServerPages};
-use mw_service::{Borrower, FaultWatch, MeteredService, PassPool, ReadPool, Worker};
+use mw_service::{
+    Borrower, FaultWatch, MeteredService, NewTokenTable, PassPool, ReadPool, TokenBrand,
+    TokenTable, Worker,
+};
 use std::alloc::AllocError;
 use std::fs::File;
 use std::io::Write;
+use std::marker::Brand;
 use std::net::{Net, TcpListener, TcpStream};
 use std::rt::Files;
 use std::sync::Wait;
@@ -53,6 +58,7 @@ pub(crate) fn serve_all_clients<
     notes: &'e L,
     watch: &'e T,
     meters: &'e Meters,
+    held: Option<&'e HeldLease<'e>>,
 ) -> Result<(), ServeFault>
 where
     J: EngineBrand + Send + Sync,
@@ -77,6 +83,7 @@ where
         notes,
         watch,
         meters,
+        held,
     };
     match &listening.shared {
         None => {
@@ -118,10 +125,50 @@ where
     requires new { All (IsNew J.identity) passes.items }
     requires clients { 1 ≤ shared.clients }
 {
+    let made = NewTokenTable::new(server.rt.alloc())?;
+    serve_borrowers::<J, Brand, _, _, _, _, _, _>(server, engine, made, passes, pages, shared, out)
+}
+
+/// The same, with the table of the tokens of all borrowers' requests.
+fn serve_borrowers<
+    'e,
+    J,
+    K: TokenBrand + Send + Sync,
+    D: Disk + Drop + Send + Sync,
+    R,
+    O: Write,
+    L: Log + Sync,
+    P: Pages + Send + Drop,
+    T: FaultWatch + FileLook + Sync,
+>(
+    server: &Server<'e, R, L, T>,
+    engine: &'e Engine<J, D, NoHold>,
+    made: NewTokenTable,
+    passes: Vec<Pass>,
+    pages: Option<P>,
+    shared: SharedWorkers,
+    out: &mut O,
+) -> Result<(), ServeFault>
+where
+    J: EngineBrand + Send + Sync,
+    R: Files<File = File>
+        + AllocGlobal
+        + Net<Listener = TcpListener, Stream = TcpStream>
+        + Threads
+        + Wait
+        + Clock
+        + Sync,
+    requires named { table_of made ≡ K.table }
+    requires new { All (IsNew J.identity) passes.items }
+    requires clients { 1 ≤ shared.clients }
+{
     let (rt, listening) = (server.rt, server.listening);
     let meter = counted(listening, server.meters);
-    let pools = Pools::new(rt, passes, shared.readers, listening.admin.is_some(), meter)?;
-    let borrowers = borrowers_for(rt, engine, &pools, shared.clients, server.watch, meter)?;
+    let tokens = made.named::<K>();
+    let has_admin = listening.admin.is_some();
+    let pools = Pools::new(rt, &tokens, passes, shared.readers, has_admin, meter)?;
+    let clients = shared.clients;
+    let borrowers = borrowers_for(rt, engine, &tokens, &pools, clients, server.watch, meter)?;
     serve_clients(server, borrowers, pages, out)
 }
 
@@ -202,22 +249,24 @@ fn workers_for<'a, J: EngineBrand, D: Disk, H, R: AllocGlobal, T>(
 
 /// The passes that clients borrow.
 #[derive(Drop)]
-struct Pools<'a, J: EngineBrand> {
-    reads: ReadPool<J>,
-    changes: PassPool<'a, J>,
+struct Pools<'a, J: EngineBrand, K: TokenBrand> {
+    reads: ReadPool<J, K>,
+    changes: PassPool<'a, J, K>,
     /// The administrator's own.
-    admin: Option<PassPool<'a, J>>,
+    admin: Option<PassPool<'a, J, K>>,
 }
 
-impl<'a, J: EngineBrand> Pools<'a, J> {
+impl<'a, J: EngineBrand, K: TokenBrand> Pools<'a, J, K> {
     /// Makes the pools of these passes, which the meters count, if there are any. If there is an address for the administrator, the last pass is for its clients.
     /// Of the others so many are for reads, but at least one is left for changes.
     ///
     /// # Errors
     ///
-    /// [`AllocError`] if memory is out, or there are too few passes. They are dropped.
+    /// [`AllocError`] if memory is out, there are too few passes, or the source of a worker's tokens was given before. They are
+    /// dropped.
     fn new<R: AllocGlobal + Wait>(
         rt: &R,
+        tokens: &TokenTable<K>,
         passes: Vec<Pass>,
         readers: u8,
         has_admin: bool,
@@ -230,13 +279,13 @@ impl<'a, J: EngineBrand> Pools<'a, J> {
         let (mut passes, mut admin) = (passes, None);
         if has_admin {
             let own = cut::<J>(&mut passes, 1)?;
-            admin = Some(pool_of(rt, own, counters)?);
+            admin = Some(pool_of(rt, tokens, own, counters)?);
         }
         let most = passes.len().saturating_sub(1);
         let reads = cut::<J>(&mut passes, most.min(usize::from(readers)))?;
         Ok(Pools {
-            reads: read_pool_of(rt, reads)?,
-            changes: pool_of(rt, passes, counters)?,
+            reads: read_pool_of(rt, tokens, reads)?,
+            changes: pool_of(rt, tokens, passes, counters)?,
             admin,
         })
     }
@@ -270,35 +319,37 @@ fn cut<J: EngineBrand>(passes: &mut Vec<Pass>, count: usize) -> Result<Vec<Pass>
 ///
 /// # Errors
 ///
-/// [`AllocError`] if memory is out, or there is no pass.
-fn pool_of<'a, J: EngineBrand, R: AllocGlobal + Wait>(
+/// [`AllocError`] if memory is out, there is no pass, or the source of a worker's tokens was given before.
+fn pool_of<'a, J: EngineBrand, K: TokenBrand, R: AllocGlobal + Wait>(
     rt: &R,
+    tokens: &TokenTable<K>,
     passes: Vec<Pass>,
     counters: Option<&'a ServerCounters>,
-) -> Result<PassPool<'a, J>, AllocError>
+) -> Result<PassPool<'a, J, K>, AllocError>
     requires new { All (IsNew J.identity) passes.items }
 {
     if passes.is_empty() {
         return Err(AllocError);
     }
-    PassPool::new(rt, rt.alloc(), passes, counters)
+    PassPool::new(rt, rt.alloc(), tokens, passes, counters)
 }
 
 /// Makes a pool of these passes that only read.
 ///
 /// # Errors
 ///
-/// [`AllocError`] if memory is out, or there is no pass.
-fn read_pool_of<J: EngineBrand, R: AllocGlobal>(
+/// [`AllocError`] if memory is out, there is no pass, or the source of a worker's tokens was given before.
+fn read_pool_of<J: EngineBrand, K: TokenBrand, R: AllocGlobal>(
     rt: &R,
+    tokens: &TokenTable<K>,
     passes: Vec<Pass>,
-) -> Result<ReadPool<J>, AllocError>
+) -> Result<ReadPool<J, K>, AllocError>
     requires new { All (IsNew J.identity) passes.items }
 {
     if passes.is_empty() {
         return Err(AllocError);
     }
-    ReadPool::new(rt.alloc(), passes)
+    ReadPool::new(rt.alloc(), tokens, passes)
 }
 
 /// Makes a borrower for each client that is served at once, and one more for the administrator, if there are passes for
@@ -307,14 +358,15 @@ fn read_pool_of<J: EngineBrand, R: AllocGlobal>(
 /// # Errors
 ///
 /// [`AllocError`] if memory is out.
-fn borrowers_for<'a, J: EngineBrand, D: Disk, H, R: AllocGlobal, T>(
+fn borrowers_for<'a, J: EngineBrand, K: TokenBrand, D: Disk, H, R: AllocGlobal, T>(
     rt: &'a R,
     engine: &'a Engine<J, D, H>,
-    pools: &'a Pools<'a, J>,
+    tokens: &'a TokenTable<K>,
+    pools: &'a Pools<'a, J, K>,
     clients: u16,
     watch: &'a T,
     meters: Option<&'a Meters>,
-) -> Result<Vec<MeteredService<'a, Borrower<'a, J, D, H, R, T>, R>>, AllocError>
+) -> Result<Vec<MeteredService<'a, Borrower<'a, J, K, D, H, R, T>, R>>, AllocError>
     ensures { IfOk result (λ made. vec_len made ≡ clients + (if is_some pools.now.admin then 1 else 0)) }
 {
     let mut made = Vec::with_capacity(rt.alloc(), usize::from(clients) + 1)?;
@@ -322,6 +374,7 @@ fn borrowers_for<'a, J: EngineBrand, D: Disk, H, R: AllocGlobal, T>(
         let borrower = Borrower::new(
             made.len(),
             engine,
+            tokens,
             Some(&pools.reads),
             &pools.changes,
             rt,
@@ -335,7 +388,7 @@ fn borrowers_for<'a, J: EngineBrand, D: Disk, H, R: AllocGlobal, T>(
         }
     }
     if let Some(own) = &pools.admin {
-        let borrower = Borrower::new(0, engine, None, own, rt, watch);
+        let borrower = Borrower::new(0, engine, tokens, None, own, rt, watch);
         if made
             .push(MeteredService::new(borrower, rt, meters))
             .is_err()

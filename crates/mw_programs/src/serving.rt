@@ -11,7 +11,9 @@ ghost use Rattle.mw_engine.specs.Parts.{identity_of};
 ghost use Rattle.mw_opening.specs.MadeOfOpened.{AreMadeOfOpened};
 ghost use Rattle.mw_programs.specs.WorkerCount.{one_for, own_workers, served_count, worker_count};
 
+use crate::beats::HeldLease;
 use crate::descriptors::{has_descriptors, has_stack, needed};
+use crate::ending::ServerEnd;
 use crate::replaced::{FileLook, SeesPaths};
 use crate::services::{counted, serve_all_clients};
 use crate::tenants::TenantNotes;
@@ -76,7 +78,8 @@ impl From<AllocError> for ServeFault {
 /// The form is `mwserve --tenants FILE [--pool P] [--workers N] [--strict] [--verbose] [--journal] [--times]`, with one of these:
 /// - `--script FILE` runs one session from the script to `out`.
 /// - `--listen ADDR [--admin ADDR] [--http ADDR [--http-name NAME ..]] [--connections C] [--clients M [--readers R]]
-///   [--wait SECONDS] [--idle SECONDS] [--line-time SECONDS] [--faults F] [--open] [--mode MODE]` writes `ready PORT`, or
+///   [--wait SECONDS] [--idle SECONDS] [--line-time SECONDS] [--faults F] [--end-on-failure]
+///   [--lease FILE --lease-time SECONDS] [--open] [--mode MODE]` writes `ready PORT`, or
 ///   `ready unix:PATH`, to `out`. Then N workers serve clients, or M clients share the N workers' passes, until C connections are
 ///   served. With `--admin`,
 ///   one worker more is for the clients of that address, if N is below [`MAX_WORKERS`]; else one of the N is. `admin
@@ -96,7 +99,16 @@ impl From<AllocError> for ServeFault {
 /// `ready` how many tenants are down, and writes a note on each tenant whose file is replaced, one if the limit of descriptors
 /// is too low, and one for each address at which other machines may connect, if `--open` wasn't given. No note keeps a client waiting, if no write to `err`
 /// waits. The files stay locked until it returns.
-pub fn serve<R, O: Write, E: Write + Send>(rt: &R, args: &[String], out: &mut O, err: &mut E) -> u8
+///
+/// With `--end-on-failure` it gives `end` the exit status 3 after a note on a tenant whose file fails, or is given up, while
+/// it is served. It goes on, and whoever waits for `end` ends the program.
+pub fn serve<R, O: Write, E: Write + Send>(
+    rt: &R,
+    args: &[String],
+    out: &mut O,
+    err: &mut E,
+    end: &ServerEnd,
+) -> u8
 where
     R: Files<File = File>
         + AllocGlobal
@@ -117,7 +129,7 @@ where
         times: args.times,
     };
     let notes = Notes::new(rt, err, form);
-    let status = match serve_args(rt, args, out, &notes) {
+    let status = match serve_args(rt, args, out, &notes, end) {
         Ok(()) => 0,
         Err(fault) => fault.tell(&notes),
     };
@@ -149,26 +161,29 @@ fn refuse<O: Write, E: Write>(fault: &ArgFault, out: &mut O, err: &mut E) -> u8 
 
 /// What a server is started with.
 #[derive(Drop)]
-struct Setup {
+struct Setup<'a> {
     /// What the command line asks for.
     args: Args,
     /// The tenants of the tenants file.
     lines: ArrayVec<TenantLine, MAX_TENANTS>,
+    /// The end of the server.
+    end: &'a ServerEnd,
 }
 
-impl Setup {
+impl<'a> Setup<'a> {
     /// Reads the tenants file that the arguments name. Writes a note if it is refused.
     fn read<R: Files<File = File>, L: Log>(
         rt: &R,
         args: Args,
         notes: &L,
+        end: &'a ServerEnd,
     ) -> Result<Self, ServeFault>
         requires { ArePermittedArgs args }
         ensures args { IfOk result (λ setup. ArePermittedArgs setup.args) }
         ensures lines { IfOk result (λ setup. ArePermitted setup.args.pool setup.lines.items) }
     {
         match read_tenants_file(rt, args.tenants.as_str(), args.pool) {
-            Ok(lines) => Ok(Setup { args, lines }),
+            Ok(lines) => Ok(Setup { args, lines, end }),
             Err(fault) => {
                 fault.tell(notes, args.tenants.as_str());
                 Err(ServeFault::Refused)
@@ -184,6 +199,7 @@ fn serve_args<R, O: Write, L: Log + Sync>(
     args: Args,
     out: &mut O,
     notes: &L,
+    end: &ServerEnd,
 ) -> Result<(), ServeFault>
 where
     R: Files<File = File>
@@ -199,7 +215,7 @@ where
     if !has_stack_for(notes, &args.mode) {
         return Err(ServeFault::Failed);
     }
-    let setup = Setup::read(rt, args, notes)?;
+    let setup = Setup::read(rt, args, notes, end)?;
     let (states, meters) = (FileStates::new(), Meters::new(rt));
     let disks = LockedFiles::new(rt, &states, counted_in(&setup.args.mode, &meters));
     let opened = open_parts(
@@ -246,6 +262,7 @@ fn has_room<L: Log>(notes: &L, args: &Args, tenants: usize) -> bool
                 listening.wait.is_some(),
                 listening.admin.is_some(),
                 listening.http.is_some(),
+                listening.lease.is_some(),
             );
             has_descriptors(notes, needed)
         }
@@ -277,7 +294,7 @@ fn for_further(listening: &Listening) -> u8
 /// leaves room.
 fn serve_opened<D: Disk + Drop + Send + Sync, P: OpensDisks<Device = D>, R, O: Write, L>(
     rt: &R,
-    setup: &Setup,
+    setup: &Setup<'_>,
     opened: OpenedParts<D, NoHold>,
     out: &mut O,
     notes: &L,
@@ -312,9 +329,26 @@ where
     }
     let OpenedParts { are_open, made } = opened;
     sync_folders(rt, notes, lines, &are_open);
-    let watch = TenantNotes::new(rt, notes, lines, states, meters, &are_open, args.strict);
+    let watch = TenantNotes::new(
+        rt,
+        notes,
+        lines,
+        states,
+        meters,
+        &are_open,
+        args.strict,
+        end_on_failure(setup),
+    );
     let (parts, passes) = made?;
     serve_engine::<Brand, _, _, _, _, _>(rt, parts, passes, args, out, notes, &watch, meters)
+}
+
+/// Gives the end of a server that ends when a tenant's file fails.
+fn end_on_failure<'a>(setup: &Setup<'a>) -> Option<&'a ServerEnd> {
+    match &setup.args.mode {
+        Mode::Listen(listening) if listening.end_on_failure => Some(setup.end),
+        _ => None,
+    }
 }
 
 /// Writes a note on how many tenants are down, if some are.
@@ -385,7 +419,14 @@ where
     match &args.mode {
         Mode::Script(path) => run_script(rt, &engine, passes, path.as_str(), out, notes, watch),
         Mode::Listen(listening) => {
-            serve_all_clients(rt, &engine, passes, listening, out, notes, watch, meters)
+            let held = match &listening.lease {
+                Some(terms) => Some(HeldLease::take(rt, terms, meters, notes)?),
+                None => None,
+            };
+            let held = held.as_ref();
+            serve_all_clients(
+                rt, &engine, passes, listening, out, notes, watch, meters, held,
+            )
         }
     }
 }

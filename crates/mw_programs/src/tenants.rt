@@ -1,10 +1,11 @@
 //! Writes a note, once, on each tenant whose file fails while it is served, and on each whose file is replaced.
 //!
-//! `serving` makes the notes. mw_service tells of each FAULT. `clients` has the files looked at.
-//! docs/OPERATING tells the notes' texts: change both together.
+//! `serving` makes the notes, mw_service tells of each FAULT, and `clients` has the files looked at. Change it with
+//! docs/OPERATING.
 ghost use Rattle.std.specs.Prelude.{◌<◌};
 ghost use Rattle.mw_words.specs.declared.limits.TheConstants.{MAX_TENANTS};
 
+use crate::ending::{FILE_LOST, ServerEnd};
 use crate::replaced::{FileLook, SeesPaths, leads_elsewhere};
 use log::{Log, error};
 use mw_config::TenantLine;
@@ -25,6 +26,8 @@ pub struct TenantNotes<'r, 'n, 'l, 'e, L, R> {
     meters: &'e Meters,
     /// Whether a file that was replaced is given up.
     strict: bool,
+    /// The end of a server that ends when a file has failed or was given up.
+    end: Option<&'e ServerEnd>,
     /// The tenants on which it was written already that they are down.
     told: Mutex<[bool; MAX_TENANTS]>,
     /// The tenants whose files are no longer looked at: they didn't open, or were replaced.
@@ -33,7 +36,8 @@ pub struct TenantNotes<'r, 'n, 'l, 'e, L, R> {
 
 impl<'r, 'n, 'l, 'e, L: Log, R: Wait> TenantNotes<'r, 'n, 'l, 'e, L, R> {
     /// Makes the notes on the tenants with these lines. A tenant whose file isn't open has its note
-    /// already. If it is strict, a file that was replaced is given up. The meters are told of it.
+    /// already. If it is strict, a file that was replaced is given up. The meters are told of it. If there is an end, it is
+    /// given a status after the note on a file that has failed or was given up.
     pub fn new(
         rt: &'r R,
         notes: &'n L,
@@ -42,6 +46,7 @@ impl<'r, 'n, 'l, 'e, L: Log, R: Wait> TenantNotes<'r, 'n, 'l, 'e, L, R> {
         meters: &'e Meters,
         are_open: &[bool],
         strict: bool,
+        end: Option<&'e ServerEnd>,
     ) -> Self {
         let mut told = [false; MAX_TENANTS];
         for (told, is_open) in told.iter_mut().zip(are_open) {
@@ -54,6 +59,7 @@ impl<'r, 'n, 'l, 'e, L: Log, R: Wait> TenantNotes<'r, 'n, 'l, 'e, L, R> {
             states,
             meters,
             strict,
+            end,
             told: Mutex::new(told),
             left_out: Mutex::new(told),
         }
@@ -85,6 +91,14 @@ impl<L: Log, R: Wait> TenantNotes<'_, '_, '_, '_, L, R> {
         self.meters.tenant(tenant).record_replaced(self.strict);
     }
 
+    /// Ends the server, if it ends when a file has failed or was given up. Notes that wait are tried once more before.
+    fn end(&self) {
+        if let Some(end) = self.end {
+            self.notes.flush();
+            end.end(self.rt, FILE_LOST);
+        }
+    }
+
     /// Writes that the file of the tenant with this line was replaced.
     fn tell_replaced(&self, line: &TenantLine) {
         let name = str::from_utf8(&line.name).unwrap_or("?");
@@ -103,6 +117,7 @@ impl<L: Log, R: Wait> FaultWatch for TenantNotes<'_, '_, '_, '_, L, R> {
         all_told[tenant] = true;
         if let Some(line) = self.lines.get(tenant) {
             self.tell(tenant, line);
+            self.end();
         }
     }
 }
@@ -120,6 +135,9 @@ impl<L: Log, R: Wait + SeesPaths> FileLook for TenantNotes<'_, '_, '_, '_, L, R>
                 all_left_out[tenant] = true;
                 self.keep_replaced(tenant, state);
                 self.tell_replaced(line);
+                if self.strict {
+                    self.end();
+                }
             }
         }
     }

@@ -1,6 +1,6 @@
 -- Defines what a server shows at each place, by the figures that its service gives then, or by a copy of a tenant's file.
--- Used by: the contracts of server_pages.rt. A change here changes what operators see: docs/HTTP changes with it.
-use Rattle.std.specs.Prelude.{◌≡◌, ℕ, ◌⊎◌, true, List, [], map, Vec, None, Result, Ok, Err, if◌then◌else◌}
+-- Used by: server_pages.rt. A change here changes what operators see: docs/HTTP changes with it.
+use Rattle.std.specs.Prelude.{◌≡◌, ℕ, ◌⊎◌, true, List, [], map, Vec, Option, None, Result, Ok, Err, if◌then◌else◌}
 use Rattle.std.specs.declared.alloc.Global.{Global}
 use Rattle.std.specs.declared.alloc.AllocError.{AllocError}
 use Rattle.std.specs.List.{list_all}
@@ -69,14 +69,15 @@ IsHealth figures page = IsHealthBy figures page ⊎ IsError page
 abbrev pub IsMetrics : List ℕ → Figures → Page → Type 0
 IsMetrics version figures page = IsPageOrError status.Ok kind.Metrics (λ body. IsTextOf version figures body) page
 
--- the status page, of a server that is up for some seconds, of its tenants with these figures, with some limits and some curves
+-- the status page, of a server that is up for some seconds and has a lease of some age or none, of its tenants with these figures, with some limits and some curves
 pub record IsStatusText (version : List ℕ) (figures : Figures) (body : List ℕ) : Type 0 where
   pub seconds : ℕ
+  pub lease : Option ℕ
   pub tenants : List TenantMetrics
   pub same : map figures_of tenants ≡ figures.tenants.items
   pub limits : List Limit
   pub recents : List Recent
-  pub is : body ≡ status_page.page version seconds tenants limits recents figures.pool_free
+  pub is : body ≡ status_page.page version seconds lease tenants limits recents figures.pool_free
 
 -- the status page, or an error if there was no memory for it
 abbrev pub IsStatus : List ℕ → Figures → Page → Type 0

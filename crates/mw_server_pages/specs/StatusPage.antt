@@ -1,6 +1,6 @@
 -- Defines the status page: HTML. How it looks and its script are constants of their own.
--- Used by: the contracts of status.rt and tenant_rows.rt. A change here changes what the browser shows.
-use Rattle.std.specs.Prelude.{ℕ, ◌++◌, List, [], flat_map, codes, decimal, if◌then◌else◌}
+-- Used by: status.rt, tenant_rows.rt. A change here changes what the browser shows.
+use Rattle.std.specs.Prelude.{ℕ, ◌++◌, List, [], flat_map, codes, decimal, Option, Some, None, if◌then◌else◌}
 use Rattle.std.specs.List.{list_all}
 use Rattle.mw_metrics.specs.declared.figures.TenantMetrics.{TenantMetrics}
 use Rattle.mw_server_pages.specs.declared.limits.Limit.{Limit}
@@ -20,6 +20,11 @@ front =
 -- the version, and how long the server is up
 unfoldable pub about : List ℕ → ℕ → List ℕ
 about version seconds = codes "<p>Version " ++ escaped version ++ codes ", up for " ++ span seconds ++ codes ".</p>\n"
+
+-- how old the last beat of the lease is that went well; nothing if there is no lease
+unfoldable pub lease_line : Option ℕ → List ℕ
+lease_line None = []
+lease_line (Some seconds) = codes "<p>Seconds since the last beat of the lease began: " ++ decimal seconds ++ codes ".</p>\n"
 
 -- the name and the state of a tenant that is not well, after a space
 unfoldable pub unwell_name : TenantMetrics → List ℕ
@@ -60,6 +65,6 @@ end pool_free =
     ++ codes ".</p>\n</div>\n<p><a href=\"metrics\">Figures for Prometheus</a>, <a href=\"healthz\">health</a></p>\n</body>\n</html>\n"
 
 -- the page
-unfoldable pub page : List ℕ → ℕ → List TenantMetrics → List Limit → List Recent → ℕ → List ℕ
-page version seconds tenants used recent pool_free =
-    front ++ about version seconds ++ summary tenants ++ limits used ++ recents recent ++ table tenants ++ end pool_free
+unfoldable pub page : List ℕ → ℕ → Option ℕ → List TenantMetrics → List Limit → List Recent → ℕ → List ℕ
+page version seconds lease tenants used recent pool_free =
+    front ++ about version seconds ++ lease_line lease ++ summary tenants ++ limits used ++ recents recent ++ table tenants ++ end pool_free

@@ -48,7 +48,7 @@ impl Uses {
 
     /// Gives how much is used by these figures, and by what is counted now.
     pub(crate) fn now(figures: &Figures, meters: &Meters) -> Self {
-        let counted = meters.server().figures(0, 0);
+        let counted = meters.server().figures(0, None, 0);
         let mut changes = [0; MAX_TENANTS];
         for (used, tenant) in changes.iter_mut().zip(&figures.tenants) {
             *used = tenant.used;

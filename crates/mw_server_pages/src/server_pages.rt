@@ -110,11 +110,13 @@ impl<S: Service, F: FileCopies, R: AllocGlobal + Clock> Pages for ServerPages<'_
                     .most_uses(seconds)
                     .limits(&figures, self.capacity);
                 let (alloc, version) = (self.rt.alloc(), &self.version);
+                let lease = seconds_of(self.meters.lease_age(self.rt));
                 status(
                     alloc,
                     self.meters,
                     version,
                     seconds,
+                    lease,
                     figures,
                     &limits,
                     &recents,
@@ -186,12 +188,21 @@ fn metrics<R: AllocGlobal + Clock>(
     page_of(rt.alloc(), Status::Ok, ContentType::Metrics, text)
 }
 
+/// Gives whole seconds for nanoseconds, if there are some.
+fn seconds_of(nanos: Option<u64>) -> Option<u64> {
+    match nanos {
+        Some(nanos) => Some(nanos / SECOND),
+        None => None,
+    }
+}
+
 /// Gives the status page.
 fn status(
     alloc: Global,
     meters: &Meters,
     version: &Version,
     seconds: u64,
+    lease: Option<u64>,
     figures: Figures,
     limits: &[Limit],
     recents: &[Recent],
@@ -206,7 +217,7 @@ fn status(
         return bare(alloc, Status::InternalError);
     };
     let text = status_page(
-        alloc, version, seconds, &tenants, limits, recents, pool_free,
+        alloc, version, seconds, lease, &tenants, limits, recents, pool_free,
     );
     page_of(alloc, Status::Ok, ContentType::Html, text)
 }

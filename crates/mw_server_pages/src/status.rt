@@ -1,7 +1,7 @@
 //! Writes the status page.
 //!
-//! `specs/StatusPage` defines it: change both together. docs/HTTP says what it shows.
-ghost use Rattle.std.specs.Prelude.{◌≡◌, ◌+◌, ◌*◌, ◌≤◌, ◌++◌, length, IfOk};
+//! Used by: `server_pages`. Change it with `specs/StatusPage` and docs/HTTP.
+ghost use Rattle.std.specs.Prelude.{◌≡◌, ◌+◌, ◌*◌, ◌≤◌, ◌++◌, length, Some, IfOk};
 ghost use Rattle.mw_words.specs.declared.limits.TheConstants.{MAX_TENANTS};
 ghost use Rattle.mw_server_pages.specs.declared.text.TheConstants.{MAX_PAGE, MAX_VERSION};
 ghost use Rattle.mw_server_pages.specs.declared.limits.TheConstants.{MAX_LIMITS};
@@ -18,7 +18,8 @@ use mw_metrics::TenantMetrics;
 use mw_words::MAX_TENANTS;
 use std::alloc::{AllocError, Global};
 
-/// Gives the status page of a server of this version that is up for so many seconds.
+/// Gives the status page of a server of this version that is up for so many seconds, and whose lease, if it has one, has a beat of so
+/// many seconds ago.
 ///
 /// It has a row for each of these tenants, the free slots of the pool, a row for each of these limits, and one for each of these
 /// curves. There are at most [`MAX_TENANTS`] tenants, and as many curves. The version has at most [`MAX_VERSION`] bytes. Memory
@@ -32,6 +33,7 @@ pub fn status_page(
     alloc: Global,
     version: &[u8],
     seconds: u64,
+    lease: Option<u64>,
     tenants: &[TenantMetrics],
     limits: &[Limit],
     recents: &[Recent],
@@ -41,11 +43,12 @@ pub fn status_page(
     requires few { length tenants.now ≤ MAX_TENANTS }
     requires few_limits { length limits.now ≤ MAX_LIMITS }
     requires few_recents { length recents.now ≤ MAX_TENANTS }
-    ensures page { IfOk result (λ page. page.items ≡ spec.page version.now seconds tenants.now limits.now recents.now pool_free) }
+    ensures page { IfOk result (λ page. page.items ≡ spec.page version.now seconds lease tenants.now limits.now recents.now pool_free) }
 {
     let mut text = Text::new(alloc)?;
     put_front(&mut text);
     put_about(&mut text, version, seconds);
+    put_lease(&mut text, lease);
     put_summary(&mut text, tenants);
     put_limits(&mut text, limits);
     put_recents(&mut text, recents);
@@ -76,6 +79,28 @@ fn put_about(text: &mut Text, version: &[u8], seconds: u64)
     text.put_escaped(version);
     text.put(b", up for ");
     put_span(text, seconds);
+    text.put(b".</p>\n");
+}
+
+#[tactic(auto, unfolding(crate::specs::StatusPage::lease_line))]
+fn put_lease(text: &mut Text, seconds: Option<u64>)
+    requires { length text.old.bytes.items + 80 ≤ MAX_PAGE }
+    ensures lease { text.new.bytes.items ≡ text.old.bytes.items ++ spec.lease_line seconds }
+    ensures room { length text.new.bytes.items ≤ length text.old.bytes.items + 80 }
+{
+    if let Some(seconds) = seconds {
+        put_lease_age(text, seconds);
+    }
+}
+
+#[tactic(auto, unfolding(crate::specs::StatusPage::lease_line))]
+fn put_lease_age(text: &mut Text, seconds: u64)
+    requires { length text.old.bytes.items + 80 ≤ MAX_PAGE }
+    ensures lease { text.new.bytes.items ≡ text.old.bytes.items ++ spec.lease_line (Some seconds) }
+    ensures room { length text.new.bytes.items ≤ length text.old.bytes.items + 80 }
+{
+    text.put(b"<p>Seconds since the last beat of the lease began: ");
+    text.put_number(seconds);
     text.put(b".</p>\n");
 }
 

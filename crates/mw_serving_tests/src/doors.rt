@@ -1,7 +1,6 @@
 //! Listeners at sockets, which count what happens there, and have no room at first if they are told so.
 //!
-//! Used by: `serving`, `scenes`, `socket_tests`, `desk_tests`. It may change freely as long as this crate checks and its
-//! tests pass.
+//! Used by: `serving`, `scenes`, `socket_tests`, `desk_tests`.
 use mw_connections::{
     Client, ClientListener, Closer, Listener, MeteredConnection, MeteredListener, TimeLimits,
     listen_at, port_of,
@@ -48,7 +47,7 @@ impl Tally {
 
     /// Gives how many connections were closed whose session ended by a `QUIT` or by a line that is too long.
     pub fn closed(&self) -> u64 {
-        let closed = self.counters.figures(0, 0).closed;
+        let closed = self.counters.figures(0, None, 0).closed;
         closed.quit.saturating_add(closed.too_long)
     }
 }

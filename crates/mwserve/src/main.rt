@@ -1,13 +1,14 @@
 //! `mwserve --tenants FILE` serves tenants' words: to the clients that connect with `--listen ADDR`, or to
 //! one session that it reads from a file with `--script FILE`.
 //!
-//! mw_programs does the work (`serve`), and documents the command line. Here are only the program's name, and
-//! what it says if it can't begin.
+//! mw_programs does the work (`serve`), and documents the command line. Here are only the program's name,
+//! what it says if it can't begin, and the thread that serves with `--end-on-failure`.
 #![tactic(auto)]
 
 use mw_main::{Program, run};
-use mw_programs::{PromptErrors, serve};
+use mw_programs::{PromptErrors, ServedApart, ServerEnd, ends_on_failure, serve};
 use std::process::ExitCode;
+use std::thread;
 
 const PROGRAM: Program = Program {
     name: "mwserve",
@@ -15,9 +16,32 @@ const PROGRAM: Program = Program {
     no_memory: "memory",
 };
 
+/// With `--end-on-failure` a thread of its own serves, so that the program ends, and gives back the locks of all files, while
+/// other threads of the server wait for clients.
 fn main(rt: HostRuntime) -> ExitCode {
     run(&rt, &PROGRAM, |args| {
-        let mut errors = PromptErrors::new(rt.stderr());
-        serve(&rt, args, &mut rt.stdout(), &mut errors)
+        if !ends_on_failure(rt.alloc(), args) {
+            let mut errors = PromptErrors::new(rt.stderr());
+            return serve(&rt, args, &mut rt.stdout(), &mut errors, &ServerEnd::new());
+        }
+        let own = rt;
+        if let Ok((apart, end)) = ServedApart::new(rt.alloc(), args) {
+            let begun = thread::spawn(&rt, move || {
+                let mut errors = PromptErrors::new(own.stderr());
+                let status = serve(
+                    &own,
+                    &apart.args,
+                    &mut own.stdout(),
+                    &mut errors,
+                    &apart.end,
+                );
+                apart.end.end(&own, status);
+            });
+            if begun.is_ok() {
+                return end.wait(&rt);
+            }
+        }
+        let _ = eprintln!(rt; "mwserve: memory");
+        1
     })
 }

@@ -1,5 +1,4 @@
--- Proves goals of `opened` (src/starts.rt) that the check does not prove by itself. Used by: the proof of that function alone.
--- It may change freely as long as this crate checks.
+-- Goals of `opened` (src/starts.rt).
 use Rattle.std.specs.Prelude.{IsTrue}
 use Rattle.std.proofs.Common.{subst, arith}
 use Rattle.mw_engine_tests.proofs.Fresh.{fits}
@@ -8,7 +7,7 @@ use Rattle.mw_engine_tests.proofs.starts.opened.Goals as goal
 -- src/starts.rt
 pub returns-then-from-places : goal.returns-then-from-places
 returns-then-from-places g c =
-    fits g.D.Disk.facts c.args.line.now c.sync.new.self c.in-Ok-open.opened.0 c.in-Ok-open.opened.1 c.in-Ok-open.ensures
+    fits g.D.Disk.facts c.args.line.now c.sync.new.self c.in-Ok-open.opened.0 c.in-Ok-open.opened.1 c.in-Ok-open.ensures.opens
     (λ honest. c.in-Ok.ensures.durable (subst IsTrue c.in-Ok.ensures.call.honest honest))
     (omega (arith, c.len.ensures, c.from.ensures, c.if-len-from.true))
     (omega (arith, c.from-then-len-from.ensures, c.places.ensures, c.if-from-places.true))

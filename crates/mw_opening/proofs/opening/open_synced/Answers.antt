@@ -1,5 +1,4 @@
--- Proves goals of `open_synced` (src/opening.rt) that the check does not prove by itself. Used by: the proof of that function
--- alone. It may change freely as long as this crate checks.
+-- Goals of `open_synced` (src/opening.rt).
 use Rattle.std.proofs.Common.{sym, ◌∙◌, arith}
 use Rattle.mw_opening.proofs.DisksOpened.{opened_after_sync}
 use Rattle.mw_opening.proofs.FilesFitLines.{is_fresh}
@@ -8,7 +7,7 @@ use Rattle.mw_opening.proofs.opening.open_synced.Goals as goal
 pub returns-in-Ok-clause-opened : goal.returns-in-Ok-clause-opened
 returns-in-Ok-clause-opened g c =
     opened_after_sync g.D.Disk.facts g.D.Disk.made c.args.disk c.sync.new.self c.sync.result (c.in-Ok.file, c.in-Ok.words)
-    (sym c.is_err.ensures.value ∙ c.if-is_err.false) c.sync.ensures.made c.sync.ensures.call c.sync.ensures.same c.sync.ensures.durable c.in-Ok.ensures
+    (sym c.is_err.ensures.value ∙ c.if-is_err.false) c.sync.ensures.made c.sync.ensures.call c.sync.ensures.same c.sync.ensures.durable c.in-Ok.ensures.opens
 
 pub returns-in-Ok-clause-fits : goal.returns-in-Ok-clause-fits
 returns-in-Ok-clause-fits g c =
