@@ -9,6 +9,8 @@ from register_parts.source import Function, Source
 
 PARTS = ("src/", "specs/", "proofs/")
 NAME = re.compile(r"[A-Za-z0-9_-][A-Za-z0-9_.-]*\.edit")
+TYPE = re.compile(r"^[ \t]*(?:pub(?:\([a-z]+\))? )?(?:struct|enum|union) (\w+)", re.MULTILINE)
+"""What defines a type."""
 
 
 class BadEdit(Exception):
@@ -37,7 +39,7 @@ class Edit:
 
 @dataclass(frozen=True)
 class Place:
-    """A function by its module, the type or trait that it belongs to, and its name."""
+    """A function by its module or that of its type, the type or trait that it belongs to, and its name."""
     module: str
     owner: str
     is_of_trait: bool
@@ -125,15 +127,22 @@ def changed_by(edit: Edit, sources: Dict[str, Source]) -> Optional[List[Function
     return found
 
 
-def place_of(function: Function) -> Place:
-    """How a report names a function."""
-    crate = function.source.crate
-    inside = function.source.path[len(f"crates/{crate}/src/"):-len(".rt")]
+def module_of(source: Source) -> str:
+    """The module that a file is."""
+    inside = source.path[len(f"crates/{source.crate}/src/"):-len(".rt")]
     modules = [] if inside in ("lib", "main") else re.sub(r"/mod$", "", inside).split("/")
-    owner = function.owner
-    return Place("::".join([crate, *modules]), owner.name if owner else "", bool(owner and owner.of_trait), function.name)
+    return "::".join([source.crate, *modules])
+
+
+def place_of(function: Function, sources: Dict[str, Source]) -> Place:
+    """How a report names a function: a method of a type by the module that has the type, in whatever module its `impl` is."""
+    module, owner = module_of(function.source), function.owner
+    if owner and not owner.of_trait:
+        modules = [module_of(it) for it in sources.values() if owner.name in TYPE.findall(it.code)]
+        module = module if module in modules else next(iter(modules), module)
+    return Place(module, owner.name if owner else "", bool(owner and owner.of_trait), function.name)
 
 
 def places_of(edit: Edit, sources: Dict[str, Source]) -> FrozenSet[Place]:
     """The functions that an edit changes, empty if it changes anything but bodies."""
-    return frozenset(place_of(it) for it in changed_by(edit, sources) or [])
+    return frozenset(place_of(it, sources) for it in changed_by(edit, sources) or [])
