@@ -4,7 +4,7 @@
 ghost use Rattle.std.specs.Prelude.{◌<◌, vec_len};
 
 use arrayvec::ArrayVec;
-use mw_connections::{TimeLimits, listen_at, port_of};
+use mw_connections::{Anything, Network, TimeLimits, listen_at, port_of};
 use mw_report::{Figures, TenantFigures};
 use mw_session::Service;
 use mw_words::{Job, Name, Reply};
@@ -72,7 +72,8 @@ where
         silence: None,
         line: None,
     };
-    let listener = listen_at(rt, "127.0.0.1:0", 0, limits)?;
+    let network: Network<'_, R, Anything> = Network::new(rt);
+    let listener = listen_at(&network, "127.0.0.1:0", 0, limits)?;
     let port = port_of(&listener)?.unwrap_or(0);
     let mut services = Vec::new(rt.alloc());
     services.push(Reporter)?;

@@ -4,3 +4,4 @@ pub mod TimesLeft
 pub mod Metered
 pub mod FaultLimits
 pub mod Leases
+pub mod Promises

@@ -7,12 +7,14 @@
 use crate::lease::Lease;
 use crate::leased_stream::{ClientLease, LeasedStream};
 use crate::listening_socket::{Closer, ListeningSocket};
+use crate::network::Network;
 use crate::peer::StreamListener;
 use crate::sockets::open_door;
 use crate::timed_stream::{Span, TimedStream};
 use mw_session::RecordedStream;
 use std::fs::File;
 use std::io;
+use std::marker::PhantomData;
 use std::net::{Net, TcpListener, TcpStream};
 use std::rt::Files;
 use std::time::{Clock, Duration, Instant};
@@ -28,12 +30,14 @@ pub struct BriefLimits {
 
 /// A listener for clients that stay for one request, over TCP or by a local socket.
 #[derive(Drop)]
-pub struct BriefListener<'a, K> {
+pub struct BriefListener<'a, K, Q> {
     door: ListeningSocket,
     clock: &'a K,
     limits: BriefLimits,
     /// The lease that each answer needs, if it needs one.
     lease: Option<&'a Lease>,
+    /// What its clients are promised.
+    promise: PhantomData<Q>,
 }
 
 /// Listens at an address, as [`crate::listen_at`] does, for clients that stay for one request.
@@ -41,25 +45,26 @@ pub struct BriefListener<'a, K> {
 /// # Errors
 ///
 /// As [`crate::listen_at`].
-pub fn listen_briefly<'a, R>(
-    rt: &'a R,
+pub fn listen_briefly<'a, R, Q>(
+    network: &Network<'a, R, Q>,
     address: &str,
     mode: u32,
     limits: BriefLimits,
-) -> io::Result<BriefListener<'a, R>>
+) -> io::Result<BriefListener<'a, R, Q>>
 where
     R: Files<File = File> + Net<Listener = TcpListener, Stream = TcpStream>,
 {
-    let door = open_door(rt, address, mode)?;
+    let door = open_door(network.rt, address, mode)?;
     Ok(BriefListener {
         door,
-        clock: rt,
+        clock: network.rt,
         limits,
         lease: None,
+        promise: PhantomData,
     })
 }
 
-impl<'a, K> BriefListener<'a, K> {
+impl<'a, K, Q> BriefListener<'a, K, Q> {
     /// Has each answer to the clients that it gives from now on need this lease, as [`LeasedStream`] tells. None: it needs none.
     pub fn with_lease(mut self, lease: Option<&'a Lease>) -> Self {
         self.lease = lease;
@@ -94,7 +99,7 @@ impl<'a, K> BriefListener<'a, K> {
     }
 }
 
-impl<'a, K: Clock + Sync> StreamListener for BriefListener<'a, K> {
+impl<'a, K: Clock + Sync, Q> StreamListener for BriefListener<'a, K, Q> {
     type Stream = LeasedStream<TimedStream<'a, K>, ClientLease<'a, K>>;
 
     ghost accepts = { λ _ _ _. Unit {0} };

@@ -79,6 +79,8 @@ impl<C: Connection + Drop> Connection for MeteredConnection<'_, C> {
 
     ghost writes = { λ metered. C.writes metered.connection };
 
+    ghost promised = { C.promised };
+
     fn serve<S: Service, R: Wait, O: Others>(
         &mut self,
         rt: &R,

@@ -5,9 +5,11 @@ ghost use Rattle.std.specs.Prelude.{ℕ, ◌≡◌, List, Option, IfOk};
 ghost use Rattle.std.specs.declared.result.Result.{Result as Outcome};
 ghost use Rattle.std.specs.declared.io.Error.{Error as IoError};
 ghost use Rattle.mw_session.specs.ServiceCalls.{AreAnswered};
+ghost use Rattle.mw_session.specs.Talk.{Call};
 ghost use Rattle.mw_session.specs.StreamRecords.{ReadRecord, WriteRecord, no_reads, no_writes};
 ghost use Rattle.mw_session.specs.KnownStreams.{reads_of, writes_of};
 ghost use Rattle.mw_session.specs.declared.recorded_stream.RecordedStream.{RecordedStream as Recorded};
+ghost use Rattle.mw_connections.specs.Promises.{KeepsPromise};
 ghost use Rattle.mw_connections.specs.Sessions.{IsSessionOf};
 
 use mw_session::{Ended, Others, PeerStream, RecordedStream, Service};
@@ -63,9 +65,12 @@ pub trait Connection {
     // What was written to the client, as it was recorded.
     ghost writes: { Self → WriteRecord };
 
+    // What a session's calls, in order, were answered as: only a service that keeps to it may serve the client.
+    ghost promised: { List Call → Type 0 };
+
     /// Serves the client by one session, [`mw_session::Session::run`]. Gives how the session ended. A client may
     /// say nothing, or not read what it is told, so this may wait for ever; but if it ends no line for a whole turn
-    /// while others wait, its session may be ended.
+    /// while others wait, its session may be ended. `keeps`: the service keeps what was promised of this connection.
     fn serve<S: Service, R: Wait, O: Others>(
         &mut self,
         rt: &R,
@@ -73,6 +78,7 @@ pub trait Connection {
         service: &mut S,
         others: &O,
     ) -> Ended
+        requires keeps { KeepsPromise S.answered promised }
         ensures { IsSessionOf (left self.old) (left self.new) (sent self.old) (sent self.new)
             (reads self.old) (reads self.new) (writes self.old) (writes self.new)
             (AreAnswered S.answered service.old service.new) result };

@@ -10,7 +10,9 @@ use crate::lease::Lease;
 use crate::leased_stream::{ClientLease, LeasedStream};
 use crate::listening_socket::{Closer, ListeningSocket, listening};
 use crate::local::listen_local;
+use crate::network::Network;
 use crate::peer::{Connection, Listener};
+use crate::promise::Promise;
 use crate::time_limits::{TimeLimits, WaitLimits};
 use crate::timed_stream::TimedStream;
 use mw_metrics::ServerCounters;
@@ -18,6 +20,7 @@ use mw_session::{Ended, NoOthers, Others, PeerStream, RecordedStream, Service, S
 use std::alloc::Global;
 use std::fs::File;
 use std::io::{self, ErrorKind};
+use std::marker::PhantomData;
 use std::net::{Net, TcpListener, TcpStream};
 use std::rt::Files;
 use std::sync::Wait;
@@ -34,7 +37,7 @@ const LOCAL: &str = "unix:";
 
 /// A listener for clients over TCP, or by a local socket.
 #[derive(Drop)]
-pub struct ClientListener<'a, K> {
+pub struct ClientListener<'a, K, Q> {
     door: ListeningSocket,
     clock: &'a K,
     limits: WaitLimits,
@@ -44,15 +47,18 @@ pub struct ClientListener<'a, K> {
     counters: Option<&'a ServerCounters>,
     /// The lease that its clients' replies need, if they need one.
     lease: Option<&'a Lease>,
+    /// What its clients are promised.
+    promise: PhantomData<Q>,
 }
 
 /// A client's connection, over TCP or by a local socket.
 #[derive(Drop)]
-pub struct Client<'a, K> {
+pub struct Client<'a, K, Q> {
     stream: RecordedStream<LeasedStream<FaultLimit<TimedStream<'a, K>>, ClientLease<'a, K>>>,
+    promise: PhantomData<Q>,
 }
 
-/// Listens at an address. At `127.0.0.1:7000` it listens over TCP; at port 0 the system picks a free port.
+/// Listens at an address for clients who are served as `Q` promises. At `127.0.0.1:7000` it listens over TCP; at port 0 the system picks a free port.
 /// At `unix:/run/mondlexi/socket` it makes a local socket of this file mode: who may write to that file may
 /// connect. It takes over a socket file at which nobody listens, and no other file.
 ///
@@ -61,23 +67,24 @@ pub struct Client<'a, K> {
 /// # Errors
 ///
 /// The text is no address, or nobody can listen there, because somebody else does or the system refuses.
-pub fn listen_at<'a, R>(
-    rt: &'a R,
+pub fn listen_at<'a, R, Q>(
+    network: &Network<'a, R, Q>,
     address: &str,
     mode: u32,
     limits: TimeLimits,
-) -> io::Result<ClientListener<'a, R>>
+) -> io::Result<ClientListener<'a, R, Q>>
 where
     R: Files<File = File> + Net<Listener = TcpListener, Stream = TcpStream>,
 {
-    let door = open_door(rt, address, mode)?;
+    let door = open_door(network.rt, address, mode)?;
     Ok(ClientListener {
         door,
-        clock: rt,
+        clock: network.rt,
         limits: limits.of_a_session(),
         faults: None,
         counters: None,
         lease: None,
+        promise: PhantomData,
     })
 }
 
@@ -101,11 +108,11 @@ where
 /// # Errors
 ///
 /// The system doesn't tell.
-pub fn port_of<K>(clients: &ClientListener<'_, K>) -> io::Result<Option<u16>> {
+pub fn port_of<K, Q>(clients: &ClientListener<'_, K, Q>) -> io::Result<Option<u16>> {
     clients.door.port()
 }
 
-impl<'a, K> ClientListener<'a, K> {
+impl<'a, K, Q> ClientListener<'a, K, Q> {
     /// Has the session of each client that it gives from now on end after so many lines that are answered by `ERR`: what the
     /// client sent after the last of them isn't looked at. None: it doesn't end for this.
     pub fn with_faults(mut self, faults: Option<u32>) -> Self {
@@ -144,12 +151,12 @@ impl<'a, K> ClientListener<'a, K> {
     }
 }
 
-impl<'a, K: Clock + Sync> Listener for ClientListener<'a, K> {
-    type Connection = Client<'a, K>;
+impl<'a, K: Clock + Sync, Q: Promise> Listener for ClientListener<'a, K, Q> {
+    type Connection = Client<'a, K, Q>;
 
     ghost accepts = { λ _ _ _. Unit {0} };
 
-    fn accept(&mut self) -> io::Result<Client<'a, K>> {
+    fn accept(&mut self) -> io::Result<Client<'a, K, Q>> {
         let stream = self.door.next()?;
         // A connection without its limits could hold its worker for ever, so it is closed and not served.
         if limit_waits(&stream, &self.limits).is_err() {
@@ -163,6 +170,7 @@ impl<'a, K: Clock + Sync> Listener for ClientListener<'a, K> {
         let stream = LeasedStream::new(FaultLimit::new(stream, self.faults), lease);
         Ok(Client {
             stream: RecordedStream::new(stream),
+            promise: PhantomData,
         })
     }
 }
@@ -183,7 +191,7 @@ fn limit_waits(stream: &TcpStream, limits: &WaitLimits) -> io::Result<()> {
     Ok(())
 }
 
-impl<'a, K: Clock> Connection for Client<'a, K> {
+impl<'a, K: Clock, Q: Promise> Connection for Client<'a, K, Q> {
     ghost left = { λ _. None };
 
     ghost sent = { λ _. None };
@@ -191,6 +199,8 @@ impl<'a, K: Clock> Connection for Client<'a, K> {
     ghost reads = { λ c. reads_of c.stream };
 
     ghost writes = { λ c. writes_of c.stream };
+
+    ghost promised = { Q.kept };
 
     fn serve<S: Service, R: Wait, O: Others>(
         &mut self,

@@ -5,7 +5,7 @@ ghost use Rattle.std.specs.Prelude.{◌<◌, vec_len};
 
 use crate::latch::{Latch, comes_to};
 use crate::workers::Worker;
-use mw_connections::{TimeLimits, listen_at, port_of};
+use mw_connections::{Anything, Network, TimeLimits, listen_at, port_of};
 use mw_engine::EngineBrand;
 use mw_workers::{ServeEnd, serve_all};
 use std::alloc::Global;
@@ -103,7 +103,8 @@ where
         silence: None,
         line: None,
     };
-    let listener = listen_at(rt, "127.0.0.1:0", 0, limits)?;
+    let network: Network<'_, R, Anything> = Network::new(rt);
+    let listener = listen_at(&network, "127.0.0.1:0", 0, limits)?;
     let port = port_of(&listener)?.unwrap_or(0);
     latch.set(2);
     let (told, served) = thread::join(

@@ -21,7 +21,7 @@ use crate::files::play_file;
 use crate::outputs::{Output, Told, wait_for};
 use crate::stage::{Outcome, Stage, new_folder};
 use mw_init::init;
-use mw_programs::{SeesPaths, ServerEnd, serve};
+use mw_programs::{Anything, Network, Printed, SeesPaths, ServerEnd, serve};
 use mw_test_peers::{Place, come_and_go};
 use std::alloc::{AllocError, Global};
 use std::fs::File;
@@ -267,9 +267,18 @@ where
         told,
         watched: "",
     };
+    let network: Network<'_, R, Anything> = Network::new(rt);
+    let end = ServerEnd::new();
     let status = match args.first() {
         Some(word) if word.as_str() == "mwinit" => init(rt, args, &mut out, &mut err),
-        _ => serve(rt, args, &mut out, &mut err, &ServerEnd::new()),
+        _ => serve(
+            rt,
+            &network,
+            args,
+            &mut Printed::new(&mut out),
+            &mut err,
+            &end,
+        ),
     };
     Ok(Outcome {
         status,

@@ -1,2 +1,3 @@
 pub mod DisksOpened
 pub mod FilesFitLines
+pub mod FilesRefused

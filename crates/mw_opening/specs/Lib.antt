@@ -1,2 +1,3 @@
 pub mod MadeOfOpened
 pub mod SyncedOpenings
+pub mod FromBelow

@@ -14,6 +14,7 @@ use Rattle.mw_engine.specs.declared.parts.EngineParts.{EngineParts}
 use Rattle.mw_engine.specs.OpenedFiles.{book_file, held_read, openings_read}
 use Rattle.mw_engine.specs.Parts.{identity_of}
 use Rattle.mw_opening.specs.SyncedOpenings.{AreOfLines}
+use Rattle.mw_opening.specs.declared.file_fault.FileFault.{FileFault}
 use Rattle.mw_opening.specs.declared.opened_parts.OpenedParts.{OpenedParts}
 
 module _ {D H : Type 0} {device : Ghosts D} where
@@ -22,12 +23,13 @@ module _ {D H : Type 0} {device : Ghosts D} where
   IfMade (Ok parts) holds = IfOk parts.made holds
   IfMade (Err fault) holds = Unit {0}
 
-  -- There are files, each opened of its own tenant's line, if there is one. It is told right which of them are there. If the parts
-  -- were made, their engine starts with the words and places of these files, and their books hold these files and no others.
+  -- There are files, each opened of its own tenant's line; a tenant without one has a cause. It is told right which of them are
+  -- there. If the parts were made, their engine starts with the words and places of these files, and their books hold these files
+  -- and no others.
   pub record AreMadeOfOpened (facts : D → Facts) (makes : DeviceCall → Bool → D → D → Type 0) (is_over : List ℕ → D → Type 0)
-      (lines : List TenantLine) (are_open : List Bool) (made : Result (EngineParts D H device × Vec Pass Global) AllocError) : Type 0 where
+      (is_refused : List ℕ → FileFault → Type 0) (lines : List TenantLine) (are_open : List Bool) (made : Result (EngineParts D H device × Vec Pass Global) AllocError) : Type 0 where
     pub files : List (Option (TenantFile D × Vec ℕ Global))
-    pub opened : AreOfLines facts makes is_over lines files
+    pub opened : AreOfLines facts makes is_over is_refused lines files
     pub told : are_open ≡ map (λ file. is_some file) files
     pub start : IfOk made (λ both. (identity_of both.0).openings ≡ openings_read lines files)
     pub held : IfOk made (λ both. map book_file both.0.books.items ≡ map held_read files)

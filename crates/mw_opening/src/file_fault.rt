@@ -2,6 +2,8 @@
 //!
 //! Used by: `opening`, which writes the notes; `tenant_disks`. docs/OPERATING.md lists the texts of the notes: change both
 //! together.
+ghost use Rattle.std.specs.Prelude.{◌≡◌};
+
 use crate::last_error::LastError;
 use crate::notes::note_why;
 use log::{Log, error};
@@ -31,7 +33,9 @@ pub enum FileFault {
 
 impl FileFault {
     /// Gives the fault of a failed opening. `last` has what the system told last, in the opening or before it.
-    pub(crate) fn of_opening(fault: OpenFault, last: &LastError) -> Self {
+    pub(crate) fn of_opening(fault: OpenFault, last: &LastError) -> Self
+        ensures memory { fault ≡ OpenFault.Memory → result ≡ FileFault.Memory }
+    {
         match fault {
             OpenFault::Memory => FileFault::Memory,
             OpenFault::Disk => FileFault::Disk(last.error()),

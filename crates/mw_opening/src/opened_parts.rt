@@ -38,7 +38,9 @@ pub struct OpenedParts<D: Disk, H> {
 /// `pool` slots.
 ///
 /// - `opened`: the parts are made of just the files that it opened. Each of these is what [`TenantFile::open`] gave, with
-///   the words that it found. The disk was synced just before. `disks` opened it at the path of the line.
+///   the words that it found. The disk was synced just before. `disks` opened it at the path of the line. A tenant has no
+///   file only for a cause: `disks` gave a fault, the sync or the opening failed, or the file has other sizes than the line
+///   says.
 /// - The other clauses are those of [`EngineParts::new`].
 ///
 /// # Errors
@@ -56,7 +58,7 @@ pub fn open_parts<P: OpensDisks, L: Log, H: Drop>(
     requires permitted { ArePermitted pool lines.now }
     requires pool { (1 ≤ pool) × (pool ≤ MAX_POOL) }
     requires workers { (1 ≤ workers) × (workers ≤ MAX_WORKERS) }
-    ensures opened { IfOk result (λ parts. AreMadeOfOpened P.Device.facts P.Device.made P.is_over lines.now parts.are_open.items parts.made) }
+    ensures opened { IfOk result (λ parts. AreMadeOfOpened P.Device.facts P.Device.made P.is_over P.is_refused lines.now parts.are_open.items parts.made) }
     ensures lines { IfMade result (λ made. (identity_of made.0).lines ≡ map line_read lines.now) }
     ensures config { IfMade result (λ made. (identity_of made.0).config ≡ world_read pool workers lines.now) }
     ensures count { IfMade result (λ made. length made.1.items ≡ workers) }

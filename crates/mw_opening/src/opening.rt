@@ -2,11 +2,11 @@
 //!
 //! Used by: `opened_parts`; mw_programs, which reads the tenants. Change it with docs/OPERATING.md, which has the
 //! notes. A new [`Cause`] needs a case in `Cause::tell`. docs/PROMISES cites `open_files`.
-ghost use Rattle.std.specs.Prelude.{◌<◌, ◌≤◌, length, IfOk, Some};
+ghost use Rattle.std.specs.Prelude.{◌<◌, ◌≤◌, ◌≢◌, length, IfErr, IfOk, Some};
 ghost use Rattle.mw_config.specs.Limits.{ArePermitted};
 ghost use Rattle.mw_words.specs.declared.limits.TheConstants.{MAX_TENANTS};
 ghost use Rattle.mw_engine.specs.OpenedFiles.{FitsLine, FitLines};
-ghost use Rattle.mw_opening.specs.SyncedOpenings.{AreOfLines, IsOfLine, IsOpenedAfterSync};
+ghost use Rattle.mw_opening.specs.SyncedOpenings.{AreOfLines, GivesNoFile, HasNoFile, IsOfLine, OpensAfterSync};
 
 use crate::file_fault::FileFault;
 use crate::last_error::LastError;
@@ -199,7 +199,8 @@ fn fill<F: Read>(file: &mut F, room: &mut [u8]) -> io::Result<usize> {
 ///
 /// - `fit`: each file that it gives fits its line.
 /// - `opened`: each is what [`TenantFile::open`] gave, with the words that it found. The disk was synced just before.
-///   `disks` opened it at the path of the line.
+///   `disks` opened it at the path of the line. It gives None only for a cause: `disks` gave a fault, the sync or the
+///   opening failed, or the file has other sizes than the line says.
 ///
 /// # Errors
 ///
@@ -212,7 +213,7 @@ pub(crate) fn open_files<P: OpensDisks, L: Log>(
 ) -> Result<Vec<Option<(TenantFile<P::Device>, Vec<u64>)>>, AllocError>
     requires { length lines.now ≤ MAX_TENANTS }
     ensures fit { IfOk result (λ files. FitLines P.Device.facts lines.now files.items) }
-    ensures opened { IfOk result (λ files. AreOfLines P.Device.facts P.Device.made P.is_over lines.now files.items) }
+    ensures opened { IfOk result (λ files. AreOfLines P.Device.facts P.Device.made P.is_over P.is_refused lines.now files.items) }
 {
     let mut files = Vec::with_capacity(alloc, lines.len())?;
     for line in lines {
@@ -236,17 +237,19 @@ fn open_file<P: OpensDisks, L: Log>(
 ) -> Result<Option<(TenantFile<P::Device>, Vec<u64>)>, AllocError>
     requires { tenant < MAX_TENANTS }
     ensures fits { IfOk result (λ file. FitsLine P.Device.facts line.now file) }
-    ensures opened { IfOk result (λ file. IsOfLine P.Device.facts P.Device.made P.is_over line.now file) }
+    ensures opened { IfOk result (λ file. IsOfLine P.Device.facts P.Device.made P.is_over P.is_refused line.now file) }
 {
     match open_fitting(alloc, tenant, line, disks) {
         Ok(opened) => Ok(Some(opened)),
-        Err(FileFault::Memory) => Err(AllocError),
-        Err(fault) => {
-            let name = str::from_utf8(&line.name).unwrap_or("?");
-            error!(notes; "tenant {name}: {fault}");
-            fault.tell_why(notes, line);
-            Ok(None)
-        }
+        Err(fault) => match fault {
+            FileFault::Memory => Err(AllocError),
+            fault => {
+                let name = str::from_utf8(&line.name).unwrap_or("?");
+                error!(notes; "tenant {name}: {fault}");
+                fault.tell_why(notes, line);
+                Ok(None)
+            }
+        },
     }
 }
 
@@ -263,7 +266,9 @@ fn open_fitting<P: OpensDisks>(
 ) -> Result<(TenantFile<P::Device>, Vec<u64>), FileFault>
     requires { tenant < MAX_TENANTS }
     ensures fits { IfOk result (λ opened. FitsLine P.Device.facts line.now (Some opened)) }
-    ensures opened { IfOk result (λ opened. IsOfLine P.Device.facts P.Device.made P.is_over line.now (Some opened)) }
+    ensures opened { IfOk result (λ opened. IsOfLine P.Device.facts P.Device.made P.is_over P.is_refused line.now (Some opened)) }
+    ensures refused { IfErr result (λ fault. fault ≢ FileFault.Memory
+        → HasNoFile P.Device.facts P.Device.made P.is_over P.is_refused line.now) }
 {
     let disk = disks.open(tenant, line.path.as_str())?;
     open_synced(alloc, disk, line, disks.last_error(tenant))
@@ -284,7 +289,8 @@ fn open_synced<D: Disk + Drop>(
     last: &LastError,
 ) -> Result<(TenantFile<D>, Vec<u64>), FileFault>
     ensures fits { IfOk result (λ opened. FitsLine D.facts line.now (Some opened)) }
-    ensures opened { IfOk result (λ opened. IsOpenedAfterSync D.facts D.made disk opened) }
+    ensures opened { IfOk result (λ opened. OpensAfterSync D.facts D.made disk (Ok opened)) }
+    ensures refused { IfErr result (λ fault. fault ≢ FileFault.Memory → GivesNoFile D.facts D.made line.now disk) }
 {
     let mut disk = disk;
     if disk.sync().is_err() {

@@ -3,8 +3,9 @@
 //!
 //! Used by: `opening`, `opened_parts`; mw_programs makes the [`LockedFiles`]. [`OpensDisks`] says what is known of
 //! the files that a server opens.
-ghost use Rattle.std.specs.Prelude.{◌<◌, ℕ, List, IfOk};
+ghost use Rattle.std.specs.Prelude.{◌<◌, ℕ, List, IfErr, IfOk};
 ghost use Rattle.mw_words.specs.declared.limits.TheConstants.{MAX_TENANTS};
+ghost use Rattle.mw_opening.specs.declared.file_fault.FileFault.{FileFault as Fault};
 
 use crate::file_fault::FileFault;
 use crate::file_state::{FileStates, SeenFile};
@@ -28,6 +29,10 @@ pub trait OpensDisks {
     // The disk is over the file at this path, which is given by its bytes. A new one says here what it knows of its disks.
     ghost is_over: { List ℕ → Self.Device → Type 0 };
 
+    // The file at this path was not opened, for this fault. A new one says here what it knows of that. Code for each of
+    // them has it only from a call of `open`.
+    ghost is_refused: { List ℕ → Fault → Type 0 };
+
     /// Opens the file at this path for the tenant of this number, and gives a disk over it.
     ///
     /// # Errors
@@ -35,7 +40,8 @@ pub trait OpensDisks {
     /// As [`FileFault`] tells.
     fn open(&self, tenant: usize, path: &str) -> Result<Self::Device, FileFault>
         requires { tenant < MAX_TENANTS }
-        ensures { IfOk result (λ disk. is_over path.now disk) };
+        ensures over { IfOk result (λ disk. is_over path.now disk) }
+        ensures refused { IfErr result (λ fault. is_refused path.now fault) };
 
     /// Gives what keeps the last error of the file of the tenant of this number.
     fn last_error(&self, tenant: usize) -> &LastError
@@ -77,8 +83,10 @@ impl<'a, R> LockedFiles<'a, R> {
 impl<'a, R: Files<File = File> + Clock> OpensDisks for LockedFiles<'a, R> {
     type Device = TenantDisk<'a, R>;
 
-    // No contract of the library says of which path a file is.
+    // No contract of the library says of which path a file is, or why it isn't opened.
     ghost is_over = { λ _ _. Unit {0} };
+
+    ghost is_refused = { λ _ _. Unit {0} };
 
     fn open(&self, tenant: usize, path: &str) -> Result<TenantDisk<'a, R>, FileFault> {
         let file = open_locked(self.rt, path, self.states, tenant)?;

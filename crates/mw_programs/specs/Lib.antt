@@ -2,3 +2,4 @@ pub mod Copies
 pub mod Descriptors
 pub mod Replaced
 pub mod WorkerCount
+pub mod Promised

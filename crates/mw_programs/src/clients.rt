@@ -2,8 +2,11 @@
 //!
 //! Used by: `services`. Change it with docs/OPERATING, which has what it prints and its notes.
 ghost use Rattle.std.specs.Prelude.{◌<◌, vec_len};
+ghost use Rattle.mw_connections.specs.Promises.{KeepsPromise};
+ghost use Rattle.mw_server_pages.specs.PagesPromises.{PagesKeep};
 
 use crate::beats::{HeldLease, LeaseLook};
+use crate::console::Console;
 use crate::doors::{AdminDoor, ClientDoors, Doors, PagesDoor, open_doors};
 use crate::pages::show_pages;
 use crate::replaced::{FileLook, PERIOD, Stop, look_on};
@@ -11,13 +14,12 @@ use crate::room_notes::RoomNotes;
 use crate::serving::ServeFault;
 use log::Log;
 use mw_config::Listening;
-use mw_connections::{ClientListener, Lease, MeteredListener, Patient};
+use mw_connections::{ClientListener, Lease, MeteredListener, Network, Patient};
 use mw_metrics::Meters;
-use mw_server_pages::Pages;
+use mw_server_pages::{Pages, PagesPromise};
 use mw_session::Service;
 use mw_workers::{Desk, ServeEnd, serve_all, serve_beside};
 use std::fs::File;
-use std::io::Write;
 use std::net::{Net, TcpListener, TcpStream};
 use std::rt::Files;
 use std::sync::Wait;
@@ -26,8 +28,10 @@ use std::time::Clock;
 
 /// What the start of a server made, but its engine.
 #[derive(Drop)]
-pub(crate) struct Server<'e, R, L, T> {
+pub(crate) struct Server<'e, R, N, Q, L, T> {
     pub(crate) rt: &'e R,
+    /// Where it listens, and what its clients are promised.
+    pub(crate) network: &'e Network<'e, N, Q>,
     pub(crate) listening: &'e Listening,
     pub(crate) notes: &'e L,
     /// Is told of each request that is answered FAULT, and looks at the tenants' files.
@@ -37,7 +41,7 @@ pub(crate) struct Server<'e, R, L, T> {
     pub(crate) held: Option<&'e HeldLease<'e>>,
 }
 
-impl<'e, R, L, T> Server<'e, R, L, T> {
+impl<'e, R, N, Q, L, T> Server<'e, R, N, Q, L, T> {
     /// Gives what replies ask before they tell of words.
     fn lease(&self) -> Option<&'e Lease> {
         match self.held {
@@ -47,35 +51,40 @@ impl<'e, R, L, T> Server<'e, R, L, T> {
     }
 }
 
-/// Opens the addresses of a server, writes to `out` where it listens, and serves clients, each by one of these services. If
+/// Opens the addresses of a server, tells where it listens, and serves clients, each by one of these services. If
 /// there is an address for the administrator, the last of them serves only the clients of that address. Meanwhile a thread
 /// looks at the tenants' files, and if there are pages another one shows them.
 pub(crate) fn serve_clients<
     'e,
     S: Service + Send + Drop,
-    P: Pages + Send + Drop,
+    G: Pages + Send + Drop,
     R,
-    O: Write,
+    N,
+    Q: PagesPromise,
+    C: Console<Q>,
     L: Log + Sync,
     T: FileLook + Sync,
 >(
-    server: &Server<'e, R, L, T>,
+    server: &Server<'e, R, N, Q, L, T>,
     services: Vec<S>,
-    pages: Option<P>,
-    out: &mut O,
+    pages: Option<G>,
+    console: &mut C,
 ) -> Result<(), ServeFault>
 where
-    R: Files<File = File>
-        + AllocGlobal
-        + Net<Listener = TcpListener, Stream = TcpStream>
-        + Threads
-        + Wait
-        + Clock
-        + Sync,
-    requires { 0 < vec_len services }
+    R: AllocGlobal + Threads + Wait + Clock + Sync,
+    N: Files<File = File> + Net<Listener = TcpListener, Stream = TcpStream> + Clock + Sync,
+    requires some { 0 < vec_len services }
+    requires keeps { KeepsPromise S.answered Q.kept }
+    requires pages { PagesKeep G.answered Q.shown }
 {
-    let (rt, counters) = (server.rt, server.meters.server());
-    let doors = open_doors(rt, server.listening, out, server.notes, counters)?;
+    let counters = server.meters.server();
+    let doors = open_doors(
+        server.network,
+        server.listening,
+        console,
+        server.notes,
+        counters,
+    )?;
     serve_watched(server, doors.with_lease(server.lease()), services, pages)
 }
 
@@ -84,17 +93,21 @@ where
 fn serve_watched<
     'e,
     S: Service + Send + Drop,
-    P: Pages + Send + Drop,
+    G: Pages + Send + Drop,
     R: AllocGlobal + Threads + Wait + Clock + Sync,
+    N: Clock + Sync,
+    Q: PagesPromise,
     L: Log + Sync,
     T: FileLook + Sync,
 >(
-    server: &Server<'e, R, L, T>,
-    doors: Doors<'e, R>,
+    server: &Server<'e, R, N, Q, L, T>,
+    doors: Doors<'e, N, Q>,
     services: Vec<S>,
-    pages: Option<P>,
+    pages: Option<G>,
 ) -> Result<(), ServeFault>
-    requires { 0 < vec_len services }
+    requires some { 0 < vec_len services }
+    requires keeps { KeepsPromise S.answered Q.kept }
+    requires pages { PagesKeep G.answered Q.shown }
 {
     let stop = Stop::new();
     let stop = &stop;
@@ -110,7 +123,9 @@ fn serve_watched<
         thread::scope_env(),
         rt,
         |scope| -> Result<(), ServeFault>
-            requires { 0 < vec_len services }
+            requires some { 0 < vec_len services }
+            requires keeps { KeepsPromise S.answered Q.kept }
+            requires pages { PagesKeep G.answered Q.shown }
         {
             if scope
                 .spawn(move || look_on(rt, look, PERIOD, stop))
@@ -135,17 +150,21 @@ fn serve_watched<
 fn serve_and_show<
     'e,
     S: Service + Send + Drop,
-    P: Pages + Send + Drop,
+    G: Pages + Send + Drop,
     R: AllocGlobal + Threads + Wait + Clock + Sync,
+    N: Clock + Sync,
+    Q: PagesPromise,
     L: Log + Sync,
     T,
 >(
-    server: &Server<'e, R, L, T>,
-    doors: Doors<'e, R>,
+    server: &Server<'e, R, N, Q, L, T>,
+    doors: Doors<'e, N, Q>,
     services: Vec<S>,
-    pages: Option<P>,
+    pages: Option<G>,
 ) -> Result<(), ServeFault>
-    requires { 0 < vec_len services }
+    requires some { 0 < vec_len services }
+    requires keeps { KeepsPromise S.answered Q.kept }
+    requires pages { PagesKeep G.answered Q.shown }
 {
     let Doors {
         clients,
@@ -161,18 +180,22 @@ fn serve_and_show<
 fn serve_beside_pages<
     'e,
     S: Service + Send + Drop,
-    P: Pages + Send + Drop,
+    G: Pages + Send + Drop,
     R: AllocGlobal + Threads + Wait + Clock + Sync,
+    N: Clock + Sync,
+    Q: PagesPromise,
     L: Log + Sync,
     T,
 >(
-    server: &Server<'e, R, L, T>,
-    doors: ClientDoors<'e, R>,
+    server: &Server<'e, R, N, Q, L, T>,
+    doors: ClientDoors<'e, N, Q>,
     services: Vec<S>,
-    pages: P,
-    door: PagesDoor<'e, R>,
+    pages: G,
+    door: PagesDoor<'e, N, Q>,
 ) -> Result<(), ServeFault>
-    requires { 0 < vec_len services }
+    requires some { 0 < vec_len services }
+    requires keeps { KeepsPromise S.answered Q.kept }
+    requires pages { PagesKeep G.answered Q.shown }
 {
     let (listener, end) = (door.listener, door.end);
     let end = &end;
@@ -181,10 +204,16 @@ fn serve_beside_pages<
         thread::scope_env(),
         rt,
         |scope| -> Result<(), ServeFault>
-            requires { 0 < vec_len services }
+            requires some { 0 < vec_len services }
+            requires keeps { KeepsPromise S.answered Q.kept }
+            requires pages { PagesKeep G.answered Q.shown }
         {
             if scope
-                .spawn(move || show_pages(rt, listener, pages, names, end))
+                .spawn(
+                    move ||
+                        requires keeps { PagesKeep G.answered Q.shown }
+                    { show_pages(rt, listener, pages, names, end) },
+                )
                 .is_err()
             {
                 return Err(ServeFault::Memory);
@@ -201,14 +230,17 @@ fn serve_doors<
     'e,
     S: Service + Send + Drop,
     R: AllocGlobal + Threads + Wait + Clock + Sync,
+    N: Clock + Sync,
+    Q: PagesPromise,
     L: Log + Sync,
     T,
 >(
-    server: &Server<'e, R, L, T>,
-    doors: ClientDoors<'e, R>,
+    server: &Server<'e, R, N, Q, L, T>,
+    doors: ClientDoors<'e, N, Q>,
     services: Vec<S>,
 ) -> Result<(), ServeFault>
-    requires { 0 < vec_len services }
+    requires some { 0 < vec_len services }
+    requires keeps { KeepsPromise S.answered Q.kept }
 {
     let room = RoomNotes::new(server.rt, server.notes, server.listening.address.as_str());
     let (all, admin) = (doors.all, doors.admin);
@@ -227,15 +259,18 @@ fn serve_one<
     'e,
     S: Service + Send + Drop,
     R: AllocGlobal + Threads + Wait + Clock + Sync,
+    N: Clock + Sync,
+    Q: PagesPromise,
     L: Log + Sync,
     T,
 >(
-    server: &Server<'e, R, L, T>,
-    clients: ClientListener<'e, R>,
+    server: &Server<'e, R, N, Q, L, T>,
+    clients: ClientListener<'e, N, Q>,
     services: Vec<S>,
     room: &RoomNotes<'_, L, R>,
 ) -> ServeEnd
-    requires { 0 < vec_len services }
+    requires some { 0 < vec_len services }
+    requires keeps { KeepsPromise S.answered Q.kept }
 {
     let (rt, listening) = (server.rt, server.listening);
     let clients = MeteredListener::new(clients, server.meters.server());
@@ -257,15 +292,19 @@ fn serve_both<
     'e,
     S: Service + Send + Drop,
     R: AllocGlobal + Threads + Wait + Clock + Sync,
+    N: Clock + Sync,
+    Q: PagesPromise,
     L: Log + Sync,
     T,
 >(
-    server: &Server<'e, R, L, T>,
-    clients: ClientListener<'e, R>,
-    admin: AdminDoor<'e, R>,
+    server: &Server<'e, R, N, Q, L, T>,
+    clients: ClientListener<'e, N, Q>,
+    admin: AdminDoor<'e, N, Q>,
     services: Vec<S>,
     room: &RoomNotes<'_, L, R>,
-) -> ServeEnd {
+) -> ServeEnd
+    requires keeps { KeepsPromise S.answered Q.kept }
+{
     let Some(both) = BothServices::new(services) else {
         return ServeEnd::Memory;
     };
@@ -278,16 +317,20 @@ fn serve_beside_desk<
     'e,
     S: Service + Send + Drop,
     R: AllocGlobal + Threads + Wait + Clock + Sync,
+    N: Clock + Sync,
+    Q: PagesPromise,
     L: Log + Sync,
     T,
 >(
-    server: &Server<'e, R, L, T>,
-    clients: ClientListener<'e, R>,
-    admin: AdminDoor<'e, R>,
+    server: &Server<'e, R, N, Q, L, T>,
+    clients: ClientListener<'e, N, Q>,
+    admin: AdminDoor<'e, N, Q>,
     both: BothServices<S>,
     room: &RoomNotes<'_, L, R>,
     own_room: &RoomNotes<'_, L, R>,
-) -> ServeEnd {
+) -> ServeEnd
+    requires keeps { KeepsPromise S.answered Q.kept }
+{
     let (rt, listening, counters) = (server.rt, server.listening, server.meters.server());
     let desk = Desk {
         listener: MeteredListener::new(admin.listener, counters),

@@ -3,29 +3,30 @@
 //! `clients` opens them once all services are made, and then serves. docs/OPERATING tells what is printed, and the notes: change
 //! both together.
 
+use crate::console::{Address, Console};
 use crate::pages::{LIMITS, PagesEnd};
 use crate::serving::ServeFault;
 use log::{Log, error, warn};
 use mw_config::Listening;
 use mw_connections::{
-    BriefListener, ClientListener, Closer, Lease, TimeLimits, listen_at, listen_briefly, port_of,
+    BriefListener, ClientListener, Closer, Lease, Network, Promise, TimeLimits, listen_at,
+    listen_briefly, port_of,
 };
 use mw_metrics::ServerCounters;
 use mw_opening::{note_place, note_why};
-use std::fmt::Display;
 use std::fs::File;
-use std::io::{self, ErrorKind, Write};
+use std::io::{self, ErrorKind};
 use std::net::{Net, TcpListener, TcpStream};
 use std::rt::Files;
 
 /// The addresses of a server, at each of which it listens.
 #[derive(Drop)]
-pub(crate) struct Doors<'e, R> {
-    pub(crate) clients: ClientDoors<'e, R>,
-    pub(crate) pages: Option<PagesDoor<'e, R>>,
+pub(crate) struct Doors<'e, N, Q> {
+    pub(crate) clients: ClientDoors<'e, N, Q>,
+    pub(crate) pages: Option<PagesDoor<'e, N, Q>>,
 }
 
-impl<'e, R> Doors<'e, R> {
+impl<'e, N, Q> Doors<'e, N, Q> {
     /// Has all replies and pages need this lease. None: they need none.
     pub(crate) fn with_lease(self, lease: Option<&'e Lease>) -> Self {
         let (clients, pages) = (self.clients, self.pages);
@@ -56,18 +57,18 @@ impl<'e, R> Doors<'e, R> {
 
 /// The address for clients, and the one for the administrator if there is one.
 #[derive(Drop)]
-pub(crate) struct ClientDoors<'e, R> {
-    pub(crate) all: ClientListener<'e, R>,
+pub(crate) struct ClientDoors<'e, N, Q> {
+    pub(crate) all: ClientListener<'e, N, Q>,
     /// The port of the address for clients, if it has one.
     port: Option<u16>,
-    pub(crate) admin: Option<AdminDoor<'e, R>>,
+    pub(crate) admin: Option<AdminDoor<'e, N, Q>>,
 }
 
 /// The address for the administrator.
 #[derive(Drop)]
-pub(crate) struct AdminDoor<'e, R> {
+pub(crate) struct AdminDoor<'e, N, Q> {
     pub(crate) address: &'e str,
-    pub(crate) listener: ClientListener<'e, R>,
+    pub(crate) listener: ClientListener<'e, N, Q>,
     port: Option<u16>,
     /// Ends the wait for a client there.
     pub(crate) closer: Closer,
@@ -75,65 +76,56 @@ pub(crate) struct AdminDoor<'e, R> {
 
 /// The address of the pages.
 #[derive(Drop)]
-pub(crate) struct PagesDoor<'e, R> {
-    pub(crate) listener: BriefListener<'e, R>,
+pub(crate) struct PagesDoor<'e, N, Q> {
+    pub(crate) listener: BriefListener<'e, N, Q>,
     pub(crate) end: PagesEnd,
 }
 
-/// Listens at all addresses, and writes to `out` where: first at that of the pages, and once all are open the administrator's
+/// Listens at all addresses, and tells where: first at that of the pages, and once all are open the administrator's
 /// place, then `ready`. The counters count the bytes of the clients, if there are pages that tell them. A note tells of an
 /// address at which nobody can listen, and of one at which clients of other machines may come.
-pub(crate) fn open_doors<'e, R, O: Write, L: Log>(
-    rt: &'e R,
+pub(crate) fn open_doors<'e, N, Q: Promise, C: Console<Q>, L: Log>(
+    network: &Network<'e, N, Q>,
     listening: &'e Listening,
-    out: &mut O,
+    console: &mut C,
     notes: &L,
     counters: &'e ServerCounters,
-) -> Result<Doors<'e, R>, ServeFault>
+) -> Result<Doors<'e, N, Q>, ServeFault>
 where
-    R: Files<File = File> + Net<Listener = TcpListener, Stream = TcpStream>,
+    N: Files<File = File> + Net<Listener = TcpListener, Stream = TcpStream>,
 {
     let pages = match &listening.http {
-        Some(address) => Some(open_pages(rt, address.as_str(), listening, out, notes)?),
+        Some(address) => Some(open_pages(network, address.as_str(), listening, console, notes)?),
         None => None,
     };
-    let (all, port) = open_clients(rt, listening.address.as_str(), listening, notes, counters)?;
+    let (all, port) = open_clients(
+        network,
+        listening.address.as_str(),
+        listening,
+        notes,
+        counters,
+    )?;
     let admin = match &listening.admin {
-        Some(address) => Some(open_admin(rt, address.as_str(), listening, notes, counters)?),
+        Some(address) => Some(open_admin(network, address.as_str(), listening, notes, counters)?),
         None => None,
     };
     let clients = ClientDoors { all, port, admin };
-    match tell_doors(&clients, listening, out) {
+    match tell_doors(&clients, listening, console) {
         Ok(()) => Ok(Doors { clients, pages }),
         Err(_) => Err(ServeFault::Failed),
     }
 }
 
-/// Writes to `out` where clients find the server, the administrator first.
-fn tell_doors<R, O: Write>(
-    doors: &ClientDoors<'_, R>,
+/// Tells where clients find the server, the administrator first.
+fn tell_doors<N, Q: Promise, C: Console<Q>>(
+    doors: &ClientDoors<'_, N, Q>,
     listening: &Listening,
-    out: &mut O,
+    console: &mut C,
 ) -> io::Result<()> {
     if let Some(door) = &doors.admin {
-        tell_at(out, "admin", door.port, door.address)?;
+        console.tell(Address::Admin, door.port, door.address)?;
     }
-    let address = listening.address.as_str();
-    tell_at(out, "ready", doors.port, address)
-}
-
-/// Writes to `out` this word, and after it the port, or the address if it has none.
-fn tell_at<O: Write>(out: &mut O, word: &str, port: Option<u16>, address: &str) -> io::Result<()> {
-    match port {
-        Some(port) => tell_line(out, word, &port),
-        None => tell_line(out, word, &address),
-    }
-}
-
-/// Writes to `out` this word and a place after it, and flushes.
-fn tell_line<O: Write, P: Display>(out: &mut O, word: &str, place: &P) -> io::Result<()> {
-    writeln!(out, "{word} {place}")?;
-    out.flush()
+    console.tell(Address::Clients, doors.port, listening.address.as_str())
 }
 
 /// Writes that nobody can listen at this address, and what the system told, or which form an address has.
@@ -162,17 +154,17 @@ fn note_open<L: Log>(notes: &L, listening: &Listening, address: &str, is_open: i
 }
 
 /// Listens at this address for clients. Gives also its port, if it has one.
-fn open_clients<'e, R, L: Log>(
-    rt: &'e R,
+fn open_clients<'e, N, Q, L: Log>(
+    network: &Network<'e, N, Q>,
     address: &str,
     listening: &Listening,
     notes: &L,
     counters: &'e ServerCounters,
-) -> Result<(ClientListener<'e, R>, Option<u16>), ServeFault>
+) -> Result<(ClientListener<'e, N, Q>, Option<u16>), ServeFault>
 where
-    R: Files<File = File> + Net<Listener = TcpListener, Stream = TcpStream>,
+    N: Files<File = File> + Net<Listener = TcpListener, Stream = TcpStream>,
 {
-    match clients_at(rt, address, listening, counters) {
+    match clients_at(network, address, listening, counters) {
         Ok((clients, port)) => {
             note_open(notes, listening, address, clients.is_open());
             Ok((clients, port))
@@ -182,20 +174,20 @@ where
 }
 
 /// Listens at an address for clients, whose bytes the counters count if there are pages that tell them.
-fn clients_at<'e, R>(
-    rt: &'e R,
+fn clients_at<'e, N, Q>(
+    network: &Network<'e, N, Q>,
     address: &str,
     listening: &Listening,
     counters: &'e ServerCounters,
-) -> io::Result<(ClientListener<'e, R>, Option<u16>)>
+) -> io::Result<(ClientListener<'e, N, Q>, Option<u16>)>
 where
-    R: Files<File = File> + Net<Listener = TcpListener, Stream = TcpStream>,
+    N: Files<File = File> + Net<Listener = TcpListener, Stream = TcpStream>,
 {
     let limits = TimeLimits {
         silence: listening.idle,
         line: listening.line_time,
     };
-    let clients = listen_at(rt, address, listening.socket_mode, limits)?;
+    let clients = listen_at(network, address, listening.socket_mode, limits)?;
     let port = port_of(&clients)?;
     let clients = clients.with_faults(listening.faults);
     if listening.http.is_some() {
@@ -206,17 +198,17 @@ where
 }
 
 /// Listens at the administrator's address.
-fn open_admin<'e, R, L: Log>(
-    rt: &'e R,
+fn open_admin<'e, N, Q, L: Log>(
+    network: &Network<'e, N, Q>,
     address: &'e str,
     listening: &Listening,
     notes: &L,
     counters: &'e ServerCounters,
-) -> Result<AdminDoor<'e, R>, ServeFault>
+) -> Result<AdminDoor<'e, N, Q>, ServeFault>
 where
-    R: Files<File = File> + Net<Listener = TcpListener, Stream = TcpStream>,
+    N: Files<File = File> + Net<Listener = TcpListener, Stream = TcpStream>,
 {
-    let (listener, port) = open_clients(rt, address, listening, notes, counters)?;
+    let (listener, port) = open_clients(network, address, listening, notes, counters)?;
     match listener.closer() {
         Ok(closer) => Ok(AdminDoor {
             address,
@@ -228,38 +220,38 @@ where
     }
 }
 
-/// Listens at the address of the pages, and writes to `out` where.
-fn open_pages<'e, R, O: Write, L: Log>(
-    rt: &'e R,
+/// Listens at the address of the pages, and tells where.
+fn open_pages<'e, N, Q: Promise, C: Console<Q>, L: Log>(
+    network: &Network<'e, N, Q>,
     address: &str,
     listening: &Listening,
-    out: &mut O,
+    console: &mut C,
     notes: &L,
-) -> Result<PagesDoor<'e, R>, ServeFault>
+) -> Result<PagesDoor<'e, N, Q>, ServeFault>
 where
-    R: Files<File = File> + Net<Listener = TcpListener, Stream = TcpStream>,
+    N: Files<File = File> + Net<Listener = TcpListener, Stream = TcpStream>,
 {
-    let (door, port) = match pages_at(rt, address, listening.socket_mode) {
+    let (door, port) = match pages_at(network, address, listening.socket_mode) {
         Ok(opened) => opened,
         Err(error) => return Err(cannot_listen(notes, address, &error)),
     };
     note_open(notes, listening, address, door.listener.is_open());
-    match tell_at(out, "http", port, address) {
+    match console.tell(Address::Pages, port, address) {
         Ok(()) => Ok(door),
         Err(_) => Err(ServeFault::Failed),
     }
 }
 
 /// Listens at an address for clients of the pages. Gives also its port, if it has one.
-fn pages_at<'e, R>(
-    rt: &'e R,
+fn pages_at<'e, N, Q>(
+    network: &Network<'e, N, Q>,
     address: &str,
     mode: u32,
-) -> io::Result<(PagesDoor<'e, R>, Option<u16>)>
+) -> io::Result<(PagesDoor<'e, N, Q>, Option<u16>)>
 where
-    R: Files<File = File> + Net<Listener = TcpListener, Stream = TcpStream>,
+    N: Files<File = File> + Net<Listener = TcpListener, Stream = TcpStream>,
 {
-    let listener = listen_briefly(rt, address, mode, LIMITS)?;
+    let listener = listen_briefly(network, address, mode, LIMITS)?;
     let end = PagesEnd::new(listener.closer()?);
     let port = listener.port()?;
     Ok((PagesDoor { listener, end }, port))

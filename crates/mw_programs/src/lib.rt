@@ -5,11 +5,13 @@
 
 mod beats;
 mod clients;
+mod console;
 mod copies;
 mod descriptors;
 mod doors;
 mod ending;
 mod pages;
+mod promise;
 mod prompt;
 mod replaced;
 mod room_notes;
@@ -17,7 +19,10 @@ mod services;
 mod serving;
 mod tenants;
 
+pub use console::{Address, Console, Printed};
 pub use ending::{ServedApart, ServerEnd, ends_on_failure};
+pub use mw_connections::{Anything, Network};
+pub use promise::EngineServes;
 pub use prompt::PromptErrors;
 pub use replaced::SeesPaths;
 pub use serving::serve;

@@ -1,10 +1,11 @@
 //! Shows the server's pages over HTTP, beside its clients, on a thread of its own.
 //!
 //! Used by: `doors`, `clients`. Change it with docs/OPERATING.
+ghost use Rattle.mw_server_pages.specs.PagesPromises.{PagesKeep};
 
 use mw_connections::{BriefLimits, BriefListener, Closer};
 use mw_main::VERSION;
-use mw_server_pages::{Pages, Version, serve_pages};
+use mw_server_pages::{Pages, PagesPromise, Version, serve_pages};
 use std::sync::Wait;
 use std::sync::atomic::{AtomicBool, Ordering};
 use std::time::Clock;
@@ -44,13 +45,15 @@ impl PagesEnd {
 }
 
 /// Shows the pages to each client that comes and calls the server by one of these names, until they are ended.
-pub(crate) fn show_pages<P: Pages + Drop, R: Wait + Clock + Sync>(
+pub(crate) fn show_pages<G: Pages + Drop, R: Wait + Clock + Sync, N: Clock + Sync, Q: PagesPromise>(
     rt: &R,
-    listener: BriefListener<'_, R>,
-    pages: P,
+    listener: BriefListener<'_, N, Q>,
+    pages: G,
     names: &[String],
     end: &PagesEnd,
-) {
+)
+    requires keeps { PagesKeep G.answered Q.shown }
+{
     let (mut listener, mut pages) = (listener, pages);
     serve_pages(rt, &mut listener, &mut pages, names, &end.is_open);
 }

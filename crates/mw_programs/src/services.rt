@@ -4,10 +4,12 @@
 //! Used by: `serving`, for `--listen`. Change it with docs/OPERATING.
 ghost use Rattle.std.specs.Prelude.{ℕ, ◌≡◌, ◌≤◌, ◌<◌, ◌+◌, All, IfOk, IfSome, is_some, if◌then◌else◌, vec_len};
 ghost use Rattle.mw_engine.specs.Passes.{IsNew};
+ghost use Rattle.mw_server_pages.specs.PagesPromises.{PagesKeep};
 ghost use Rattle.mw_service.specs.TokenTables.{table_of};
+ghost use Rattle.mw_programs.specs.Promised.{Promises};
 
-use crate::beats::HeldLease;
 use crate::clients::{Server, serve_clients};
+use crate::console::Console;
 use crate::copies::EngineFiles;
 use crate::pages::version;
 use crate::replaced::FileLook;
@@ -17,14 +19,13 @@ use mw_config::{Listening, SharedWorkers};
 use mw_disk::Disk;
 use mw_engine::{Engine, EngineBrand, NoHold, Pass};
 use mw_metrics::{Meters, ServerCounters};
-use mw_server_pages::{Capacity, Pages, ServerPages};
+use mw_server_pages::{Capacity, Pages, PagesPromise, ServerPages};
 use mw_service::{
     Borrower, FaultWatch, MeteredService, NewTokenTable, PassPool, ReadPool, TokenBrand,
     TokenTable, Worker,
 };
 use std::alloc::AllocError;
 use std::fs::File;
-use std::io::Write;
 use std::marker::Brand;
 use std::net::{Net, TcpListener, TcpStream};
 use std::rt::Files;
@@ -46,51 +47,43 @@ pub(crate) fn serve_all_clients<
     J,
     D: Disk + Drop + Send + Sync,
     R,
-    O: Write,
+    N,
+    Q: PagesPromise,
+    C: Console<Q>,
     L: Log + Sync,
     T: FaultWatch + FileLook + Sync,
 >(
-    rt: &'e R,
+    server: &Server<'e, R, N, Q, L, T>,
     engine: &'e Engine<J, D, NoHold>,
     passes: Vec<Pass>,
-    listening: &'e Listening,
-    out: &mut O,
-    notes: &'e L,
-    watch: &'e T,
-    meters: &'e Meters,
-    held: Option<&'e HeldLease<'e>>,
+    console: &mut C,
 ) -> Result<(), ServeFault>
 where
     J: EngineBrand + Send + Sync,
-    R: Files<File = File>
-        + AllocGlobal
-        + Net<Listener = TcpListener, Stream = TcpStream>
-        + Threads
-        + Wait
-        + Clock
-        + Sync,
+    R: AllocGlobal + Threads + Wait + Clock + Sync,
+    N: Files<File = File> + Net<Listener = TcpListener, Stream = TcpStream> + Clock + Sync,
     requires new { All (IsNew J.identity) passes.items }
-    requires clients { IfSome listening.now.shared (λ shared. 1 ≤ shared.clients) }
+    requires clients { IfSome server.now.listening.now.shared (λ shared. 1 ≤ shared.clients) }
+    requires promise { Promises D.facts J.identity Q.kept Q.shown }
 {
+    let (rt, listening, meters) = (server.rt, server.listening, server.meters);
     let mut passes = passes;
-    let pages = pages_for(rt, engine, &mut passes, listening, watch, meters)?;
+    let pages = pages_for(rt, engine, &mut passes, listening, server.watch, meters)?;
     if passes.is_empty() {
         return Err(ServeFault::Memory);
     }
-    let server = Server {
-        rt,
-        listening,
-        notes,
-        watch,
-        meters,
-        held,
-    };
     match &listening.shared {
         None => {
-            let workers = workers_for(rt, engine, passes, watch, counted(listening, meters))?;
-            serve_clients(&server, workers, pages, out)
+            let workers = workers_for(
+                rt,
+                engine,
+                passes,
+                server.watch,
+                counted(listening, meters),
+            )?;
+            serve_clients(server, workers, pages, console)
         }
-        Some(shared) => serve_shared(&server, engine, passes, pages, *shared, out),
+        Some(shared) => serve_shared(server, engine, passes, pages, *shared, console),
     }
 }
 
@@ -101,32 +94,33 @@ fn serve_shared<
     J,
     D: Disk + Drop + Send + Sync,
     R,
-    O: Write,
+    N,
+    Q: PagesPromise,
+    C: Console<Q>,
     L: Log + Sync,
-    P: Pages + Send + Drop,
+    G: Pages + Send + Drop,
     T: FaultWatch + FileLook + Sync,
 >(
-    server: &Server<'e, R, L, T>,
+    server: &Server<'e, R, N, Q, L, T>,
     engine: &'e Engine<J, D, NoHold>,
     passes: Vec<Pass>,
-    pages: Option<P>,
+    pages: Option<G>,
     shared: SharedWorkers,
-    out: &mut O,
+    console: &mut C,
 ) -> Result<(), ServeFault>
 where
     J: EngineBrand + Send + Sync,
-    R: Files<File = File>
-        + AllocGlobal
-        + Net<Listener = TcpListener, Stream = TcpStream>
-        + Threads
-        + Wait
-        + Clock
-        + Sync,
+    R: AllocGlobal + Threads + Wait + Clock + Sync,
+    N: Files<File = File> + Net<Listener = TcpListener, Stream = TcpStream> + Clock + Sync,
     requires new { All (IsNew J.identity) passes.items }
     requires clients { 1 ≤ shared.clients }
+    requires promise { Promises D.facts J.identity Q.kept Q.shown }
+    requires pages { PagesKeep G.answered Q.shown }
 {
     let made = NewTokenTable::new(server.rt.alloc())?;
-    serve_borrowers::<J, Brand, _, _, _, _, _, _>(server, engine, made, passes, pages, shared, out)
+    serve_borrowers::<J, Brand, _, _, _, _, _, _, _, _>(
+        server, engine, made, passes, pages, shared, console,
+    )
 }
 
 /// The same, with the table of the tokens of all borrowers' requests.
@@ -136,31 +130,30 @@ fn serve_borrowers<
     K: TokenBrand + Send + Sync,
     D: Disk + Drop + Send + Sync,
     R,
-    O: Write,
+    N,
+    Q: PagesPromise,
+    C: Console<Q>,
     L: Log + Sync,
-    P: Pages + Send + Drop,
+    G: Pages + Send + Drop,
     T: FaultWatch + FileLook + Sync,
 >(
-    server: &Server<'e, R, L, T>,
+    server: &Server<'e, R, N, Q, L, T>,
     engine: &'e Engine<J, D, NoHold>,
     made: NewTokenTable,
     passes: Vec<Pass>,
-    pages: Option<P>,
+    pages: Option<G>,
     shared: SharedWorkers,
-    out: &mut O,
+    console: &mut C,
 ) -> Result<(), ServeFault>
 where
     J: EngineBrand + Send + Sync,
-    R: Files<File = File>
-        + AllocGlobal
-        + Net<Listener = TcpListener, Stream = TcpStream>
-        + Threads
-        + Wait
-        + Clock
-        + Sync,
+    R: AllocGlobal + Threads + Wait + Clock + Sync,
+    N: Files<File = File> + Net<Listener = TcpListener, Stream = TcpStream> + Clock + Sync,
     requires named { table_of made ≡ K.table }
     requires new { All (IsNew J.identity) passes.items }
     requires clients { 1 ≤ shared.clients }
+    requires promise { Promises D.facts J.identity Q.kept Q.shown }
+    requires pages { PagesKeep G.answered Q.shown }
 {
     let (rt, listening) = (server.rt, server.listening);
     let meter = counted(listening, server.meters);
@@ -169,7 +162,7 @@ where
     let pools = Pools::new(rt, &tokens, passes, shared.readers, has_admin, meter)?;
     let clients = shared.clients;
     let borrowers = borrowers_for(rt, engine, &tokens, &pools, clients, server.watch, meter)?;
-    serve_clients(server, borrowers, pages, out)
+    serve_clients(server, borrowers, pages, console)
 }
 
 /// Makes the pages if they have an address. A worker with the last of these passes gives their figures, and the engine gives

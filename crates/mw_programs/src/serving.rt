@@ -9,9 +9,12 @@ ghost use Rattle.mw_words.specs.declared.limits.TheConstants.{MAX_TENANTS, MAX_W
 ghost use Rattle.mw_engine.specs.Passes.{IsNew};
 ghost use Rattle.mw_engine.specs.Parts.{identity_of};
 ghost use Rattle.mw_opening.specs.MadeOfOpened.{AreMadeOfOpened};
+ghost use Rattle.mw_programs.specs.Promised.{Promises, PromisesOfStart};
 ghost use Rattle.mw_programs.specs.WorkerCount.{one_for, own_workers, served_count, worker_count};
 
 use crate::beats::HeldLease;
+use crate::clients::Server;
+use crate::console::Console;
 use crate::descriptors::{has_descriptors, has_stack, needed};
 use crate::ending::ServerEnd;
 use crate::replaced::{FileLook, SeesPaths};
@@ -20,15 +23,17 @@ use crate::tenants::TenantNotes;
 use arrayvec::ArrayVec;
 use log::{Log, error, warn};
 use mw_config::{ArgFault, Args, Listening, Mode, TenantLine, read_args};
+use mw_connections::{Network, Promise};
 use mw_disk::Disk;
 use mw_engine::{Engine, EngineBrand, EngineParts, NoHold, Pass};
 use mw_metrics::Meters;
 use mw_opening::{
-    FileStates, LockedFiles, NoteForm, Notes, OpenedParts, OpensDisks, are_all_open, note_why,
-    open_parts, open_plain, read_tenants_file, sync_folders,
+    FileStates, LockedFiles, NoteForm, Notes, OpenedParts, OpensDisks, TenantDisk, are_all_open,
+    note_why, open_parts, open_plain, read_tenants_file, sync_folders,
 };
+use mw_server_pages::PagesPromise;
 use mw_service::{FaultWatch, Worker};
-use mw_session::{Duplex, Ended, RecordedStream};
+use mw_session::Ended;
 use mw_words::{MAX_TENANTS, MAX_WORKERS};
 use std::alloc::AllocError;
 use std::fs::File;
@@ -76,11 +81,11 @@ impl From<AllocError> for ServeFault {
 /// Serves what the command line `args` asks for. Its first argument is the program's own name.
 ///
 /// The form is `mwserve --tenants FILE [--pool P] [--workers N] [--strict] [--verbose] [--journal] [--times]`, with one of these:
-/// - `--script FILE` runs one session from the script to `out`.
+/// - `--script FILE` runs one session from the script to the console.
 /// - `--listen ADDR [--admin ADDR] [--http ADDR [--http-name NAME ..]] [--connections C] [--clients M [--readers R]]
 ///   [--wait SECONDS] [--idle SECONDS] [--line-time SECONDS] [--faults F] [--end-on-failure]
-///   [--lease FILE --lease-time SECONDS] [--open] [--mode MODE]` writes `ready PORT`, or
-///   `ready unix:PATH`, to `out`. Then N workers serve clients, or M clients share the N workers' passes, until C connections are
+///   [--lease FILE --lease-time SECONDS] [--open] [--mode MODE]` tells
+///   `ready PORT`, or `ready unix:PATH`, to the console. Then N workers serve clients, or M clients share the N workers' passes, until C connections are
 ///   served. With `--admin`,
 ///   one worker more is for the clients of that address, if N is below [`MAX_WORKERS`]; else one of the N is. `admin
 ///   PORT`, or `admin unix:PATH`, is written before `ready`. With `--http`, a thread shows the server's pages there until
@@ -94,6 +99,9 @@ impl From<AllocError> for ServeFault {
 ///   can listen at an address, or if memory was refused;
 /// - 2 if the command line or the tenants file is wrong.
 ///
+/// `network` is where it listens. `promise`: what its clients were promised is kept if an engine serves them that begins with files
+/// which a start opened ([`EngineServes`](crate::EngineServes)). Of other services nothing is known, so no other can serve them.
+///
 /// Writes to `err` what went wrong before the first session, and why. It also writes a note on each tenant whose
 /// file doesn't open, is in use or fails, and a note when there is no room for connections. With `--listen` it tells before
 /// `ready` how many tenants are down, and writes a note on each tenant whose file is replaced, one if the limit of descriptors
@@ -102,26 +110,22 @@ impl From<AllocError> for ServeFault {
 ///
 /// With `--end-on-failure` it gives `end` the exit status 3 after a note on a tenant whose file fails, or is given up, while
 /// it is served. It goes on, and whoever waits for `end` ends the program.
-pub fn serve<R, O: Write, E: Write + Send>(
+pub fn serve<'a, R, N, Q: PagesPromise, C: Console<Q>, E: Write + Send>(
     rt: &R,
+    network: &'a Network<'a, N, Q>,
     args: &[String],
-    out: &mut O,
+    console: &mut C,
     err: &mut E,
-    end: &ServerEnd,
+    end: &'a ServerEnd,
 ) -> u8
 where
-    R: Files<File = File>
-        + AllocGlobal
-        + Net<Listener = TcpListener, Stream = TcpStream>
-        + Threads
-        + Wait
-        + Clock
-        + Sync
-        + SeesPaths,
+    R: Files<File = File> + AllocGlobal + Threads + Wait + Clock + Sync + SeesPaths + 'a,
+    N: Files<File = File> + Net<Listener = TcpListener, Stream = TcpStream> + Clock + Sync,
+    requires promise { PromisesOfStart ⟦<TenantDisk<'a, R> as Disk>⟧.facts ⟦<TenantDisk<'a, R> as Disk>⟧.made ⟦<LockedFiles<'a, R> as OpensDisks>⟧.is_over ⟦<LockedFiles<'a, R> as OpensDisks>⟧.is_refused Q.kept Q.shown }
 {
     let args = match read_args(rt.alloc(), args) {
         Ok(args) => args,
-        Err(fault) => return refuse(&fault, out, err),
+        Err(fault) => return refuse::<Q, _, _>(&fault, console, err),
     };
     let form = NoteForm {
         verbose: args.verbose,
@@ -129,7 +133,7 @@ where
         times: args.times,
     };
     let notes = Notes::new(rt, err, form);
-    let status = match serve_args(rt, args, out, &notes, end) {
+    let status = match serve_args(rt, network, args, console, &notes, end) {
         Ok(()) => 0,
         Err(fault) => fault.tell(&notes),
     };
@@ -138,12 +142,13 @@ where
 }
 
 /// Writes why a command line isn't served, or what it asks to be told. Gives the exit status.
-fn refuse<O: Write, E: Write>(fault: &ArgFault, out: &mut O, err: &mut E) -> u8 {
+fn refuse<Q: Promise, C: Console<Q>, E: Write>(
+    fault: &ArgFault,
+    console: &mut C,
+    err: &mut E,
+) -> u8 {
     match fault {
-        // The text that clap makes ends with a line feed.
-        ArgFault::Refused(text) if !text.use_stderr() => {
-            u8::from(write!(out, "{fault}").is_err())
-        }
+        ArgFault::Refused(text) if !text.use_stderr() => u8::from(console.help(fault).is_err()),
         ArgFault::Refused(_) => {
             let _ = write!(err, "{fault}");
             2
@@ -161,7 +166,9 @@ fn refuse<O: Write, E: Write>(fault: &ArgFault, out: &mut O, err: &mut E) -> u8 
 
 /// What a server is started with.
 #[derive(Drop)]
-struct Setup<'a> {
+struct Setup<'a, N, Q> {
+    /// Where it listens, and what its clients are promised.
+    network: &'a Network<'a, N, Q>,
     /// What the command line asks for.
     args: Args,
     /// The tenants of the tenants file.
@@ -170,10 +177,11 @@ struct Setup<'a> {
     end: &'a ServerEnd,
 }
 
-impl<'a> Setup<'a> {
+impl<'a, N, Q> Setup<'a, N, Q> {
     /// Reads the tenants file that the arguments name. Writes a note if it is refused.
     fn read<R: Files<File = File>, L: Log>(
         rt: &R,
+        network: &'a Network<'a, N, Q>,
         args: Args,
         notes: &L,
         end: &'a ServerEnd,
@@ -183,7 +191,12 @@ impl<'a> Setup<'a> {
         ensures lines { IfOk result (λ setup. ArePermitted setup.args.pool setup.lines.items) }
     {
         match read_tenants_file(rt, args.tenants.as_str(), args.pool) {
-            Ok(lines) => Ok(Setup { args, lines, end }),
+            Ok(lines) => Ok(Setup {
+                network,
+                args,
+                lines,
+                end,
+            }),
             Err(fault) => {
                 fault.tell(notes, args.tenants.as_str());
                 Err(ServeFault::Refused)
@@ -194,28 +207,24 @@ impl<'a> Setup<'a> {
 
 /// Opens what the arguments name, and serves it. It looks for faults in this order: the tenants file, the
 /// tenants' files, the script or the listeners. Notes tell them.
-fn serve_args<R, O: Write, L: Log + Sync>(
+fn serve_args<'a, R, N, Q: PagesPromise, C: Console<Q>, L: Log + Sync>(
     rt: &R,
+    network: &'a Network<'a, N, Q>,
     args: Args,
-    out: &mut O,
+    console: &mut C,
     notes: &L,
-    end: &ServerEnd,
+    end: &'a ServerEnd,
 ) -> Result<(), ServeFault>
 where
-    R: Files<File = File>
-        + AllocGlobal
-        + Net<Listener = TcpListener, Stream = TcpStream>
-        + Threads
-        + Wait
-        + Clock
-        + Sync
-        + SeesPaths,
-    requires { ArePermittedArgs args }
+    R: Files<File = File> + AllocGlobal + Threads + Wait + Clock + Sync + SeesPaths + 'a,
+    N: Files<File = File> + Net<Listener = TcpListener, Stream = TcpStream> + Clock + Sync,
+    requires args { ArePermittedArgs args }
+    requires promise { PromisesOfStart ⟦<TenantDisk<'a, R> as Disk>⟧.facts ⟦<TenantDisk<'a, R> as Disk>⟧.made ⟦<LockedFiles<'a, R> as OpensDisks>⟧.is_over ⟦<LockedFiles<'a, R> as OpensDisks>⟧.is_refused Q.kept Q.shown }
 {
     if !has_stack_for(notes, &args.mode) {
         return Err(ServeFault::Failed);
     }
-    let setup = Setup::read(rt, args, notes, end)?;
+    let setup = Setup::read(rt, network, args, notes, end)?;
     let (states, meters) = (FileStates::new(), Meters::new(rt));
     let disks = LockedFiles::new(rt, &states, counted_in(&setup.args.mode, &meters));
     let opened = open_parts(
@@ -227,7 +236,9 @@ where
         workers_of(&setup.args),
         NoHold,
     )?;
-    serve_opened::<_, LockedFiles<'_, R>, _, _, _>(rt, &setup, opened, out, notes, &states, &meters)
+    serve_opened::<_, LockedFiles<'_, R>, _, _, _, _, _>(
+        rt, &setup, opened, console, notes, &states, &meters,
+    )
 }
 
 /// Tells whether the limit of the stack is large enough for the threads of a server, and writes a note if not. A script has none.
@@ -292,30 +303,29 @@ fn for_further(listening: &Listening) -> u8
 /// Serves the tenants with these lines, by an engine whose parts are made of the files that `P` opened. A tenant whose file
 /// isn't open answers FAULT. If `--strict` was given, it serves only if all files are open and the limit of descriptors
 /// leaves room.
-fn serve_opened<D: Disk + Drop + Send + Sync, P: OpensDisks<Device = D>, R, O: Write, L>(
+fn serve_opened<D, P, R, N, Q, C, L>(
     rt: &R,
-    setup: &Setup<'_>,
+    setup: &Setup<'_, N, Q>,
     opened: OpenedParts<D, NoHold>,
-    out: &mut O,
+    console: &mut C,
     notes: &L,
     states: &FileStates,
     meters: &Meters,
 ) -> Result<(), ServeFault>
 where
-    R: Files<File = File>
-        + AllocGlobal
-        + Net<Listener = TcpListener, Stream = TcpStream>
-        + Threads
-        + Wait
-        + Clock
-        + Sync
-        + SeesPaths,
+    D: Disk + Drop + Send + Sync,
+    P: OpensDisks<Device = D>,
+    R: Files<File = File> + AllocGlobal + Threads + Wait + Clock + Sync + SeesPaths,
+    N: Files<File = File> + Net<Listener = TcpListener, Stream = TcpStream> + Clock + Sync,
+    Q: PagesPromise,
+    C: Console<Q>,
     L: Log + Sync,
     requires args { ArePermittedArgs setup.now.args }
     requires tenants { length setup.now.lines.items ≤ MAX_TENANTS }
-    requires opened { AreMadeOfOpened D.facts D.made P.is_over setup.now.lines.items opened.are_open.items opened.made }
+    requires opened { AreMadeOfOpened D.facts D.made P.is_over P.is_refused setup.now.lines.items opened.are_open.items opened.made }
     requires new { IfOk opened.made (λ made. All (IsNew (identity_of made.0)) made.1.items) }
     requires some { IfOk opened.made (λ made. 0 < vec_len made.1) }
+    requires promise { PromisesOfStart D.facts D.made P.is_over P.is_refused Q.kept Q.shown }
 {
     let (args, lines) = (&setup.args, setup.lines.as_slice());
     if args.strict && !are_all_open(&opened.are_open) {
@@ -340,11 +350,13 @@ where
         end_on_failure(setup),
     );
     let (parts, passes) = made?;
-    serve_engine::<Brand, _, _, _, _, _>(rt, parts, passes, args, out, notes, &watch, meters)
+    serve_engine::<Brand, _, _, _, _, _, _, _>(
+        rt, parts, passes, setup, console, notes, &watch, meters,
+    )
 }
 
 /// Gives the end of a server that ends when a tenant's file fails.
-fn end_on_failure<'a>(setup: &Setup<'a>) -> Option<&'a ServerEnd> {
+fn end_on_failure<'a, N, Q>(setup: &Setup<'a, N, Q>) -> Option<&'a ServerEnd> {
     match &setup.args.mode {
         Mode::Listen(listening) if listening.end_on_failure => Some(setup.end),
         _ => None,
@@ -389,55 +401,76 @@ fn serve_engine<
     J: EngineBrand + Send + Sync,
     D: Disk + Drop + Send + Sync,
     R,
-    O: Write,
+    N,
+    Q: PagesPromise,
+    C: Console<Q>,
     L: Log + Sync,
     T: FaultWatch + FileLook + Sync,
 >(
     rt: &R,
     parts: EngineParts<D, NoHold>,
     passes: Vec<Pass>,
-    args: &Args,
-    out: &mut O,
+    setup: &Setup<'_, N, Q>,
+    console: &mut C,
     notes: &L,
     watch: &T,
     meters: &Meters,
 ) -> Result<(), ServeFault>
 where
-    R: Files<File = File>
-        + AllocGlobal
-        + Net<Listener = TcpListener, Stream = TcpStream>
-        + Threads
-        + Wait
-        + Clock
-        + Sync,
+    R: Files<File = File> + AllocGlobal + Threads + Wait + Clock + Sync,
+    N: Files<File = File> + Net<Listener = TcpListener, Stream = TcpStream> + Clock + Sync,
     requires identity { identity_of parts ≡ J.identity }
     requires new { All (IsNew J.identity) passes.items }
     requires some { 0 < vec_len passes }
-    requires args { ArePermittedArgs args.now }
+    requires args { ArePermittedArgs setup.now.args }
+    requires promise { Promises D.facts J.identity Q.kept Q.shown }
 {
     let engine = parts.into_engine::<J>(rt.alloc())?;
-    match &args.mode {
-        Mode::Script(path) => run_script(rt, &engine, passes, path.as_str(), out, notes, watch),
+    match &setup.args.mode {
+        Mode::Script(path) => run_script::<J, _, _, Q, _, _, _>(
+            rt,
+            &engine,
+            passes,
+            path.as_str(),
+            console,
+            notes,
+            watch,
+        ),
         Mode::Listen(listening) => {
             let held = match &listening.lease {
                 Some(terms) => Some(HeldLease::take(rt, terms, meters, notes)?),
                 None => None,
             };
-            let held = held.as_ref();
-            serve_all_clients(
-                rt, &engine, passes, listening, out, notes, watch, meters, held,
-            )
+            let server = Server {
+                rt,
+                network: setup.network,
+                listening,
+                notes,
+                watch,
+                meters,
+                held: held.as_ref(),
+            };
+            serve_all_clients(&server, &engine, passes, console)
         }
     }
 }
 
-/// Runs one session, from the script to `out`, by the first worker.
-fn run_script<'e, J: EngineBrand, D: Disk + Drop, R, O: Write, L: Log, T: FaultWatch>(
+/// Runs one session, from the script to the console, by the first worker.
+fn run_script<
+    'e,
+    J: EngineBrand,
+    D: Disk + Drop,
+    R,
+    Q: PagesPromise,
+    C: Console<Q>,
+    L: Log,
+    T: FaultWatch,
+>(
     rt: &'e R,
     engine: &'e Engine<J, D, NoHold>,
     passes: Vec<Pass>,
     path: &str,
-    out: &mut O,
+    console: &mut C,
     notes: &L,
     watch: &'e T,
 ) -> Result<(), ServeFault>
@@ -445,6 +478,7 @@ where
     R: Files<File = File> + AllocGlobal + Wait + Clock,
     requires new { All (IsNew J.identity) passes.items }
     requires some { 0 < vec_len passes }
+    requires promise { Promises D.facts J.identity Q.kept Q.shown }
 {
     let script = match open_plain(rt, path) {
         Ok(script) => script,
@@ -458,11 +492,7 @@ where
         return Err(ServeFault::Memory);
     };
     let mut worker = Worker::new(engine, pass, rt, watch);
-    let mut stream = RecordedStream::new(Duplex {
-        reader: script,
-        writer: out,
-    });
-    match worker.run(rt.alloc(), &mut stream) {
+    match console.run(rt.alloc(), script, &mut worker) {
         Ended::Quit | Ended::PeerEnd | Ended::TooLong => Ok(()),
         Ended::ReadFault | Ended::WriteFault(_) | Ended::Memory => Err(ServeFault::Failed),
     }

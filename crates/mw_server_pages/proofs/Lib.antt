@@ -2,3 +2,4 @@ mod Parts
 mod Widths
 mod ExchangeLaws
 mod ClientLaws
+pub mod GivenPages

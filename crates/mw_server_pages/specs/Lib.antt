@@ -9,3 +9,4 @@ pub mod StatusPage
 pub mod Calls
 pub mod Exchanges
 pub mod Clients
+pub mod PagesPromises

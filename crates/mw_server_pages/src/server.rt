@@ -4,9 +4,11 @@
 //! have another number.
 ghost use Rattle.std.specs.Prelude.{map, string_bytes};
 ghost use Rattle.mw_server_pages.specs.Clients.{AreServed, IsServed, IsTurn};
+ghost use Rattle.mw_server_pages.specs.PagesPromises.{PagesKeep};
 
 use crate::exchanges::exchange;
 use crate::pages::Pages;
+use crate::promise::PagesListener;
 use mw_connections::{StreamListener, say_goodbye};
 use mw_session::{PeerStream, RecordedStream};
 use std::sync::Wait;
@@ -20,13 +22,15 @@ pub const PAUSE: u64 = 100;
 /// Serves each client that the listener gives, by one [`exchange`], as long as `open` is set. After `open` is cleared it asks
 /// the listener once more at most, and serves no client more than the one that it gives then. A client is let read its
 /// answer before its connection is closed. Clients may call the server by these names, as [`mw_http::hear`] says.
-pub fn serve_pages<L: StreamListener, P: Pages, R: Wait + Clock>(
+/// `keeps`: the pages keep what was promised of the listener's clients.
+pub fn serve_pages<L: PagesListener, P: Pages, R: Wait + Clock>(
     rt: &R,
     listener: &mut L,
     pages: &mut P,
     names: &[String],
     open: &AtomicBool,
 )
+    requires keeps { PagesKeep P.answered L.promised }
     ensures { AreServed (map string_bytes names.now) L.accepts P.answered listener.old listener.new pages.old pages.new }
 {
     for _ in rt.forever() {

@@ -1,5 +1,5 @@
 -- A session that a worker served is one of the worker's pass (its handle to the engine), with the same calls.
--- Used by: Worker::run.
+-- Used by: Worker::run, mw_programs.
 use Rattle.std.specs.Prelude.{List, [], ◌∷◌}
 use Rattle.std.proofs.Common.{ap}
 use Rattle.mw_session.specs.declared.session.Ended.{Ended}

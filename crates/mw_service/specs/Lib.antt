@@ -5,3 +5,4 @@ pub mod Served
 pub mod SessionOrder
 pub mod SinceStart
 pub mod TokenTables
+pub mod EngineAnswers

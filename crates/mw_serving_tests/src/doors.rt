@@ -2,8 +2,8 @@
 //!
 //! Used by: `serving`, `scenes`, `socket_tests`, `desk_tests`.
 use mw_connections::{
-    Client, ClientListener, Closer, Listener, MeteredConnection, MeteredListener, TimeLimits,
-    listen_at, port_of,
+    Anything, Client, ClientListener, Closer, Listener, MeteredConnection, MeteredListener,
+    Network, TimeLimits, listen_at, port_of,
 };
 use mw_metrics::ServerCounters;
 use std::fs::File;
@@ -55,17 +55,17 @@ impl Tally {
 /// A listener at sockets. It has no room for so many calls first.
 #[derive(Drop)]
 pub struct Door<'a, K> {
-    sockets: MeteredListener<'a, ClientListener<'a, K>>,
+    sockets: MeteredListener<'a, ClientListener<'a, K, Anything>>,
     refusals: u32,
     tally: &'a Tally,
 }
 
 impl<'a, K: Clock + Sync> Listener for Door<'a, K> {
-    type Connection = MeteredConnection<'a, Client<'a, K>>;
+    type Connection = MeteredConnection<'a, Client<'a, K, Anything>>;
 
     ghost accepts = { λ _ _ _. Unit {0} };
 
-    fn accept(&mut self) -> io::Result<MeteredConnection<'a, Client<'a, K>>> {
+    fn accept(&mut self) -> io::Result<MeteredConnection<'a, Client<'a, K, Anything>>> {
         let before = self.tally.asked.fetch_add(1, Ordering::SeqCst);
         if before < self.refusals {
             return Err(io::Error::from(ErrorKind::Other));
@@ -91,7 +91,7 @@ pub fn open<'a, R>(
 where
     R: Files<File = File> + Net<Listener = TcpListener, Stream = TcpStream> + Abort,
 {
-    let clients = listen_at(rt, address, OWNER_AND_GROUP, limits).expect(rt, row);
+    let clients = listen_at(&Network::new(rt), address, OWNER_AND_GROUP, limits).expect(rt, row);
     let clients = clients.with_faults(faults);
     let closer = clients.closer().expect(rt, row);
     let port = port_of(&clients).expect(rt, row);

@@ -185,6 +185,8 @@ impl<'a> Connection for Guest<'a> {
 
     ghost writes = { λ c. writes_of c.stream };
 
+    ghost promised = { λ _. Unit {0} };
+
     fn serve<S: Service, R: Wait, O: Others>(
         &mut self,
         rt: &R,

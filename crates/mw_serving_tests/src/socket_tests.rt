@@ -4,7 +4,7 @@ use crate::checks::holds;
 use crate::doors::{NO_LIMITS, OWNER_AND_GROUP, Tally, open};
 use crate::scene_rows::{BY_LOCAL_SOCKET, OVER_TCP, Row};
 use crate::serving::serve_scene;
-use mw_connections::listen_at;
+use mw_connections::{Anything, Network, listen_at};
 use mw_test_peers::{Caller, FaultyRuntime, Place};
 use mw_workers::ServeEnd;
 use std::fs::File;
@@ -108,7 +108,12 @@ fn is_kept<R>(rt: &R, address: &str) -> bool
 where
     R: Files<File = File> + Net<Listener = TcpListener, Stream = TcpStream>,
 {
-    let taken = match listen_at(rt, address, OWNER_AND_GROUP, NO_LIMITS) {
+    let taken = match listen_at::<R, Anything>(
+        &Network::new(rt),
+        address,
+        OWNER_AND_GROUP,
+        NO_LIMITS,
+    ) {
         Ok(_) => false,
         Err(fault) => fault.kind() == ErrorKind::AddrInUse,
     };
@@ -128,7 +133,8 @@ where
     R: Files<File = File> + Net<Listener = TcpListener, Stream = TcpStream>,
 {
     let faulty = FaultyRuntime::new(rt);
-    let clients = listen_at(&faulty, address, OWNER_AND_GROUP, NO_LIMITS)?;
+    let network: Network<'_, _, Anything> = Network::new(&faulty);
+    let clients = listen_at(&network, address, OWNER_AND_GROUP, NO_LIMITS)?;
     let closed = faulty.modes_set() == 1 && faulty.connected_before() == 0;
     let kept = matches!(mode_of(rt, address), Ok(OWNER_AND_GROUP));
     let opened = Caller::new(rt, Place::Path(path_of(address))).is_ok();

@@ -5,6 +5,7 @@
 ghost use Rattle.std.specs.Prelude.{◌≡◌, ℕ, Bool, List, length, ◌<◌, vec_len};
 ghost use Rattle.std.specs.Iterator.{Drains, IsFinite};
 ghost use Rattle.mw_session.specs.ServiceCalls.{AreAnswered};
+ghost use Rattle.mw_connections.specs.Promises.{KeepsPromise};
 ghost use Rattle.mw_workers.specs.ListenerCalls.{ArePut, EndsSo};
 ghost use Rattle.mw_workers.specs.ServedConnections.{AreServed, chosen};
 
@@ -62,7 +63,8 @@ impl<W: RoomWatch> RoomWatch for WhileOpen<'_, W> {
 /// A client of the desk that has ended no line for [`TURN`] seconds is sent away if another one waits.
 ///
 /// When serving has ended the desk is closed. A client that it serves then is served to the end of its session;
-/// those that wait are closed. A client may hold its worker for ever, so this may wait for ever.
+/// those that wait are closed. A client may hold its worker for ever, so this may wait for ever. `keeps`, `desk`: the services keep
+/// what was promised of the connections of both listeners.
 pub fn serve_beside<
     L: Listener + Drop,
     M: Listener + Send + Drop,
@@ -78,7 +80,9 @@ pub fn serve_beside<
     connections: Option<u32>,
     wait: Option<u32>,
 ) -> (ServeEnd, L)
-    requires { 0 < vec_len services }
+    requires some { 0 < vec_len services }
+    requires keeps { KeepsPromise S.answered L.Connection.promised }
+    requires desk { KeepsPromise S.answered M.Connection.promised }
     ensures { EndsSo L.accepts connections listener result.1 result.0 }
 {
     let Ok((to, from)) = crossbeam_channel::bounded(alloc, DESK_QUEUE) else {
@@ -120,7 +124,9 @@ fn serve_both<
     connections: Option<u32>,
     wait: Option<u32>,
 ) -> (ServeEnd, L)
-    requires { 0 < vec_len services }
+    requires some { 0 < vec_len services }
+    requires keeps { KeepsPromise S.answered L.Connection.promised }
+    requires desk { KeepsPromise S.answered M.Connection.promised }
     ensures { EndsSo L.accepts connections listener result.1 result.0 }
 {
     let Desk {
@@ -138,7 +144,9 @@ fn serve_both<
         thread::scope_env(),
         rt,
         |scope| -> (ServeEnd, L)
-            requires { 0 < vec_len services }
+            requires some { 0 < vec_len services }
+            requires keeps { KeepsPromise S.answered L.Connection.promised }
+            requires desk { KeepsPromise S.answered M.Connection.promised }
             ensures { EndsSo L.accepts connections listener result.1 result.0 }
         {
             let own = Patient::new(own, rt, watch);
@@ -217,9 +225,15 @@ fn begin_desk<
     to: Sender<L::Connection>,
     queue: &'s DeskQueue<L::Connection>,
     clerk: Clerk<S>,
-) -> Result<(), AllocError> {
+) -> Result<(), AllocError>
+    requires keeps { KeepsPromise S.answered L.Connection.promised }
+{
     let Clerk { alloc, mut service } = clerk;
-    scope.spawn(move || serve_in_turn(rt, alloc, queue.from.iter(rt), &mut service, queue))?;
+    scope.spawn(
+        move ||
+            requires keeps { KeepsPromise S.answered L.Connection.promised }
+        { serve_in_turn(rt, alloc, queue.from.iter(rt), &mut service, queue) },
+    )?;
     scope.spawn(move || accept_for_desk(rt, listener, to, queue))?;
     Ok(())
 }
@@ -235,6 +249,7 @@ fn serve_in_turn<C: Connection + Drop, I: Iterator<Item = C> + Drop, S: Service,
 )
     requires can { I.can_next connections }
     requires ends { IsFinite (I.remaining connections) }
+    requires keeps { KeepsPromise S.answered C.promised }
     ensures { (all : List C) × (turns : List Bool) × Drains I.next_gives connections all × (length turns ≡ length all)
         × AreServed C.left C.sent C.reads C.writes (AreAnswered S.answered) service.old (chosen turns all) service.new }
 {

@@ -3,6 +3,7 @@
 //! Used by: mw_programs. [`QUEUE`] may have another number of 1 or more; docs/OPERATING tells it. docs/PROMISES cites
 //! `serve_all`.
 ghost use Rattle.std.specs.Prelude.{◌<◌, vec_len};
+ghost use Rattle.mw_connections.specs.Promises.{KeepsPromise};
 ghost use Rattle.mw_workers.specs.ListenerCalls.{EndsSo};
 
 use crate::acceptor::accept_all;
@@ -35,7 +36,8 @@ pub enum ServeEnd {
 ///
 /// With a number of connections it asks the listener exactly so many times; failed calls count too. It ends
 /// when all connections that were taken are served. A connection that can't be queued is closed. Without a
-/// number it serves on. A client may hold its worker for ever, so this may wait for ever.
+/// number it serves on. A client may hold its worker for ever, so this may wait for ever. `keeps`: the services keep what was
+/// promised of the listener's connections.
 ///
 /// With a number of seconds to wait, a connection for which no worker is free in this time is closed, and
 /// nothing is written to it. Those that wait are closed and served in the order in which they came.
@@ -47,7 +49,8 @@ pub fn serve_all<L: Listener + Drop, S: Service + Send + Drop, R: Threads + Wait
     connections: Option<u32>,
     wait: Option<u32>,
 ) -> (ServeEnd, L)
-    requires { 0 < vec_len services }
+    requires some { 0 < vec_len services }
+    requires keeps { KeepsPromise S.answered L.Connection.promised }
     ensures { EndsSo L.accepts connections listener result.1 result.0 }
 {
     match wait {
@@ -74,6 +77,7 @@ fn serve_in_time<L: Listener + Drop, S: Service + Send + Drop, R: Threads + Wait
     connections: Option<u32>,
     ushered: UsheredQueue<L::Connection>,
 ) -> (ServeEnd, L)
+    requires keeps { KeepsPromise S.answered L.Connection.promised }
     ensures { EndsSo L.accepts connections listener result.1 result.0 }
 {
     let UsheredQueue {
@@ -105,12 +109,14 @@ fn serve_ushered<L: Listener + Drop, S: Service + Send + Drop, R: Threads + Wait
     usher: Usher<L::Connection>,
     queue: &WorkerQueue<L::Connection>,
 ) -> (ServeEnd, L)
+    requires keeps { KeepsPromise S.answered L.Connection.promised }
     ensures { EndsSo L.accepts connections listener result.1 result.0 }
 {
     thread::scope(
         thread::scope_env(),
         rt,
         |scope| -> (ServeEnd, L)
+            requires keeps { KeepsPromise S.answered L.Connection.promised }
             ensures { EndsSo L.accepts connections listener result.1 result.0 }
         {
             if begin_all(scope, rt, alloc, queue, services).is_err() {
@@ -136,12 +142,14 @@ fn serve_queue<L: Listener + Drop, S: Service + Send + Drop, R: Threads + Wait +
     to: Sender<L::Connection>,
     queue: &WorkerQueue<L::Connection>,
 ) -> (ServeEnd, L)
+    requires keeps { KeepsPromise S.answered L.Connection.promised }
     ensures { EndsSo L.accepts connections listener result.1 result.0 }
 {
     thread::scope(
         thread::scope_env(),
         rt,
         |scope| -> (ServeEnd, L)
+            requires keeps { KeepsPromise S.answered L.Connection.promised }
             ensures { EndsSo L.accepts connections listener result.1 result.0 }
         {
             if begin_all(scope, rt, alloc, queue, services).is_err() {
@@ -171,9 +179,15 @@ fn begin_all<
     alloc: Global,
     queue: &'s WorkerQueue<C>,
     services: Vec<S>,
-) -> Result<(), AllocError> {
+) -> Result<(), AllocError>
+    requires keeps { KeepsPromise S.answered C.promised }
+{
     for mut service in services {
-        scope.spawn(move || serve_each(rt, alloc, queue.connections(rt), &mut service))?;
+        scope.spawn(
+            move ||
+                requires keeps { KeepsPromise S.answered C.promised }
+            { serve_each(rt, alloc, queue.connections(rt), &mut service) },
+        )?;
     }
     Ok(())
 }

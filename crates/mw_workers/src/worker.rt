@@ -5,6 +5,7 @@
 ghost use Rattle.std.specs.Prelude.{List};
 ghost use Rattle.std.specs.Iterator.{Drains, IsFinite};
 ghost use Rattle.mw_session.specs.ServiceCalls.{AreAnswered};
+ghost use Rattle.mw_connections.specs.Promises.{KeepsPromise};
 ghost use Rattle.mw_workers.specs.ServedConnections.{AreServed};
 
 use mw_connections::Connection;
@@ -13,7 +14,7 @@ use std::alloc::Global;
 use std::sync::Wait;
 
 /// Serves each connection by one session, in the order in which they come, until no more come. However a
-/// session ends, its connection is closed, and the next is served.
+/// session ends, its connection is closed, and the next is served. `keeps`: the service keeps what was promised of them.
 pub fn serve_each<C: Connection + Drop, I: Iterator<Item = C> + Drop, S: Service, R: Wait>(
     rt: &R,
     alloc: Global,
@@ -22,6 +23,7 @@ pub fn serve_each<C: Connection + Drop, I: Iterator<Item = C> + Drop, S: Service
 )
     requires can { I.can_next connections }
     requires ends { IsFinite (I.remaining connections) }
+    requires keeps { KeepsPromise S.answered C.promised }
     ensures { (all : List C) × Drains I.next_gives connections all
         × AreServed C.left C.sent C.reads C.writes (AreAnswered S.answered) service.old all service.new }
 {

@@ -6,7 +6,9 @@
 #![tactic(auto)]
 
 use mw_main::{Program, run};
-use mw_programs::{PromptErrors, ServedApart, ServerEnd, ends_on_failure, serve};
+use mw_programs::{
+    EngineServes, Network, Printed, PromptErrors, ServedApart, ServerEnd, ends_on_failure, serve,
+};
 use std::process::ExitCode;
 use std::thread;
 
@@ -22,16 +24,28 @@ fn main(rt: HostRuntime) -> ExitCode {
     run(&rt, &PROGRAM, |args| {
         if !ends_on_failure(rt.alloc(), args) {
             let mut errors = PromptErrors::new(rt.stderr());
-            return serve(&rt, args, &mut rt.stdout(), &mut errors, &ServerEnd::new());
+            let network: Network<'_, HostRuntime, EngineServes> = Network::new(&rt);
+            let end = ServerEnd::new();
+            let mut out = rt.stdout();
+            return serve(
+                &rt,
+                &network,
+                args,
+                &mut Printed::new(&mut out),
+                &mut errors,
+                &end,
+            );
         }
         let own = rt;
         if let Ok((apart, end)) = ServedApart::new(rt.alloc(), args) {
             let begun = thread::spawn(&rt, move || {
                 let mut errors = PromptErrors::new(own.stderr());
+                let network: Network<'_, HostRuntime, EngineServes> = Network::new(&own);
                 let status = serve(
                     &own,
+                    &network,
                     &apart.args,
-                    &mut own.stdout(),
+                    &mut Printed::new(&mut own.stdout()),
                     &mut errors,
                     &apart.end,
                 );

@@ -13,6 +13,6 @@ pub loop-line-preserved : goal.loop-line-preserved
 loop-line-preserved g c = (
   fit_next g.P.Device.Disk.facts c.args.lines.now c.loop-line.line-index c.line-item.result c.loop-line.files.items c.push.new.self.items c.in_ok-file.file
       c.loop-line-test.true (sym c.line-item.is) c.in_ok-file.ensures.fits c.loop-line.invariant.0 c.in_ok-push.ensures.items,
-  of_next g.P.Device.Disk.facts g.P.Device.Disk.made g.P.OpensDisks.is_over c.args.lines.now c.loop-line.line-index c.line-item.result c.loop-line.files.items c.push.new.self.items c.in_ok-file.file
+  of_next g.P.Device.Disk.facts g.P.Device.Disk.made g.P.OpensDisks.is_over g.P.OpensDisks.is_refused c.args.lines.now c.loop-line.line-index c.line-item.result c.loop-line.files.items c.push.new.self.items c.in_ok-file.file
       c.loop-line-test.true (sym c.line-item.is) c.in_ok-file.ensures.opened c.loop-line.invariant.1 c.in_ok-push.ensures.items,
 )

@@ -13,5 +13,5 @@ some_clients workers (Some one) well = well.clients.0
 
 pub serve_all_clients-requires-clause-clients : goal.serve_all_clients-requires-clause-clients
 serve_all_clients-requires-clause-clients g c κs within =
-    some_clients c.args.args.now.workers c.in-Listen.listening.shared
-    (subst (λ (mode : Mode). SuitsWorkers c.args.args.now.workers mode) c.in-Listen.is c.requires.args.shared)
+    some_clients c.args.setup.now.args.workers c.in-Listen.listening.shared
+    (subst (λ (mode : Mode). SuitsWorkers c.args.setup.now.args.workers mode) c.in-Listen.is c.requires.args.shared)

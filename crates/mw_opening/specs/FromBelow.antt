@@ -1,0 +1,4 @@
+-- Passes on what a server's promise names of the crates below.
+-- Used by: mw_programs.
+pub use Rattle.mw_disk.specs.DeviceCalls.{DeviceCall}
+pub use Rattle.mw_engine.specs.OpenedFiles.{openings_read}

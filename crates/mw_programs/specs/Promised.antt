@@ -1,0 +1,52 @@
+-- Defines what the clients of a server are promised: an engine answers them that was made of the files which a start opened.
+-- Used by: src/promise.rt, src/services.rt, src/serving.rt. A change here changes what mwserve may serve its clients with.
+use Rattle.std.specs.Prelude.{◌≡◌, ℕ, ◌⊎◌, Bool, List, Option, Vec}
+use Rattle.std.specs.declared.alloc.Global.{Global}
+use Rattle.mw_config.specs.declared.lines.TenantLine.{TenantLine}
+use Rattle.mw_disk.specs.Facts.{Facts}
+use Rattle.mw_file.specs.declared.tenant_file.TenantFile.{TenantFile}
+use Rattle.mw_session.specs.Talk.{Call}
+use Rattle.mw_engine.specs.Brand.{Identity}
+use Rattle.mw_opening.specs.FromBelow.{DeviceCall, openings_read}
+use Rattle.mw_opening.specs.SyncedOpenings.{AreOfLines}
+use Rattle.mw_opening.specs.declared.file_fault.FileFault.{FileFault}
+use Rattle.mw_server_pages.specs.Calls as page
+use Rattle.mw_server_pages.specs.Shown.{Gives}
+use Rattle.mw_service.specs.EngineAnswers.{Answers, ByBorrower, ByWorker, Pass}
+use Rattle.mw_programs.specs.Copies.{IsCopyOf}
+
+-- One call of the pages was answered by an engine: by its figures, or by a copy of the file of the first tenant of that name.
+abbrev pub ShowsOne : {D : Type 0} → (D → Facts) → Identity → Pass → page.Call → Pass → Type 0
+ShowsOne facts identity old call new = (version : List ℕ) × Gives (Answers identity) (λ files name copy left. (left ≡ files) × IsCopyOf facts identity name copy) version old (tt {0}) call new (tt {0})
+
+module _ {D : Type 0} (facts : D → Facts) (makes : DeviceCall → Bool → D → D → Type 0) (is_over : List ℕ → D → Type 0) (is_refused : List ℕ → FileFault → Type 0) where
+  -- The engine of this identity begins with the words and places of files that were opened, each of its own tenant's line.
+  pub record IsOfStart (identity : Identity) : Type 0 where
+    pub lines : List TenantLine
+    pub files : List (Option (TenantFile D × Vec ℕ Global))
+    pub opened : AreOfLines facts makes is_over is_refused lines files
+    pub begins : identity.openings ≡ openings_read lines files
+
+  -- The calls of a session, in order, were answered by an engine that begins with the files which a start opened.
+  pub record AreAnswered (calls : List Call) : Type 0 where
+    pub identity : Identity
+    pub start : IsOfStart identity
+    pub answered : ByWorker identity calls ⊎ ByBorrower identity calls
+
+  -- So were the calls of the pages, in order.
+  pub record AreShown (calls : List page.Call) : Type 0 where
+    pub identity : Identity
+    pub start : IsOfStart identity
+    pub old : Pass
+    pub new : Pass
+    pub answered : page.AreAnswered (ShowsOne facts identity) old new calls
+
+-- What was promised of sessions and pages is kept if the engine of this identity answers, with passes of workers or with borrowed ones.
+pub record Promises {D : Type 0} (facts : D → Facts) (identity : Identity) (kept : List Call → Type 0) (shown : List page.Call → Type 0) : Type 0 where
+  pub workers : (calls : List Call) → ByWorker identity calls → kept calls
+  pub borrowers : (calls : List Call) → ByBorrower identity calls → kept calls
+  pub pages : (old new : Pass) (calls : List page.Call) → page.AreAnswered (ShowsOne facts identity) old new calls → shown calls
+
+-- The same of each engine that begins with the files which a start opened.
+abbrev pub PromisesOfStart : {D : Type 0} → (D → Facts) → (DeviceCall → Bool → D → D → Type 0) → (List ℕ → D → Type 0) → (List ℕ → FileFault → Type 0) → (List Call → Type 0) → (List page.Call → Type 0) → Type 0
+PromisesOfStart facts makes is_over is_refused kept shown = (identity : Identity) → IsOfStart facts makes is_over is_refused identity → Promises facts identity kept shown
