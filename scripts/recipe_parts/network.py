@@ -4,7 +4,7 @@ Of a hundred lines `CAS`: two are passed on, and the connection is cut before th
 the client's connection is cut at once, and the line reaches the server up to 1.5 seconds later, when the client has long connected
 anew; of one the reply comes late. All others are passed on.
 
-Used by: running. It is a process of its own.
+Used by: running.py. It is a process of its own.
 """
 import asyncio
 import contextlib
