@@ -5,7 +5,8 @@ usage: proxy.py LISTEN_PORT SERVER_PORT
 
 Of a hundred lines of CAS it passes on two and cuts the connection before the reply; one is lost with its connection; of two the
 connection is cut at once, and the line reaches the server up to 1.5 seconds later, when the client has long connected anew; of
-one the reply is held for up to 2 seconds. It prints `ready`, and on SIGTERM how many lines had which fate. Status 0.
+one the reply is held for up to 2 seconds. Of a hundred lines of GET one has its reply lost, one is lost, and one has its reply held.
+It prints `ready`, and on SIGTERM how many lines had which fate. Status 0.
 
 Used by: twelve.py.
 """
@@ -13,23 +14,25 @@ import asyncio
 import random
 import signal
 import sys
-from typing import Dict, Optional
+from collections import Counter
+from typing import Optional
 
 HOST = "127.0.0.1"
 PIECE = 65536
 LATE_LINE, LATE_REPLY = 1.5, 2.0
 """At most so many seconds late is a line, or a reply."""
-FATES = {"its reply lost": 2, "lost": 1, "late": 2, "its reply late": 1}
-"""Of a hundred lines."""
-told: Dict[str, int] = {fate: 0 for fate in (*FATES, "passed on")}
+FATES = {b"CAS": {"its reply lost": 2, "lost": 1, "late": 2, "its reply late": 1},
+         b"GET": {"its reply lost": 1, "lost": 1, "its reply late": 1}}
+"""Of a hundred lines, by their command."""
+PASSED_ON = "passed on"
+told: "Counter[str]" = Counter()
+"""How many lines had which fate."""
 
 
 def fate_of(line: bytes) -> str:
     """What happens to a line."""
-    if not line.startswith(b"CAS"):
-        return "passed on"
-    others = 100 - sum(FATES.values())
-    return random.choices([*FATES, "passed on"], [*FATES.values(), others])[0]
+    fates = FATES.get(line[:3], {})
+    return random.choices([*fates, PASSED_ON], [*fates.values(), 100 - sum(fates.values())])[0]
 
 
 class Way:
@@ -75,7 +78,8 @@ class Way:
     async def meet(self, line: bytes) -> bool:
         """Lets a line meet its fate. Whether the connection is there after it."""
         fate = fate_of(line)
-        told[fate] += 1
+        if fate != PASSED_ON:
+            told[f"{line[:3].decode()} {fate}"] += 1
         if fate == "late":
             await self.send_late(line)
         elif fate == "its reply lost":
@@ -119,7 +123,7 @@ async def main() -> None:
     asyncio.get_running_loop().add_signal_handler(signal.SIGTERM, stop.set)
     print("ready", flush=True)
     await stop.wait()
-    print("lines of CAS: " + ", ".join(f"{number} {fate}" for fate, number in told.items() if fate != "passed on"), flush=True)
+    print("lines: " + ", ".join(f"{number} {fate}" for fate, number in sorted(told.items())), flush=True)
 
 
 if __name__ == "__main__":

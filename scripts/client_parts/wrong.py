@@ -24,7 +24,9 @@ class Wrong(NamedTuple):
 
 LINK = (
     ("its pauses don't grow", "*pause = 2 * *pause < LONGEST_PAUSE ? 2 * *pause : LONGEST_PAUSE;", "",
-     "the pauses of a change that is busy grow"),
+     "the pauses of a change that is busy grow, to a quarter of a second"),
+    ("its pauses grow without an end", "2 * *pause < LONGEST_PAUSE ? 2 * *pause : LONGEST_PAUSE;", "2 * *pause;",
+     "the pauses of a change that is busy grow, to a quarter of a second"),
     ("it doesn't wait for room at a local socket", "error != EINTR && (error != EAGAIN || !mdx_pause(client, &pause, end))",
      "error != EINTR", "a local socket that has room again"),
     ("it takes each lost reply for a full server", "client->is_silent = 0;", "", "a change whose connection breaks"),

@@ -20,6 +20,8 @@ from mondlexi.recipes.blocks import MOST_TAG, USED  # noqa: E402
 PROCESSES = 8
 # More processes than the quota allows share each tenant, so on a slow disk one may be told BUSY for long.
 PATIENCE = 30
+WITHIN = 60
+"""For how many seconds a client tries to connect."""
 KILLS = 4
 BETWEEN = 1.0
 TIMEOUT = 0.3
@@ -49,11 +51,7 @@ def count_doubts():
 
 def begun(server, tenant):
     """A client, once the server answers."""
-    while True:
-        try:
-            return mondlexi.Client(server, tenant, patience=PATIENCE)
-        except mondlexi.Lost:
-            time.sleep(0.05)
+    return mondlexi.Client(server, tenant, patience=PATIENCE, within=WITHIN)
 
 
 def count(done):

@@ -49,6 +49,20 @@ def try_locks(clients, client):
     same(first.renew(last, LONG).tokens, (1,), "the token of the renewal after that")
 
 
+def try_eight_locks(clients, client):
+    """The most locks of one change, in the words 600 to 615."""
+    first, second = (clients.recipes.Locks(client, owner, 8, at=600) for owner in (1, 2))
+    words = range(600, 616)
+    all_of_them = first.acquire(range(8), LONG)
+    same((all_of_them.tokens, client.get_many(words)), (8 * (1,), 8 * [1, all_of_them.word]), "eight locks")
+    same([second.acquire([lock], LONG) for lock in range(8)], 8 * [None], "each of eight locks that are held")
+    longer = first.renew(all_of_them, LONG)
+    same(client.get_many(words), 8 * [1, longer.word], "eight leases that were renewed")
+    first.release(longer)
+    same(client.get_many(words), 8 * [1, 0], "eight locks that were given back")
+    same(second.acquire(range(8), LONG).tokens, 8 * (2,), "eight locks of another owner")
+
+
 def try_blocks(clients, client):
     """Forty blocks in the words 20 to 59, and three owners."""
     own, other = (clients.recipes.Blocks(client, owner, 40, at=20) for owner in (0, 2))
@@ -110,12 +124,15 @@ def try_indexes(clients, client, own):
 
 
 def try_the_small_ones(clients, client, own):
-    """A queue of five in the words 300 to 306, a counter, a value of bytes from 320 on."""
+    """A queue of five in the words 300 to 306, one of twenty in 620 to 641, a counter, a value of bytes from 320 on."""
     queue = clients.recipes.Queue(client, own, 5, at=300)
     same((queue.take(), queue.put([1, 2, 3]), queue.put([4, 5, 6]), queue.put([4, 5])), ([], True, False, True), "a queue")
     same((queue.count(), queue.take(2), queue.take(5), queue.count()), (5, [1, 2], [3, 4, 5], 0), "a queue that was full")
     for number in range(12):
         same((queue.put([number, 0]), queue.take(4)), (True, [number, 0]), "a queue that goes round")
+    long = clients.recipes.Queue(client, own, 20, at=620)
+    same((long.put(range(14)), long.put(range(7)), long.take(20)), (True, False, list(range(14))), "the most values of one change")
+    raises(ValueError, "a value more than one change has", long.put, range(15))
     counter = clients.recipes.Counter(client, own, 310)
     same([counter.add(), counter.add(5), counter.add(-2), counter.get()], [1, 6, 4, 4], "a counter")
     raises(ValueError, "a sum below 0", counter.add, -5)
@@ -213,6 +230,7 @@ def try_recipes(clients, server):
     with clients.Client(server.at, "recipes", timeout=PATIENCE) as client:
         own = clients.Counted(client, WORDS - 1)
         try_locks(clients, client)
+        try_eight_locks(clients, client)
         try_blocks(clients, client)
         try_indexes(clients, client, own)
         try_the_small_ones(clients, client, own)

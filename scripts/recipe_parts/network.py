@@ -2,7 +2,8 @@
 
 Of a hundred lines `CAS`: two are passed on, and the connection is cut before the reply; one is lost with its connection; of two
 the client's connection is cut at once, and the line reaches the server up to 1.5 seconds later, when the client has long connected
-anew; of one the reply comes late. All others are passed on.
+anew; of one the reply comes late. The same happens to as many of ten thousand lines `GET`, of which one call may send hundreds at
+once. All others are passed on.
 
 Used by: running.py. It is a process of its own.
 """
@@ -15,7 +16,9 @@ HOST = "127.0.0.1"
 LATEST = 1.5
 """The most seconds by which a line, or a reply, is late."""
 REPLY_LOST, LINE_LOST, LINE_LATE, REPLY_LATE = 0.02, 0.03, 0.05, 0.06
-"""Below which number of a die, from 0 to 1, which of these happens."""
+"""Below which number of a die which of these happens."""
+DICE = {b"CAS": 1.0, b"GET": 100.0}
+"""The die of a line, by its command: it shows a number from 0 to this one."""
 
 Streams = Tuple[asyncio.StreamReader, asyncio.StreamWriter]
 
@@ -57,7 +60,7 @@ class Passage:
     async def pass_line(self, replies: "asyncio.Future[None]") -> bool:
         """Passes one line on, or loses it. Whether the connection goes on."""
         line = await self.from_client.readline()
-        die = random.random() if line.startswith(b"CAS") else 1.0
+        die = DICE[line[:3]] * random.random() if line[:3] in DICE else 1.0
         if not line or REPLY_LOST <= die < LINE_LOST:
             return False
         if die < LINE_LATE:
