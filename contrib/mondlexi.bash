@@ -1,5 +1,7 @@
 # Completion of the programs' command lines, for bash: by `source`, or as /usr/share/bash-completion/completions/NAME for each program.
-# Each program's own --help tells its options.
+# Each program's own --help tells its options. Kept by hand: the programs, in the last line, which scripts/package links too; the commands of
+# mondlexi, which are those of clients/python/mondlexi/_shell.py; and which options take a file, an address,
+# a tenant or a mode. scripts/check-package tries some.
 _mondlexi() {
   local program=$1 cur=${COMP_WORDS[COMP_CWORD]} prev=${COMP_WORDS[COMP_CWORD-1]}
   if declare -F _get_comp_words_by_ref > /dev/null; then

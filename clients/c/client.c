@@ -1,4 +1,5 @@
-/* The calls of a client: reads, changes and the report. */
+/* The calls of a client: reads, changes and the report. Used by: programs, by mondlexi.h. A further call is declared and explained there and
+   in mondlexi.3, has a case in play.c, and is one of each client, with its cases in clients/cases. */
 #define _POSIX_C_SOURCE 200809L
 #include "parts.h"
 #include <string.h>

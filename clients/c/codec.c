@@ -1,4 +1,5 @@
-/* The texts of requests and the readings of replies. docs/PROTOCOL.md has the grammar. */
+/* The texts of requests and the readings of replies. docs/PROTOCOL.md has the grammar. Used by: protocol.c, by codec.h; with `make PROVED=FILE`
+   proved.c is built in its place. A line or a reply that the protocol gains is read in both. */
 #include "codec.h"
 #include <inttypes.h>
 #include <stdio.h>

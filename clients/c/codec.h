@@ -1,4 +1,5 @@
-/* The texts of requests and the readings of replies. codec.c has them; or proved.c, over mw_client_c, whose contracts say what they do. */
+/* The texts of requests and the readings of replies. codec.c has them; or proved.c, over mw_client_c, whose contracts say what they do.
+   Used by: protocol.c. The numbers of `mdx_kind` are those of mw_client_c (crates/mw_client_c/src/lib.rt): change both. */
 #ifndef MONDLEXI_CODEC_H
 #define MONDLEXI_CODEC_H
 #include "parts.h"

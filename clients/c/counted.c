@@ -1,5 +1,6 @@
 /* Counted changes: a word that only these move, and what it tells of a change whose reply was lost. A change is noted as undecided
-   before it is sent. */
+   before it is sent. Used by: programs, by mondlexi.h. What it tells is the same in each client: change them together, with a case in
+   clients/cases/counted.txt. */
 #define _POSIX_C_SOURCE 200809L
 #include "parts.h"
 #include <string.h>

@@ -1,4 +1,5 @@
-/* One connection over TCP or to a local socket, with limits of time. */
+/* One connection over TCP, to a local socket or over a program's own streams, with limits of time. Used by: session.c; the other files for
+   times, pauses and texts. Its pauses and limits are the same in each client: change them together, with a case in clients/cases. */
 #define _POSIX_C_SOURCE 200809L
 #include "parts.h"
 #include <errno.h>

@@ -4,8 +4,8 @@
        lock_table SERVER OWNER LOCK
 
    OWNER: 1 to 65535; no two processes that run have the same. It waits for the lock for a minute, takes it for ten seconds, prints its
-   token, and releases it once its input has ended. Used by: whoever wants to copy it; scripts/check-clients. Status 0 if it had the
-   lock. */
+   token, and releases it once its input has ended. Used by: whoever wants to copy it; scripts/check-clients
+   (client_parts/examples.py). The recipe of Python (recipes/locks.py) has the same words. Status 0 if it had the lock. */
 #define _POSIX_C_SOURCE 200809L
 #include <inttypes.h>
 #include <mondlexi.h>

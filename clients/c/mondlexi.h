@@ -22,7 +22,9 @@
        MONDLEXI_MOVED       something else has moved a count                                     not known           stays
 
    get, get_many, read, stable and report connect anew if the connection has broken, and ask again, as often as `reconnects` says. A
-   reply that doesn't come in time isn't asked for again. cas never connects anew: after LOST or UNKNOWN call mondlexi_reconnect. */
+   reply that doesn't come in time isn't asked for again. cas never connects anew: after LOST or UNKNOWN call mondlexi_reconnect.
+
+   Whoever changes a call, a status or a limit here also changes mondlexi.3, play.c, and the clients in the other languages. */
 #ifndef MONDLEXI_H
 #define MONDLEXI_H
 #include <stddef.h>

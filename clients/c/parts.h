@@ -1,4 +1,5 @@
-/* What the files of the library share: a session over a connection, and questions. Nothing of this is for users. */
+/* What the files of the library share: a session over a connection, and questions. Nothing of this is for users. Used by: all of them. Its
+   limits are those of docs/PROTOCOL.md and of the other clients: change them together. */
 #ifndef MONDLEXI_PARTS_H
 #define MONDLEXI_PARTS_H
 #include "mondlexi.h"

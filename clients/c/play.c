@@ -2,7 +2,8 @@
 
        play
 
-   Used by: scripts/check-clients. Status 0; 1 for a line that is no call. */
+   Used by: scripts/check-clients. A further call or failure of that page is a case here, and in play of each language. Status 0; 1 for a line
+   that is no call. */
 #include "mondlexi.h"
 #include <inttypes.h>
 #include <stdio.h>

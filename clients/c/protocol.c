@@ -1,5 +1,6 @@
 /* The protocol without a connection: which arguments are allowed, the line of each question, and what its reply means. docs/PROTOCOL.md
-   has the grammar. */
+   has the grammar. Used by: client.c, counted.c, session.c. A command or limit that the page gains is added here and in codec.c, in the file
+   of this name of each other client, and has cases in clients/cases. */
 #include "codec.h"
 #include <stdio.h>
 #include <stdlib.h>
@@ -60,7 +61,7 @@ static int by_address(const void *one, const void *other) {
     return (a > b) - (a < b);
 }
 
-/* Sorts the entries, which may have no other room than for sixteen. 0 if the tenant can't be asked for them in one change. */
+/* Puts the entries into `sorted`, which has room for sixteen, by their addresses. 0 if the tenant can't be asked for them in one change. */
 int mdx_are_entries(const mondlexi_client *client, mondlexi_entry *sorted, const mondlexi_entry *entries, size_t count) {
     if (count < 1 || count > MONDLEXI_MAX_ENTRIES) {
         return 0;

@@ -1,4 +1,5 @@
-/* The texts of requests and the readings of replies, by mw_client_c: what each does is proved of the code that runs. */
+/* The texts of requests and the readings of replies, by mw_client_c: what each does is proved of the code that runs. Used by: protocol.c, by
+   codec.h, if it is made with `make PROVED=FILE`; else codec.c has these functions. */
 #include "proved.h"
 #include "codec.h"
 #include <string.h>

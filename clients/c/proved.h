@@ -1,5 +1,5 @@
 /* libmw_client_c.a: the lines of requests and the readings of replies, proved. crates/mw_client_c/src/lib.rt has their contracts; a change
-   of these declarations is one there. Pointers are never null. */
+   of these declarations is one there. Used by: proved.c. Pointers are never null. */
 #ifndef MONDLEXI_PROVED_H
 #define MONDLEXI_PROVED_H
 #include <stddef.h>

@@ -1,11 +1,13 @@
-/* A session: it connects, asks, asks again, and tells how a lost connection counts. */
+/* A session: it connects, asks, asks again, and tells how a lost connection counts. Used by: client.c, counted.c. When it asks again is the
+   same in each client: change them together, with a case in clients/cases. scripts/client_parts/wrong.py replaces texts of this file. */
 #define _POSIX_C_SOURCE 200809L
 #include "parts.h"
 #include <stdio.h>
 #include <stdlib.h>
 #include <string.h>
 
-static mondlexi_status drop(mondlexi_client *client, mondlexi_status status) {
+/* Drops the connection, which broke. The status. */
+static mondlexi_status break_off(mondlexi_client *client, mondlexi_status status) {
     mdx_drop(client);
     client->state = IS_BROKEN;
     return status;
@@ -117,7 +119,7 @@ static mondlexi_status answered(mondlexi_client *client, mdx_question *question)
         const char *why = client->is_silent ? "; perhaps all sessions are taken (mwserve --clients)" : "";
         mdx_say(client, "connected, but no reply in %d ms%s", client->options.timeout, why);
     }
-    drop(client, status);
+    break_off(client, status);
     client->is_late = is_late;
     return is_full ? MONDLEXI_FULL : status;
 }
@@ -132,7 +134,7 @@ static mondlexi_status begin_once(mondlexi_client *client) {
     }
     mondlexi_status status = answered(client, &greeting);
     if (status) {
-        return drop(client, status);
+        return break_off(client, status);
     }
     client->words = greeting.words;
     client->state = IS_OPEN;

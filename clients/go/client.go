@@ -1,3 +1,6 @@
+// The calls of a tenant and of the administrator. Used by: programs, counted.go. A further call is one of each client, has a case in
+// play/main.go, and cases in clients/cases.
+
 package mondlexi
 
 import (

@@ -1,3 +1,6 @@
+// Counted changes. Used by: programs. What a call tells is the same in each client: change them together, with a case in
+// clients/cases/counted.txt.
+
 package mondlexi
 
 import (

@@ -1,3 +1,6 @@
+// One connection over TCP, with TLS if that is wanted, or to a local socket, with limits of time; and pauses. Used by: session.go;
+// client.go and counted.go for pauses. These and the limits are the same in each client: change them together, with a case in clients/cases.
+
 package mondlexi
 
 import (
@@ -13,8 +16,6 @@ import (
 	"syscall"
 	"time"
 )
-
-// One connection over TCP, with TLS if that is wanted, or to a local socket, with limits of time; and pauses.
 
 const (
 	firstPause   = time.Millisecond

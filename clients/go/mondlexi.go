@@ -1,3 +1,6 @@
+// The limits and the failures, beside what the package says of itself. Used by: programs, all files of this folder. A further failure is
+// one of each client, has a word in clients/cases/README.md, and a case in play/main.go. The version is that of the programs.
+
 // Package mondlexi is a client of Mondlexi, a server of durable words, with the standard library alone.
 //
 // A tenant owns words at the addresses 0, 1, 2 and so on, at most 4,096 of them. Each word has a value from 0 to 2^48 - 1, and is 0

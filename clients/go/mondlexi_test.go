@@ -1,3 +1,6 @@
+// What clients/cases doesn't have: the texts of late replies; and contexts, goroutines that share a client, and TLS. Used by: `go test`,
+// which scripts/check-clients runs.
+
 package mondlexi
 
 import (
@@ -15,8 +18,6 @@ import (
 	"testing"
 	"time"
 )
-
-// What clients/cases doesn't have: the texts of late replies; and contexts, goroutines that share a client, and TLS.
 
 // serve answers each line of each connection by the function; no answer if that gives nothing.
 func serve(t *testing.T, listener net.Listener, answer func(line string) string) string {

@@ -1,3 +1,7 @@
+// The protocol without a connection: which arguments are allowed, the line of each question, and what its reply means.
+// docs/PROTOCOL.md has the grammar. Used by: client.go, counted.go, link.go, session.go. A command or limit that the page gains is added
+// here, in the file of this name of each other client, and has cases in clients/cases.
+
 package mondlexi
 
 import (
@@ -7,9 +11,6 @@ import (
 	"strconv"
 	"strings"
 )
-
-// The protocol without a connection: which arguments are allowed, the line of each question, and what its reply means.
-// docs/PROTOCOL.md has the grammar.
 
 const (
 	maxPath     = 107

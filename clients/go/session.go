@@ -1,3 +1,6 @@
+// A session: it connects, asks, asks again, and tells how a lost connection counts. Used by: client.go, counted.go. When it asks again is
+// the same in each client: change them together, with a case in clients/cases.
+
 package mondlexi
 
 import (

@@ -1,3 +1,4 @@
+// The types of index.js, and what each call does. Used by: programs; test/types.ts, which tries them. Change it with index.js and src.
 /**
  * A client of Mondlexi, a server of durable words, with Node's own modules alone.
  *

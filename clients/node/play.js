@@ -1,6 +1,7 @@
 // The client for Node, as the program of clients/cases/README.md: it reads calls, one a line, and tells what each tells.
 //
-// Used by: scripts/check-clients. Status 0.
+// Used by: scripts/check-clients. A further call of that page is a case here, and in play of each language. A failure is told by the name
+// of its class (src/errors.js). Status 0.
 import readline from 'node:readline';
 import { Administrator, Client, Counted, MondlexiError, Refused, Unknown } from './index.js';
 

@@ -14,7 +14,9 @@
    of the reply.
 
    Compiled with SHARES_SYNCS, changes of a tenant share syncs as those of mwserve do: the thread that holds the file makes the calls
-   of all that wait, from a prepare up to a settle, and only after that another thread may have to wake. */
+   of all that wait, from a prepare up to a settle, and only after that another thread may have to wake.
+
+   Used by: scripts/bench-server --bare, one_tenant.py. If mwserve makes other calls for a change, so does this. */
 #define _GNU_SOURCE
 #include <arpa/inet.h>
 #include <fcntl.h>

@@ -1,7 +1,8 @@
 """A chart of what scripts/bench-server measured, as SVG: changes a second of each store, how long one takes, and how long a GET takes
 beside each load; or, of one tenant with several clients, changes a second, how long one takes, and the syncs of one.
 
-Used by: scripts/bench-server --chart; scripts/check-programs draws one of figures that are made up.
+Used by: scripts/bench-server --chart; one_tenant.py; program_parts/beside.py, which draws made-up figures and looks for their texts and
+bars: a title or a bar that changes is changed there too.
 """
 import math
 from pathlib import Path

@@ -1,6 +1,7 @@
 """What clients of a store do, each in a process of its own, and how long each of their requests took.
 
-Used by: scripts/bench-server and one_tenant.py.
+Used by: scripts/bench-server, one_tenant.py, stores.py. WORDS are the most that a tenant may have, RECORD the bytes of a record
+place (docs/FILES.md). Another load makes other figures: those of docs/BENCH.md are measured anew.
 """
 import multiprocessing
 import os

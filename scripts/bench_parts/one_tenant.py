@@ -13,7 +13,7 @@ Of each mwserve one more row is told: sixteen clients of sixteen tenants, which 
 Syncs are counted, timed and made slower by slow_syncs.c, which is put under a store; under etcd, which no library can be put under,
 by strace, which looks at its syncs alone. So what is told of etcd is what it does under strace.
 
-Used by: scripts/bench-server --one-tenant.
+Used by: scripts/bench-server --one-tenant. program_parts/beside.py reads the rows of a short run, their figures from the right: change both.
 """
 import multiprocessing
 import os

@@ -2,7 +2,9 @@
 
    SYNC_DELAY   by how many microseconds longer; 2000 if not said
    SYNC_COUNT   a file of two numbers of eight bytes, which all processes that name it add to: how many syncs there were, and
-                how many nanoseconds they took; if not said, none are counted */
+                how many nanoseconds they took; if not said, none are counted
+
+   Used by: scripts/bench-server, and one_tenant.py, which sets both variables. */
 #define _GNU_SOURCE
 #include <dlfcn.h>
 #include <fcntl.h>

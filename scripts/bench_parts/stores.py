@@ -1,6 +1,8 @@
 """The servers that scripts/bench-server times: an mwserve over new files, and other stores; and the rows that it prints.
 
-Used by: scripts/bench-server and one_tenant.py.
+Used by: scripts/bench-server; one_tenant.py; program_parts/beside.py, which takes the first NAME signs of a row as its name. A further store
+needs its clients in clients.py, and a case in scripts/bench-server and in one_tenant.py. docs/BENCH.md says what each store promises.
+MOST_PLACES is FIRST_PLACES of crates/mw_record/src/layout.rt.
 """
 import os
 import shutil

@@ -1,6 +1,7 @@
 """The clients, how each is built, and the programs that scripts/check-clients asks.
 
-Used by: scripts/check-clients.
+Used by: scripts/check-clients; scripts/check-programs, which tells that PROVED is not built. A further client has a row in CLIENTS here,
+a line in SCRIPTS of scripts/check-programs, and a word in SOURCES of package_parts/clients.py.
 """
 import json
 import re

@@ -1,6 +1,6 @@
 """Plays the table of cases: a client's program against the server of a case.
 
-Used by: scripts/check-clients.
+Used by: scripts/check-clients, wrong.py.
 """
 import tempfile
 import time

@@ -3,7 +3,8 @@
 
 usage: play.py [--asyncio]
 
-With --asyncio it is the client for asyncio, whose calls are awaited one by one. Used by: scripts/check-clients. Status 0.
+With --asyncio it is the client for asyncio, whose calls are awaited one by one. Status 0. Used by: builds.py. A further
+call needs a case here, in the same program of each other language (play.c, play.rs, main.go, play.js, Play.java), and a row of that page.
 """
 import sys
 from pathlib import Path

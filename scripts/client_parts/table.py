@@ -1,6 +1,7 @@
 """The table of cases of clients/cases: its files, from their text to steps. clients/cases/README.md says what each step means.
 
-Used by: scripts/check-clients, the other files of this folder.
+Used by: scripts/check-clients, cases.py, examples.py, peer.py, wrong.py. A further step is a word here, a row of that page, and, if the
+server does it, a function of peer.py.
 """
 import re
 from pathlib import Path

@@ -1,4 +1,7 @@
-"""Processes as Linux tells of them below /proc: whose child each is, and how much processor time it took."""
+"""Processes as Linux tells of them below /proc: whose child each is, and how much processor time it took.
+
+Used by: scripts/gate-cost, works.py.
+"""
 import os
 from dataclasses import dataclass
 from pathlib import Path

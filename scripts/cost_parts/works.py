@@ -1,4 +1,8 @@
-"""What `rt ci` spends processor time on: its children are looked at again and again, and each has a crate and a kind of work."""
+"""What `rt ci` spends processor time on: its children are looked at again and again, and each has a crate and a kind of work.
+
+Used by: scripts/gate-cost, which sums up each kind. A kind is known by the command line and the folder of a child, as the
+installed kit has them: look at both again with another kit.
+"""
 import re
 from dataclasses import dataclass
 from typing import Dict, List, Optional, Tuple

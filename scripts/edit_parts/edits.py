@@ -1,4 +1,7 @@
-"""Wrong bodies as edits of a crate's text, in the form in which `rt` reads must-fail edits, and which functions each changes."""
+"""Wrong bodies as edits of a crate's text, in the form in which `rt` reads must-fail edits, and which functions each changes.
+
+Used by: scripts/check-wrong-bodies, rounds.py, register_parts/bodies.py. The form is the kit's. CONTRIBUTING.md shows it.
+"""
 import os
 import re
 from dataclasses import dataclass

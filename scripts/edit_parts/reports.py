@@ -1,4 +1,7 @@
-"""What `rt check` says of a crate: which functions are proved, and why others aren't."""
+"""What `rt check` says of a crate: which functions are proved, and why others aren't.
+
+Used by: room.py, rounds.py. The patterns are of the lines that the installed kit prints: look at them again with another kit.
+"""
 import re
 from dataclasses import dataclass, field
 from typing import Collection, Dict, List

@@ -1,4 +1,7 @@
-"""A copy of a crate, in which `rt check` reads wrong bodies over what the crate's own check kept."""
+"""A copy of a crate, in which `rt check` reads wrong bodies over what the crate's own check kept.
+
+Used by: scripts/check-wrong-bodies, rounds.py. It takes the locks of crates' folders as `rt` does (first_run_parts/rooms.py).
+"""
 import fcntl
 import shutil
 import time

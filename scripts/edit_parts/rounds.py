@@ -1,4 +1,7 @@
-"""Tries the wrong bodies of a crate, as many at once as change different functions, and tells which are refused."""
+"""Tries the wrong bodies of a crate, as many at once as change different functions, and tells which are refused.
+
+Used by: scripts/check-wrong-bodies. It does the steps 2 to 4 of that script's head, which says when an edit counts as refused: change both.
+"""
 from dataclasses import dataclass
 from typing import Dict, FrozenSet, Iterable, List
 

@@ -1,6 +1,6 @@
 """A volume of GlusterFS on three hosts, each with a replica, and with the options of contrib/ha/volume-options.
 
-Used by: scripts/check-failover.
+Used by: scripts/check-failover, scripts/check-volume, ceph.py, keepers.py, proxy.py, speed.py, trials.py.
 """
 import time
 from pathlib import Path

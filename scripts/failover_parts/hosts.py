@@ -4,7 +4,7 @@ disk does. They are on one bridge, with this machine beside them, where the clie
 A host can be unplugged, cut off from one other, stopped, and killed with all of its processes. All share one kernel: what a killed host
 has written and not synced is not lost, and this kernel's clock is everybody's.
 
-Used by: scripts/check-failover, the other files of this folder. Root only.
+Used by: scripts/check-failover, scripts/check-volume, many of this folder. Root only.
 """
 import contextlib
 import os

@@ -1,7 +1,7 @@
 """Each host's replica on a device of its own, so that a host can lose its power: it comes back with what the device held at that moment. What was
 in the file system's memory alone is lost.
 
-The devices are loop devices with ext4 in files. Used by: scripts/check-failover.
+The devices are loop devices with ext4 in files. Used by: scripts/check-failover, trials.py.
 """
 import contextlib
 import shutil

@@ -1,5 +1,8 @@
 """The whole files that changes begin with: made by mwinit, and opened by mwserve with open records planted by hand, of which
-it must keep the words that the reader found there."""
+it must keep the words that the reader found there.
+
+Used by: scripts/check-files. SIZES has the limits of docs/FILES.md: a further limit has a size here.
+"""
 import random
 import subprocess
 from pathlib import Path

@@ -1,4 +1,7 @@
-"""The random changes of a file: such as leave it whole, and such as damage it, at each limit and beyond it."""
+"""The random changes of a file: such as leave it whole, and such as damage it, at each limit and beyond it.
+
+Used by: scripts/check-files. A limit or a field that docs/FILES.md gains has a change here, in KINDS.
+"""
 import random
 from typing import Callable, List, NamedTuple
 

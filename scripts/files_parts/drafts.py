@@ -1,4 +1,7 @@
-"""A tenant's file in the making: its bytes, where its fields are, and what is put there."""
+"""A tenant's file in the making: its bytes, where its fields are, and what is put there.
+
+Used by: scripts/check-files, bases.py, changes.py. Its offsets are those of docs/FILES.md: a change of the format is one here and in reader.py.
+"""
 import random
 from typing import List, Sequence, Tuple
 

@@ -1,5 +1,9 @@
 """A reader of a tenant's file, written from docs/FILES.md alone: nothing of it was taken from the programs. It gives what the
-file says, or the first damage, with the byte at which the wrong part begins, as docs/OPERATING.md has it of mwshow."""
+file says, or the first damage, with the byte at which the wrong part begins, as docs/OPERATING.md has it of mwshow.
+
+Used by: scripts/check-cache, scripts/check-files, scripts/fail-each-allocation, bases.py, changes.py, drafts.py, wrong_readers.py. The last
+one replaces texts of this file, each of which must be here once. A change of the format is also one of soak_parts/layout.py.
+"""
 from typing import Iterator, List, NamedTuple, Set, Tuple, Union
 
 MOST_READ = 86848

@@ -1,4 +1,8 @@
-"""Readers with one mistake each: the reader's own text with one part of it put otherwise. Each has to be noticed."""
+"""Readers with one mistake each: the reader's own text with one part of it put otherwise. Each has to be noticed.
+
+Used by: scripts/check-files --self-test. If the text of a mistake isn't once in reader.py any more, write it anew. A rule that reader.py
+gains has a mistake here.
+"""
 from pathlib import Path
 from typing import Any, Callable, Dict, List, NamedTuple
 

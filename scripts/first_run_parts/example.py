@@ -1,4 +1,7 @@
-"""The session of README: by unproved builds, and by the proved programs."""
+"""The session of README: by unproved builds, and by the proved programs.
+
+Used by: scripts/first-run. Its commands and answers are README's: change both.
+"""
 import subprocess
 import sys
 import time

@@ -1,4 +1,7 @@
-"""The Rattle kit that is installed here."""
+"""The Rattle kit that is installed here.
+
+Used by: scripts/check-wrong-bodies, scripts/first-run.
+"""
 import shutil
 import subprocess
 from pathlib import Path

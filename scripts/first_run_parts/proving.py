@@ -1,4 +1,8 @@
-"""Proves and builds crates, as many side by side as there are processors and free memory, the longest chain first."""
+"""Proves and builds crates, as many side by side as there are processors and free memory, the longest chain first.
+
+Used by: scripts/check-wrong-bodies, scripts/first-run. `memory_for` reckons as `rt ci` does (`need` in the installed kit's `rt`): compare
+its numbers with those of another kit. With too low ones memory runs out.
+"""
 import hashlib
 import re
 import sys

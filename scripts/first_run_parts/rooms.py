@@ -4,6 +4,8 @@
 proved one after the other. In a room each is proved by itself. A room has the sources, links to the libraries that were
 built below, and the crate's own `out/`, which goes back to the tree at the end. While the crate is in its room, the lock
 that `rt` itself takes is held in the tree.
+
+Used by: scripts/check-wrong-bodies, scripts/first-run, example.py, proving.py, edit_parts/room.py. The locks are those that `rt` takes.
 """
 import fcntl
 import os

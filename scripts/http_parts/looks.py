@@ -1,4 +1,7 @@
-"""How the status page looks: in headless Chromium, wide and narrow, with its script, and in a terminal."""
+"""How the status page looks: in headless Chromium, wide and narrow, with its script, and in a terminal.
+
+Used by: scripts/check-http. It looks for texts of the page, which crates/mw_server_pages/src/status.rt has: change both.
+"""
 import contextlib
 import shutil
 import struct

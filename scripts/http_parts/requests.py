@@ -1,4 +1,7 @@
-"""Right, wrong, slow and mutated requests to a server's pages."""
+"""Right, wrong, slow and mutated requests to a server's pages.
+
+Used by: scripts/check-http. A page or a status that docs/HTTP.md gains has a request here.
+"""
 import random
 import select
 import shutil

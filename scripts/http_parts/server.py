@@ -1,4 +1,9 @@
-"""A server with pages for the parts of scripts/check-http, its clients, and what its pages say."""
+"""A server with pages for the parts of scripts/check-http, its clients, and what its pages say.
+
+Used by: scripts/bench-http, scripts/check-backup, scripts/check-http, scripts/check-prometheus, cron.py, looks.py, replaced.py, requests.py,
+told.py, words.py, soak_parts/backups.py. STATUSES are those of docs/HTTP.md, TYPES those of crates/mw_http/src/heads.rt: a further page or
+status is added here too. `new_file` writes the bytes of docs/FILES.md.
+"""
 import os
 import re
 import resource

@@ -1,4 +1,7 @@
-"""What a server's figures tell of its clients and its disk."""
+"""What a server's figures tell of its clients and its disk.
+
+Used by: scripts/check-http. It asks for figures by their names in docs/HTTP.md: one that gets another name gets it here too.
+"""
 import re
 import threading
 import time

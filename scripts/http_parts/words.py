@@ -1,4 +1,7 @@
-"""The page of a tenant's words, and what the client in Python reads there, beside clients that change words."""
+"""The page of a tenant's words, and what the client in Python reads there, beside clients that change words.
+
+Used by: scripts/check-http. docs/HTTP.md has the form of the page.
+"""
 import asyncio
 import subprocess
 import sys

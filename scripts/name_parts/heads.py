@@ -1,6 +1,6 @@
-"""Checks what the heads of the crates' files say: the comments at the top of each .rt and .antt file.
+"""Checks what heads say: the comments at the top of the crates' .rt and .antt files, and those of the scripts.
 
-Used by: scripts/check-names. faults() tells what is wrong:
+Used by: scripts/check-names. faults() tells what is wrong of the crates' files:
 
 - The heads have at most MOST_WORDS words, the marks of comments counted.
 - No head says that its file 'may change freely': CONTRIBUTING says what may.
@@ -8,16 +8,25 @@ Used by: scripts/check-names. faults() tells what is wrong:
   proofs/ is used by what imports it; a function, if the page is imported at all, by a file in the function's folder of
   proofs/; a module of src/, by a file that has its name or one that it defines. A crate is used by those above it in
   crates.txt alone. What follows a name is not read.
-- A list of a page names each other crate that imports the page, or says 'many crates from mw_a on': more than MOST_CRATES,
+- A list of a page names each other crate that imports the page, or says 'many crates from mw_a on': more than MOST_NAMED,
   of which mw_a is the lowest. It need not name pages beside it, nor all functions.
 - `f` (src/a.rt) in the head of a proof is a function of that file, and 'the law `f`' one of the crate.
 - A name that a document cites, as in 'docs/PROMISES cites `f`', is in backquotes in that document.
+
+And of the scripts:
+
+- A script says by 'Used by' who runs it, and has its line 'usage: scripts/NAME'.
+- A module of scripts/*_parts has a sentence 'Used by: scripts/a, b.py, c_parts/d.py'. It names each script and module that imports
+  the module, and each module beside it that has its name in quotes, as one that runs it: these, and no others. For more than
+  MOST_NAMED modules of its own folder, 'many of this folder' may stand.
+
+A rule that is added here is told in the head of scripts/check-names or in CONTRIBUTING too.
 """
 import re
 from collections import defaultdict
 
 MOST_WORDS = 70000
-MOST_CRATES = 5
+MOST_NAMED = 5
 IMPORT = re.compile(r"\bRattle\.(\w+)\.(specs|proofs)\.([\w.]+)")
 WORD = re.compile(r"\w+")
 SPAN = re.compile(r"`([^`\n]+)`")
@@ -29,6 +38,10 @@ NAMED = re.compile(r"(?:and |by )*(?:`([^`]+)`.*|([\w:./-]+)(?: \(.*\))?)")
 MANY = re.compile(r"many crates from (\w+) on")
 PLACED = re.compile(r"`([^`]+)` \((src/[\w/]+\.rt)\)")
 LAW = re.compile(r"Proves the law `(\w+)`")
+FROM = re.compile(r"^\s*from (\.|\w+_parts\b)?\.?(\w*) import (.+)$", re.M)
+RUN = re.compile(r'"(\w+\.py)"')
+USERS = re.compile(r"\bUsed\s+by:\s(.*?)\.(?:\s|$)", re.S)
+USER = re.compile(r"scripts/[\w-]+|(?:\w+/)?\w+\.py")
 CITED = re.compile(r"((?:(?:README|(?:docs/)?[A-Z][A-Z-]+)(?:\.md)?(?:, | and )?)+) cites? ((?:`[\w:]+`(?:, | and | or )?)+)")
 
 
@@ -93,7 +106,7 @@ class Heads:
         names = [name.group(1) or name.group(2) for name in map(NAMED.fullmatch, items) if name]
         lowest = next((many.group(1) for many in map(MANY.fullmatch, items) if many), None)
         if lowest:
-            if len(above) <= MOST_CRATES or min(above, key=self.order.index) != lowest:
+            if len(above) <= MOST_NAMED or min(above, key=self.order.index) != lowest:
                 self.tell(path, f"is used by {len(above)} crates, not by many from {lowest} on")
         elif "among others" not in items:
             for other in sorted(above.difference(names)):
@@ -179,10 +192,62 @@ class Heads:
         return self.missing
 
 
+def top_of(text):
+    """The head of a script or of a module of Python: its first docstring, or its first comment."""
+    found = re.match(r'(?:#!.*\n)?(?:"""([\s\S]*?)"""|((?:#.*\n)+))', text)
+    return (found[1] or found[2]) if found else ""
+
+
+def modules_used(path, text):
+    """The modules of scripts/*_parts that a file imports, and those beside it that it names in quotes."""
+    own = path.rpartition("/")[0]
+    found = {f"{own}/{name}" for name in RUN.findall(text)}
+    for folder, module, names in FROM.findall(text):
+        for name in [module] if module else names.split(","):
+            found.add(f"{own if folder in ('', '.') else f'scripts/{folder}'}/{WORD.search(name)[0]}.py")
+    return found - {path}
+
+
+def path_of(name, folder):
+    """The path of a user that the head of a file in this folder names."""
+    if "/" not in name:
+        return f"{folder}/{name}"
+    return name if name.startswith("scripts/") else f"scripts/{name}"
+
+
+def wrong_users(path, sentence, users):
+    """What is wrong with this list of users in the head of a module, which has these users."""
+    folder = path.rpartition("/")[0]
+    named = {path_of(name, folder) for name in USER.findall(sentence)}
+    beside = {user for user in users if user.startswith(f"{folder}/")}
+    many = beside if "many of this folder" in sentence and len(beside) > MOST_NAMED else set()
+    return ([f"is not used by {user}, which its head names" for user in sorted(named - users)]
+            + [f"is used by {user}, which its head does not name" for user in sorted(users - named - many)])
+
+
+def faults_of_scripts(texts):
+    """What is wrong with the heads of the scripts, and of the modules of scripts/*_parts."""
+    used_by, missing = defaultdict(set), []
+    for path, text in texts.items():
+        for module in modules_used(path, text):
+            used_by[module].add(path)
+    for path, text in texts.items():
+        head = top_of(text)
+        users, is_script = USERS.search(head), not path.endswith(".py")
+        if not users:
+            missing.append(f"{path}: its head has no 'Used by:'")
+        elif not is_script:
+            missing += [f"{path}: {wrong}" for wrong in wrong_users(path, users[1], used_by[path])]
+        if is_script and f"usage: {path}" not in head:
+            missing.append(f"{path}: its head has no 'usage: {path}'")
+    return missing
+
+
 def faults(files, read):
     """What is wrong with the heads of these files, which read() gives."""
     texts = {path: read(path) for path in files if path.startswith("crates/") and path.endswith((".rt", ".antt"))}
     documents = {path.split("/")[-1].removesuffix(".md"): set(WORD.findall(" ".join(SPAN.findall(read(path)))))
                  for path in files if re.fullmatch(r"(docs/)?[A-Z-]+\.md", path)}
     lines = (line.split("#")[0].split() for line in read("crates.txt").split("\n"))
-    return Heads(texts, documents, [words[0].rstrip(":") for words in lines if words]).all()
+    scripts = {path: read(path) for path in files if re.fullmatch(r"scripts/([\w-]+|\w+_parts/\w+\.py)", path)}
+    return Heads(texts, documents, [words[0].rstrip(":") for words in lines if words]).all() + faults_of_scripts(scripts)

@@ -1,6 +1,7 @@
 """The record that the gate leaves of what it tried: the commit, the checksum of each program, and its last line.
 
-Used by: scripts/check-programs, which writes it as the last part of .ci/run; scripts/package, which packs nothing else.
+Used by: scripts/check-programs, which writes it as the last part of .ci/run; scripts/package, which packs nothing else; program_parts/recorded.py,
+which tries both.
 """
 import hashlib
 import subprocess

@@ -1,7 +1,7 @@
 """The client for asyncio with calls that block: what tries `mondlexi` tries `mondlexi.aio` by it, call for call.
 
-Used by: scripts/check-programs, which gives this module or `mondlexi` to client.py, reads.py and recipes.py. What only asyncio has is tried
-in tasks.py.
+Used by: scripts/check-counts, scripts/check-programs, client_parts/play.py. The modules beside it that take `clients` are given this one or
+`mondlexi`. A call that the client gains is added here too. What only asyncio has is tried in tasks.py.
 """
 import asyncio
 import atexit

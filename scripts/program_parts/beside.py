@@ -1,6 +1,9 @@
-"""mwbench, bench-server's chart, the units and the check for cron of contrib, and what each program says of its version.
+"""What scripts/check-programs tries beside the clients: mwbench; the units of contrib, how exposed they are, and that they allow the system calls
+which a server makes; that a log goes on after logrotate; contrib's check for cron; the version that each program tells; and
+scripts/bench-server with its chart.
 
-Used by: scripts/check-programs. The loads take two seconds each; how much is served in them is not looked at.
+Used by: scripts/check-programs. The loads take two seconds each; how much is served in them is not looked at. It reads the lines of mwbench
+(docs/BENCH.md has the names of --json) and the rows of bench-server: change these together.
 """
 import gzip
 import json

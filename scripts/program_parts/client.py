@@ -1,7 +1,7 @@
 """The client in Python at servers and at peers: each of its calls, each exception, connections that break. `clients` is
 `mondlexi`, or `awaited` for its asyncio twin.
 
-Used by: scripts/check-programs. Nothing here passes or fails by how fast the machine is.
+Used by: scripts/check-programs, reads.py. Nothing here passes or fails by how fast the machine is.
 """
 import asyncio
 import contextlib

@@ -1,7 +1,9 @@
 """What each part of scripts/check-programs needs: the built programs, a server over tenants' files, a peer that says what it is
 told to, and how a difference is told.
 
-Used by: scripts/check-programs, the other files of this folder.
+Used by: scripts/check-counts, scripts/check-failover, scripts/check-map, scripts/check-move, scripts/check-package, scripts/check-programs,
+scripts/check-proxy, scripts/check-recipes, scripts/check-volume, many of this folder, failover_parts/keepers.py, failover_parts/speed.py,
+recipe_parts/running.py. A further program is a row of PROGRAMS here and in scripts/package.
 """
 import importlib.util
 import os

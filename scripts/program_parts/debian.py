@@ -1,6 +1,6 @@
 """Where a new Debian comes from, and whether one can be made and booted here.
 
-Used by: scripts/check-package, which installs a package in it; scripts/check-programs, which tells that this was left out.
+Used by: scripts/check-package, which installs a package in it; scripts/check-programs, which tells that this was left out; booted.py.
 """
 import os
 import shutil

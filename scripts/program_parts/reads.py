@@ -1,7 +1,7 @@
 """The reads of the client in Python: many words by one round trip, and reads that connect anew; and servers that are full.
 `clients` is `mondlexi`, or `awaited` for its asyncio twin.
 
-Used by: scripts/check-programs. Nothing here passes or fails by how fast the machine is.
+Used by: scripts/check-programs, recipes.py, shell.py, tasks.py, tls.py. Nothing here passes or fails by how fast the machine is.
 """
 import contextlib
 import socket

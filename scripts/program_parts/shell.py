@@ -1,6 +1,6 @@
 """The shell, `python3 -m mondlexi`: lines from a pipe, one command of the command line, dumps, TLS, and keys at a terminal.
 
-Used by: scripts/check-programs. Nothing here passes or fails by how fast the machine is.
+Used by: scripts/check-programs, tls.py. A further command of the shell has a case here. Nothing here passes or fails by how fast the machine is.
 """
 import os
 import pty

@@ -1,7 +1,7 @@
 """TLS: the client in Python at a front that speaks it, and passes on to a server what it hears. `openssl` makes the certificates.
 `clients` is `mondlexi`, or `awaited` for its asyncio twin.
 
-Used by: scripts/check-programs. Nothing here passes or fails by how fast the machine is.
+Used by: scripts/check-programs, scripts/check-proxy, client_parts/examples.py. Nothing here passes or fails by how fast the machine is.
 """
 import contextlib
 import select

@@ -1,6 +1,6 @@
 """What the checks share: calls with their begin and end, and whether an order of calls of one key explains what they told.
 
-Used by: the checks of this folder.
+Used by: scripts/check-recipes, blocks.py, keys.py, queues.py.
 """
 from typing import Any, FrozenSet, Iterable, Iterator, List, NamedTuple, Optional, Set, Tuple
 

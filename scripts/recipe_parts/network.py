@@ -5,7 +5,7 @@ the client's connection is cut at once, and the line reaches the server up to 1.
 anew; of one the reply comes late. The same happens to as many of ten thousand lines `GET`, of which one call may send hundreds at
 once. All others are passed on.
 
-Used by: running. It is a process of its own.
+Used by: running.py. It is a process of its own.
 """
 import asyncio
 import contextlib

@@ -1,6 +1,6 @@
 """Runs a recipe in many processes, through a network that loses and delays, while the server and the processes are killed.
 
-Used by: scripts/check-recipes.
+Used by: scripts/check-recipes, blocks.py, histories.py, keys.py, leases.py, queues.py, work.py.
 """
 import json
 import multiprocessing

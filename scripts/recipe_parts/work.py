@@ -1,7 +1,7 @@
 """What each process does with a recipe, and what it tells of it, line by line: before a call what it asks for, after it what it was
 told. A life whose last line is of the first kind was killed in between.
 
-Used by: scripts/check-recipes; the checks read these lines.
+Used by: scripts/check-recipes, blocks.py, keys.py, leases.py, queues.py. All but the first read these lines: change both.
 """
 import asyncio
 import hashlib

@@ -1,4 +1,8 @@
-"""Reads the edits of the crates, in the gate and by rounds, and the wrong bodies that are kept by hand in wrong_bodies.txt."""
+"""Reads the edits of the crates, in the gate and by rounds, and the wrong bodies that are kept by hand in wrong_bodies.txt.
+
+Used by: scripts/check-names, page.py. KEYS are those that the head of wrong_bodies.txt explains, and the columns that page.py writes: a
+further one is added in all three.
+"""
 import os
 import re
 from pathlib import Path

@@ -1,4 +1,7 @@
-"""Finds the definitions that clauses cite: the crate, the page of its specs/, and the name there."""
+"""Finds the definitions that clauses cite: the crate, the page of its specs/, and the name there. `cited` takes a function of source.py.
+
+Used by: page.py, for the column of definitions in docs/REGISTER.md. If anything else is found than before, run scripts/register.
+"""
 import functools
 import os
 import re

@@ -1,4 +1,8 @@
-"""Makes the text of docs/REGISTER.md."""
+"""Makes the text of docs/REGISTER.md.
+
+Used by: scripts/register, which writes the page; scripts/check-names, which compares it. After a change here run scripts/register. head.md
+explains the columns, and bodies.py has the keys of wrong_bodies.txt: a further column is told there.
+"""
 from register_parts import bodies
 from register_parts.citing import cited
 from register_parts.source import Crate, crates, read

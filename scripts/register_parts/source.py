@@ -1,4 +1,8 @@
-"""Reads the functions of the crates out of their sources: contracts, documents, bodies, and what they call."""
+"""Reads the functions of the crates out of their sources: contracts, documents, bodies, and what they call.
+
+Used by: scripts/check-wrong-bodies, scripts/register, bodies.py, citing.py, page.py, edit_parts/edits.py, edit_parts/rounds.py. Its patterns
+are of the sources as `rt fmt` leaves them. After a change here run scripts/register.
+"""
 import functools
 import os
 import re

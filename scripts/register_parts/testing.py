@@ -1,4 +1,7 @@
-"""Finds the tests that call a function, by names alone."""
+"""Finds the tests that call a function, by names alone.
+
+Used by: page.py, for the tests in docs/REGISTER.md. If anything else is found than before, run scripts/register.
+"""
 
 
 class Tests:

@@ -2,6 +2,8 @@
 
 The checker judges a backup as a request that sees all words of its tenant at once: it has a place in the serial order, between
 the moment at which it was asked for and that at which it had come.
+
+Used by: scripts/check-backup.
 """
 import itertools
 import random

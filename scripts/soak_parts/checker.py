@@ -8,6 +8,9 @@ undecided ones of which a value is seen. (One that was made and of which nothing
 stay right.) Each made change follows, at each of its words, the change that wrote what it expected, and each value that is
 seen was seen behind the change that wrote it and before the next one of its word. With the orders of time and of sessions
 these are all the conditions, so there is a serial order just where they have no circle.
+
+Used by: backups.py, lives.py, planted.py, planted_slots.py, power.py, searched.py, failover_parts/load.py. A further condition has a planted
+fault in planted.py, and a case in the search of searched.py.
 """
 import heapq
 from collections import deque

@@ -2,6 +2,9 @@
 
 One thread drives them all, so what it notes has one order and one clock. What a client is told is noted when it is read,
 and what it asks just before it is sent: no request is thought to have been shorter than it was.
+
+Used by: backups.py, lives.py, power.py. Each value is written once, as checker.py needs it. A reply that the protocol gains is one of `Answer`
+(history.py) and of `read_reply` here.
 """
 import itertools
 import random

@@ -1,6 +1,6 @@
 """What was found in lives of a server, and how much its clients asked meanwhile.
 
-Used by: lives.py and backups.py.
+Used by: backups.py, lives.py.
 """
 from collections import Counter
 from dataclasses import dataclass, field

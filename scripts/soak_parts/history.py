@@ -2,6 +2,9 @@
 
 Times are nanoseconds of one clock (time.monotonic_ns). A value that is written is written once only, so that each value
 that is seen tells by which change it was written.
+
+Used by: many of this folder, failover_parts/load.py. A reply that the protocol gains is an `Answer` here, a case in `read_reply` (crowd.py),
+and one of checker.py.
 """
 from dataclasses import dataclass
 from enum import Enum

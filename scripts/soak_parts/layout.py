@@ -1,4 +1,8 @@
-"""Reads the bytes of a tenant's file, as docs/FILES.md says: the words of it, or the number of its damage."""
+"""Reads the bytes of a tenant's file, as docs/FILES.md says: the words of it, or the number of its damage.
+
+Used by: scripts/check-limits, scripts/check-refusals, scripts/fail-each-allocation, lives.py, planted_writers.py, power.py. A change of the
+format is one here and in files_parts/reader.py, which was written apart from this.
+"""
 import struct
 from typing import List, NamedTuple, Optional, Tuple
 

@@ -1,5 +1,9 @@
 """Lives of a server, one after the other, over the same files: many clients ask, calls on files fail, and each life ends by
-SIGKILL and a power cut, of which the records tell what it may leave. All that was told is judged."""
+SIGKILL and a power cut, of which the records tell what it may leave. All that was told is judged.
+
+Used by: scripts/soak, whose head tells of the tenants and of CLIENTS. POOL (server.py) is MAX_POOL of
+crates/mw_words/src/limits.rt: how many changes a server has room for.
+"""
 import itertools
 import random
 import time
@@ -95,7 +99,7 @@ class Lives:
             self.live(None)
 
     def live(self, seconds: Optional[float]) -> None:
-        """One life; of no length is one in which nothing fails and nobody asks."""
+        """One life of so many seconds; with None one in which nothing fails and nobody asks, to look at the words."""
         plan = random_plan(self.dice, TENANTS, 0.0 if seconds is None else SHARE_OF_FAILING_FILES)
         plan.lie = self.lie
         durable = {tenant: tenant.path(self.folder).read_bytes() for tenant in TENANTS}

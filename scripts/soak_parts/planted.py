@@ -1,4 +1,7 @@
-"""Tries the checker: histories in which all is right, and such with a planted fault, each of which it has to refuse."""
+"""Tries the checker: histories in which all is right, and such with a planted fault, each of which it has to refuse.
+
+Used by: scripts/soak --self-test. A condition that checker.py gains has a fault here.
+"""
 import heapq
 import random
 from typing import Dict, Iterator, List, NamedTuple, Optional, Tuple

@@ -1,5 +1,8 @@
 """Tries what the checker says of BUSY: histories by hand, and random ones of a tenant that counts its slots. Of those that are
-right none may be refused; of those where BUSY comes with slots free, some have to be."""
+right none may be refused; of those where BUSY comes with slots free, some have to be.
+
+Used by: scripts/soak --self-test. slots.py has the rule that is tried.
+"""
 import heapq
 import random
 from dataclasses import dataclass, field

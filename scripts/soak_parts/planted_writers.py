@@ -3,6 +3,8 @@
 Some write as docs/FILES.md says: none of their images may be refused. The others forget a sync, change the order of writes or
 answer too early: of each, some images must be refused. Some make one change after the other. The others make two to four changes
 that share syncs; the fourth has the place of the first.
+
+Used by: scripts/soak --self-test. If a change is written in another order of calls (docs/FILES.md), the right writers do so here.
 """
 import itertools
 import random

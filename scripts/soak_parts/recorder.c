@@ -1,5 +1,8 @@
 /* Loaded into mwserve by LD_PRELOAD: writes down its writes and syncs of tenants' files, and lets calls fail that are told to.
 
+   Used by: recording.py, which builds it and reads its lines; server.py and scripts/check-cache, which set its variables. Change them
+   together.
+
    RECORDER_LOG    the file of the records, a line each:
                        write NAME TIME OFFSET BYTES      before a write; the bytes in hexadecimal
                        sync NAME TIME                    before a sync

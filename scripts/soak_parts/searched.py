@@ -1,4 +1,7 @@
-"""Tries the checker on small random histories, right and wrong ones: it has to judge each as a search of all orders does."""
+"""Tries the checker on small random histories, right and wrong ones: it has to judge each as a search of all orders does.
+
+Used by: scripts/soak --self-test. A condition that checker.py gains is one of the search too.
+"""
 import itertools
 import random
 from typing import Iterator, List, Optional, Set, Tuple

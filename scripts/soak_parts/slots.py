@@ -13,6 +13,8 @@ file has failed it doesn't, and then nobody is told BUSY any more (docs/STEPS.md
 
 A request is taken to be under way for longer than it was: from before its sending until its reply was read, or until its
 server had ended. So never fewer slots are counted here than were taken.
+
+Used by: checker.py. If a change may have another number of pins (docs/STEPS.md), it has it here; planted_slots.py tries it.
 """
 from collections import Counter
 from typing import Counter as CounterOf

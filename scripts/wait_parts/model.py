@@ -3,6 +3,8 @@
 Each worker makes changes, and each change three calls on the file: a prepare, a seal, a settle. The model has one step for each thing that another
 worker can see: a look at the hints, a try of the lock, a visit to the room under its lock, a ring. What a call does to words is
 left out. No sleep ends by time: so a state in which nobody can go on is one in which some worker would sleep to the end of its time.
+
+Used by: scripts/check-waits. A change of what a worker does in one of these files is one of the model.
 """
 from typing import Iterator, NamedTuple, Tuple
 

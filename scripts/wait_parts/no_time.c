@@ -2,7 +2,9 @@
 
    ENDLESS_SLEEPS   these lengths in microseconds, with commas between them
    SLEEP_COUNT      a file of two numbers of eight bytes: how many such sleeps there were, and how many wakes of them
-   LAST_WAKE        after so many wakes of a word on which a thread has slept so, none is made; if not said, all are */
+   LAST_WAKE        after so many wakes of a word on which a thread has slept so, none is made; if not said, all are
+
+   Used by: scripts/check-wakes, which sets these variables. */
 #define _GNU_SOURCE
 #include <dlfcn.h>
 #include <fcntl.h>

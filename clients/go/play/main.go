@@ -1,6 +1,6 @@
 // Play is the client in Go, as the program of clients/cases/README.md: it reads calls, one a line, and tells what each tells.
 //
-// Used by: scripts/check-clients. Status 0.
+// Used by: scripts/check-clients. A further call or failure of that page is a case here, and in play of each language. Status 0.
 package main
 
 import (

@@ -19,7 +19,8 @@ import mondlexi.Report;
 /**
  * The client in Java, as the program of clients/cases/README.md: it reads calls, one a line, and tells what each tells.
  *
- * <p>Used by: scripts/check-clients. Status 0.
+ * <p>Used by: scripts/check-clients. A further call of that page is a case here, and in play of each language. A failure is told by the name
+ * of its class: a further kind of MondlexiException needs no case. Status 0.
  */
 final class Play {
     private Client client;

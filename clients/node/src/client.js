@@ -1,4 +1,5 @@
-// The calls of a tenant and of the administrator. index.d.ts says what each does.
+// The calls of a tenant and of the administrator. index.d.ts says what each does. Used by: programs, by index.js. A further call is one of
+// each client, has a case in play.js, and cases in clients/cases.
 import { Busy, Invalid, Lost, Unknown } from './errors.js';
 import {
   MAX_ENTRIES, administratorGreeting, casQuestion, checkAddresses, checkedEntries, getQuestion, reportQuestion, tenantGreeting,

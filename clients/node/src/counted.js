@@ -1,4 +1,5 @@
-// Changes of which it is found out whether they were made. index.d.ts says what each call does.
+// Changes of which it is found out whether they were made. index.d.ts says what each call does. Used by: programs, by index.js. What a call
+// tells is the same in each client: change them together, with a case in clients/cases/counted.txt.
 import { Busy, Fault, Lost, Moved, Unknown, Worn } from './errors.js';
 import { checkedEntries } from './protocol.js';
 import { checkTime } from './session.js';

@@ -1,4 +1,6 @@
-// What goes wrong. index.d.ts says what each says of a change.
+// What goes wrong. index.d.ts says what each says of a change. Used by: programs, by index.js; all files of this folder but link.js. The names
+// in small letters are the failures of clients/cases/README.md, since play.js tells them so: a further one is one of that page and of each
+// client.
 
 export class MondlexiError extends Error {
   constructor(text, options) {

@@ -1,4 +1,5 @@
-// One connection over TCP, with TLS if that is wanted, or to a local socket, with limits of time.
+// One connection over TCP, with TLS if that is wanted, or to a local socket, with limits of time. Used by: session.js. The limits are the
+// same in each client: change them together, with a case in clients/cases.
 import net from 'node:net';
 import tls from 'node:tls';
 import { LINES_AT_ONCE, MAX_REPLY, isLast, isTooLong } from './protocol.js';

@@ -1,5 +1,6 @@
 // The protocol without a connection: which arguments are allowed, the line of each question, and what its reply means.
-// docs/PROTOCOL.md has the grammar.
+// docs/PROTOCOL.md has the grammar. Used by: client.js, counted.js, link.js, session.js, and programs for the limits. A command or limit that
+// the page gains is added here, in the file of this name of each other client, and has cases in clients/cases.
 import { Busy, Fault, Invalid, Lost, Refused, Worn } from './errors.js';
 
 export const MAX_VALUE = 2 ** 48 - 1;

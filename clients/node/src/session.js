@@ -1,4 +1,5 @@
-// A session: it connects, asks, asks again, and tells how a lost connection counts.
+// A session: it connects, asks, asks again, and tells how a lost connection counts. Used by: client.js, counted.js, and programs for its
+// limits. When it asks again is the same in each client: change them together, with a case in clients/cases.
 import { Busy, Full, Invalid, Lost, MondlexiError } from './errors.js';
 import { Aborted, Late, Link, Unsent, strange } from './link.js';
 import { failureOf, placeOf } from './protocol.js';

@@ -1,4 +1,5 @@
-// Moments, pauses and turns. Times are in milliseconds.
+// Moments, pauses and turns. Times are in milliseconds. Used by: the other files of this folder but errors.js and protocol.js. The pauses are
+// the same in each client: change them together.
 import { Lost } from './errors.js';
 
 const FIRST_PAUSE = 1;

@@ -1,4 +1,5 @@
-// What clients/cases doesn't have: the texts of late replies; and signals, calls that overlap, and TLS.
+// What clients/cases doesn't have: the texts of late replies; and signals, calls that overlap, and TLS. Used by: `node --test`, which
+// scripts/check-clients runs.
 import assert from 'node:assert/strict';
 import { execFileSync } from 'node:child_process';
 import { mkdtempSync, readFileSync, rmSync } from 'node:fs';

@@ -1,4 +1,5 @@
-// Uses each call as a program in TypeScript does; it is only looked at by the compiler.
+// Uses each call as a program in TypeScript does; it is only looked at by the compiler. Used by: scripts/check-clients. A further call of
+// index.d.ts is used here.
 import { Administrator, Client, Counted, DEFAULTS, MAX_VALUE, Refused, Unknown, type Entry, type Report } from 'mondlexi';
 
 export async function useAll(signal: AbortSignal): Promise<number> {

@@ -6,6 +6,8 @@ usage: python3 allocator.py ADDR TENANT OWNER take COUNT [TAG]
 
 OWNER: a number from 0 on, whose count is the word 1000 + OWNER. One process at a time is an owner. `mine` lists its blocks, each
 with its tag: also those that were taken by a process that died before it could tell. Status 0, or 1 if not so many are free.
+
+Used by: whoever wants to copy it; scripts/program_parts/recipes.py, which tries it.
 """
 import sys
 from pathlib import Path

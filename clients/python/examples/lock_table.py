@@ -5,6 +5,8 @@ usage: python3 lock_table.py ADDR TENANT OWNER LOCK[,LOCK..] COMMAND [WORD..]
 OWNER: a number from 1 to 65,535 that no other process has now. The command has the locks' tokens in MONDLEXI_TOKENS, with commas
 between. The lease is renewed as long as the command runs; if it is lost, the command is stopped before another process can have
 a lock. The status is the command's; 1 if the locks were not free for a minute, or were lost.
+
+Used by: whoever wants to copy it; scripts/program_parts/recipes.py, which tries it.
 """
 import os
 import subprocess

@@ -4,6 +4,8 @@ usage: python3 sorted_index.py ADDR TENANT LOW HIGH < PAIRS
 
 PAIRS: a line for each, the key and the value with a space between; may be empty. It prints the pairs from LOW to below HIGH. Up to
 60 processes do this at a time: each gets the address of its count from a registry in the words 0 to 179.
+
+Used by: whoever wants to copy it; scripts/program_parts/recipes.py, which tries it.
 """
 import sys
 from pathlib import Path

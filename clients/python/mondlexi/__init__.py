@@ -76,6 +76,8 @@ own, until one is told as made.
 After `close` each call raises Lost and sends nothing, until `reconnect`. An exception from outside that interrupts a call, such as
 KeyboardInterrupt, ends the connection, and a change under way is undecided. The next call of its `Counted` settles it first.
 """
+# Used by: programs. A name that is added here is added to `aio` and to each client. The version is that of the programs, as
+# scripts/check-programs looks.
 from ._client import Administrator, Client, Counted, snapshot
 from ._protocol import MAX_ENTRIES, MAX_VALUE, MAX_WORDS, Entry, Outcome, Report, TenantReport
 from .errors import Busy, Error, Fault, Full, Lost, Refused, Unknown, Worn

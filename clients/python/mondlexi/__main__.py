@@ -2,6 +2,9 @@
 
 Status 0 if all went well; 1 if it didn't connect, or if a command failed that was no line of a terminal, also a `cas` that was not
 made; 2 for a wrong command line; 130 after Ctrl-C.
+
+Used by: contrib/mondlexi, and whoever types `python3 -m mondlexi`. An option or a command that is added is told in docs/CLIENTS.md, and
+tried by scripts/program_parts/shell.py.
 """
 import argparse
 import os

@@ -1,7 +1,7 @@
 """The client whose calls block: `Client`, `Administrator` and `Counted`, over sessions of sockets.
 
-It also has `snapshot`, which needs no session. Used by: `mondlexi`, which gives them to users; `_shell`. `aio` has the same names for asyncio: a call that is added here is added
-there.
+It also has `snapshot`, which needs no session. Used by: `mondlexi`, which gives them to users; `_shell`; the recipes, for types. A call that is
+added here is added to `aio`, which has the same names for asyncio, to scripts/program_parts/awaited.py, and to each client in clients/.
 """
 import time
 from types import TracebackType

@@ -1,7 +1,7 @@
 """The protocol without a connection: which arguments are allowed, the line of each question, and what its reply means.
 
-Used by: `_session`, and so by the client and its asyncio twin. Nothing here reads, writes or waits. docs/PROTOCOL.md has the
-grammar; a new command or limit of it is added here first.
+Used by: most other files of this package. Nothing here reads, writes or waits. docs/PROTOCOL.md has the grammar: a command or
+limit that it gains is added here first, then in the file named for the protocol of each other client, with cases in clients/cases.
 """
 import operator
 import os

@@ -1,7 +1,8 @@
 """A session over any link: it connects, asks, asks again, and tells how a lost connection counts. It is written once, as
 coroutines: over sockets they never wait for an event loop (`run`), over asyncio they do.
 
-Used by: `_client` and `aio`, each with a `Link` of its own. What a call promises is said at `mondlexi.Client`.
+Used by: `_client` and `aio`, each with a `Link` of its own; `_pages`, `_sockets` and the recipes. What a call promises is said at
+`mondlexi.Client`. When a session asks again is the same in each client: change them together, with a case in clients/cases.
 """
 import enum
 import random

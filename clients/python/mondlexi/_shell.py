@@ -1,7 +1,8 @@
 """The shell: commands by hand at a terminal, lines from a pipe, or one command of the command line.
 
 Used by: `__main__`. Each `do_NAME` is a command, the first line of its docstring its help. A failed command prints one line to
-standard error.
+standard error. A further command is told in docs/CLIENTS.md, is a word of contrib/mondlexi.bash, and has a case in
+scripts/program_parts/shell.py.
 """
 import cmd
 import re

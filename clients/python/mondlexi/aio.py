@@ -15,6 +15,7 @@ reply is under way ends the connection, because that reply would be taken for th
 undecided, as after Unknown. Then `get`, `get_many`, `stable`, `read` and `report` connect anew, and `cas` raises Lost until
 `reconnect`.
 """
+# Used by: programs, `mondlexi.recipes.aio`. It changes with `_client`, and with scripts/program_parts/awaited.py, which tries it.
 import asyncio
 import contextlib
 import socket

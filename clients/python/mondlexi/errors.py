@@ -1,6 +1,7 @@
 """The exceptions of the client and of its asyncio twin, all of them kinds of `Error`.
 
-Used by: all of this package; `mondlexi` and `mondlexi.aio` give them to users. A new one goes into the table of `mondlexi`.
+Used by: all of this package; `mondlexi` and `mondlexi.aio` give them to users. A new one goes into the table of `mondlexi`, is
+one of each client, and a word of clients/cases/README.md, which scripts/client_parts/play.py tells.
 """
 
 _MEANINGS = {

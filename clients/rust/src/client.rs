@@ -1,4 +1,5 @@
-//! The calls of a tenant and of the administrator.
+//! The calls of a tenant and of the administrator. Used by: programs, counted.rs. A further call is one of each client, has a case in
+//! examples/play.rs, and cases in clients/cases.
 
 use std::io;
 use std::net::TcpStream;

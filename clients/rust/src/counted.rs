@@ -1,4 +1,5 @@
-//! Counted changes: a word that only these move, and what it tells of a change whose reply was lost.
+//! Counted changes: a word that only these move, and what it tells of a change whose reply was lost. Used by: programs. What it tells is the
+//! same in each client: change them together, with a case in clients/cases/counted.txt.
 
 use std::time::{Duration, Instant};
 

@@ -1,4 +1,5 @@
-//! What goes wrong, and what that says of a change.
+//! What goes wrong, and what that says of a change. Used by: programs, client.rs, counted.rs, protocol.rs, session.rs. A further
+//! kind is one of each client, has a word in clients/cases/README.md, and a case in examples/play.rs.
 
 use std::fmt;
 

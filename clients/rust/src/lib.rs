@@ -1,3 +1,4 @@
+// What users see of the client. README.md is its first page. Used by: programs. What is added here is added to each client.
 #![doc = include_str!("../README.md")]
 #![forbid(unsafe_code)]
 #![deny(missing_docs)]

@@ -1,4 +1,5 @@
-//! One connection over TCP or to a local socket, with limits of time; and pauses.
+//! One connection over TCP or to a local socket, with limits of time; and pauses. Used by: session.rs; client.rs for streams, counted.rs for
+//! pauses. These and the limits are the same in each client: change them together, with a case in clients/cases.
 
 use std::collections::hash_map::RandomState;
 use std::hash::{BuildHasher, Hasher};

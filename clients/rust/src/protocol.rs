@@ -1,5 +1,6 @@
 //! The protocol without a connection: which arguments are allowed, the line of each question, and what its reply means.
-//! docs/PROTOCOL.md has the grammar.
+//! docs/PROTOCOL.md has the grammar. Used by: client.rs, counted.rs, link.rs, session.rs. A command or limit that the page gains is added
+//! here, in the file of this name of each other client, and has cases in clients/cases.
 
 use crate::error::Error;
 

@@ -1,4 +1,5 @@
-//! A session: it connects, asks, asks again, and tells how a lost connection counts.
+//! A session: it connects, asks, asks again, and tells how a lost connection counts. Used by: client.rs, counted.rs. When it asks again is the
+//! same in each client: change them together, with a case in clients/cases.
 
 use std::io;
 use std::time::{Duration, Instant};

@@ -1,4 +1,5 @@
-//! What the table of cases doesn't have: streams over a connection, which only this client has, and the texts of late replies.
+//! What the table of cases doesn't have: streams over a connection, and the texts of late replies. Used by: `cargo test`, which
+//! scripts/check-clients runs.
 
 use std::io::{self, BufRead, BufReader, Read, Write};
 use std::net::{TcpListener, TcpStream};

@@ -11,5 +11,5 @@ pub engine_keeps : {D : Type 0} (facts : D → Facts) (makes : DeviceCall → Bo
 engine_keeps facts makes is_over is_refused identity start = record {
   workers = λ calls by. record { identity = identity; start = start; answered = inl by };
   borrowers = λ calls by. record { identity = identity; start = start; answered = inr by };
-  pages = λ old new calls goes. record { identity = identity; start = start; old = old; new = new; answered = goes };
+  pages = λ old new calls own goes. record { identity = identity; start = start; old = old; new = new; own = own; answered = goes };
 }

@@ -7,6 +7,7 @@ use Rattle.mw_disk.specs.Facts.{Facts}
 use Rattle.mw_file.specs.declared.tenant_file.TenantFile.{TenantFile}
 use Rattle.mw_session.specs.Talk.{Call}
 use Rattle.mw_engine.specs.Brand.{Identity}
+use Rattle.mw_engine.specs.Passes.{IsPassOf}
 use Rattle.mw_opening.specs.FromBelow.{DeviceCall, openings_read}
 use Rattle.mw_opening.specs.SyncedOpenings.{AreOfLines}
 use Rattle.mw_opening.specs.declared.file_fault.FileFault.{FileFault}
@@ -33,19 +34,20 @@ module _ {D : Type 0} (facts : D → Facts) (makes : DeviceCall → Bool → D �
     pub start : IsOfStart identity
     pub answered : ByWorker identity calls ⊎ ByBorrower identity calls
 
-  -- So were the calls of the pages, in order.
+  -- So were the calls of the pages, in order, with one pass of this engine.
   pub record AreShown (calls : List page.Call) : Type 0 where
     pub identity : Identity
     pub start : IsOfStart identity
     pub old : Pass
     pub new : Pass
+    pub own : IsPassOf identity old
     pub answered : page.AreAnswered (ShowsOne facts identity) old new calls
 
 -- What was promised of sessions and pages is kept if the engine of this identity answers, with passes of workers or with borrowed ones.
 pub record Promises {D : Type 0} (facts : D → Facts) (identity : Identity) (kept : List Call → Type 0) (shown : List page.Call → Type 0) : Type 0 where
   pub workers : (calls : List Call) → ByWorker identity calls → kept calls
   pub borrowers : (calls : List Call) → ByBorrower identity calls → kept calls
-  pub pages : (old new : Pass) (calls : List page.Call) → page.AreAnswered (ShowsOne facts identity) old new calls → shown calls
+  pub pages : (old new : Pass) (calls : List page.Call) → IsPassOf identity old → page.AreAnswered (ShowsOne facts identity) old new calls → shown calls
 
 -- The same of each engine that begins with the files which a start opened.
 abbrev pub PromisesOfStart : {D : Type 0} → (D → Facts) → (DeviceCall → Bool → D → D → Type 0) → (List ℕ → D → Type 0) → (List ℕ → FileFault → Type 0) → (List Call → Type 0) → (List page.Call → Type 0) → Type 0

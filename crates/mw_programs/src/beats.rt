@@ -20,6 +20,9 @@ use std::time::{Clock, Duration, Instant};
 /// How many milliseconds it waits from one beat to the next, for each second that a beat is good.
 const PAUSE: u64 = 125;
 
+/// So many nanoseconds are a millisecond.
+const NANOS_OF_MILLI: u64 = 1_000_000;
+
 /// A lease that a server has taken.
 #[derive(Drop)]
 pub(crate) struct HeldLease<'a> {
@@ -109,10 +112,11 @@ impl<'a> HeldLease<'a> {
         if self.was_good.swap(is_good, Ordering::SeqCst) == is_good {
             return;
         }
+        let age = self.meters.lease_age(rt).unwrap_or(0) / NANOS_OF_MILLI;
         if is_good {
-            warn!(notes; "mwserve: the lease is good again");
+            warn!(notes; "mwserve: the lease is good again, {age} ms after the start of its last beat");
         } else {
-            error!(notes; "mwserve: the lease is lost");
+            error!(notes; "mwserve: the lease is lost, {age} ms after the start of its last beat");
         }
         note_place(notes, self.terms.path.as_str());
     }

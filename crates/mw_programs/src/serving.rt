@@ -125,7 +125,7 @@ where
 {
     let args = match read_args(rt.alloc(), args) {
         Ok(args) => args,
-        Err(fault) => return refuse::<Q, _, _>(&fault, console, err),
+        Err(fault) => return refuse::<Q, _, _>(&fault, front_of(args), console, err),
     };
     let form = NoteForm {
         verbose: args.verbose,
@@ -141,24 +141,34 @@ where
     status
 }
 
-/// Writes why a command line isn't served, or what it asks to be told. Gives the exit status.
+/// Gives what stands before the text on a wrong command line: the level of an error, if it asks for levels.
+fn front_of(args: &[String]) -> &'static str {
+    if args.iter().any(|word| word.as_str() == "--journal") {
+        "<3>"
+    } else {
+        ""
+    }
+}
+
+/// Writes why a command line isn't served, with this before it, or what it asks to be told. Gives the exit status.
 fn refuse<Q: Promise, C: Console<Q>, E: Write>(
     fault: &ArgFault,
+    front: &str,
     console: &mut C,
     err: &mut E,
 ) -> u8 {
     match fault {
         ArgFault::Refused(text) if !text.use_stderr() => u8::from(console.help(fault).is_err()),
         ArgFault::Refused(_) => {
-            let _ = write!(err, "{fault}");
+            let _ = write!(err, "{front}{fault}");
             2
         }
         ArgFault::Mode(_) => {
-            let _ = writeln!(err, "{fault}");
+            let _ = writeln!(err, "{front}{fault}");
             2
         }
         ArgFault::Memory => {
-            let _ = writeln!(err, "{fault}");
+            let _ = writeln!(err, "{front}{fault}");
             1
         }
     }

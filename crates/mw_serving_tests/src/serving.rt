@@ -1,7 +1,8 @@
 //! Servers for tests, over the words of one tenant, and the clients of a scene beside them.
 //!
 //! Used by: `crowd_tests`, `desk_tests`, `socket_tests`.
-ghost use Rattle.std.specs.Prelude.{◌<◌};
+ghost use Rattle.std.specs.Prelude.{◌<◌, List};
+ghost use Rattle.mw_session.specs.Talk.{Call};
 
 use crate::doors::{Door, Tally};
 use crate::scenes::{Site, Step, play};
@@ -28,14 +29,15 @@ pub struct Shop {
     pub wait: Option<u32>,
 }
 
-/// Serves these connections, and gives the listener back.
+/// Serves these connections, and gives the listener back. Its clients were promised nothing.
 pub fn serve<L: Listener + Drop, R: Threads + Wait + Clock + Sync>(
     rt: &R,
     alloc: Global,
     listener: L,
     shop: Shop,
 ) -> Result<(ServeEnd, L), AllocError>
-    requires { 0 < shop.workers }
+    requires some { 0 < shop.workers }
+    requires anything { (calls : List Call) → L.Connection.promised calls }
 {
     let shelf = Mutex::new(Shelf::new(shop.words));
     let mut services = Vec::new(alloc);

@@ -97,18 +97,18 @@ static OPTIONS: [Opt; 9] = [
     ),
     (
         "clients",
-        Follows::Number("N", 1, MAX_CLIENTS),
-        "how many clients there are, 1 to 64",
+        Follows::Number("1..64", 1, MAX_CLIENTS),
+        "how many clients there are",
     ),
     (
         "words",
-        Follows::Number("K", 1, MAX_ENTRIES as u64),
-        "how many words each change has, 1 to 16",
+        Follows::Number("1..16", 1, MAX_ENTRIES as u64),
+        "how many words each change has",
     ),
     (
         "seconds",
-        Follows::Number("S", 1, MAX_SECONDS),
-        "for how many seconds they work, 1 to 60000",
+        Follows::Number("1..60000", 1, MAX_SECONDS),
+        "for how many seconds they work",
     ),
     (
         "shared",
@@ -117,13 +117,13 @@ static OPTIONS: [Opt; 9] = [
     ),
     (
         "reads",
-        Follows::Default("PERCENT", 0, 100, "0"),
-        "how many of a hundred requests are reads, 0 to 100",
+        Follows::Default("0..100", 0, 100, "0"),
+        "how many of a hundred requests are reads",
     ),
     (
         "pipeline",
-        Follows::Default("D", 1, MAX_PIPELINE as u64, "1"),
-        "how many lines a client sends before it reads their replies, 1 to 64",
+        Follows::Default("1..64", 1, MAX_PIPELINE as u64, "1"),
+        "how many lines a client sends before it reads their replies",
     ),
     (
         "json",

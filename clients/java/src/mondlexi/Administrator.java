@@ -1,3 +1,4 @@
+// Used by: programs. A further call is one of each client, has a case in play/Play.java, and cases in clients/cases.
 package mondlexi;
 
 import java.time.Duration;

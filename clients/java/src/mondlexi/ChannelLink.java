@@ -1,3 +1,4 @@
+// Used by: Link. SocketLink is the same for TCP: change both.
 package mondlexi;
 
 import java.io.IOException;

@@ -1,3 +1,5 @@
+// Used by: programs, Counted, Protocol. A further call is one of each client, has a case in play/Play.java, and cases in clients/cases.
+// VERSION is that of the programs (crates/mw_main/src/lib.rt), the limits are those of docs/PROTOCOL.md.
 package mondlexi;
 
 import java.time.Duration;

@@ -1,3 +1,4 @@
+// Used by: programs. What it tells is the same in each client: change them together, with a case in clients/cases/counted.txt.
 package mondlexi;
 
 import java.time.Duration;

@@ -1,3 +1,4 @@
+// Used by: programs, Client, Counted, Protocol. It keeps the limits of docs/PROTOCOL.md, as Protocol looks.
 package mondlexi;
 
 /**

@@ -1,3 +1,5 @@
+// Used by: Session; ChannelLink and SocketLink, which are its two kinds. Limits of time are the same in each client: change them together, with
+// a case in clients/cases.
 package mondlexi;
 
 import java.io.EOFException;

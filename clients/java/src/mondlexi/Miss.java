@@ -1,3 +1,4 @@
+// Used by: programs, Counted, Outcome.
 package mondlexi;
 
 /**

@@ -1,3 +1,6 @@
+// What goes wrong. Used by: programs, Administrator, Client, Counted, Protocol, Session. The names of its kinds in small letters are those of
+// clients/cases/README.md: play/Play.java tells a failure by the simple name of its class. So a further kind, or another name, is one of that
+// page and of each client.
 package mondlexi;
 
 import java.io.IOException;

@@ -1,3 +1,5 @@
+// Used by: programs, Administrator, Client, Counted, Link, Session, SocketLink. The defaults and limits are those of each client. A further
+// option of clients/cases/README.md is read by play/Play.java.
 package mondlexi;
 
 import java.time.Duration;

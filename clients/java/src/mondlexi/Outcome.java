@@ -1,3 +1,4 @@
+// Used by: programs, Client, Counted, Protocol.
 package mondlexi;
 
 import java.util.Optional;

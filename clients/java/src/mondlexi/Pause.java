@@ -1,3 +1,4 @@
+// Used by: ChannelLink, Client, Counted, Link, Session, SocketLink. The pauses are the same in each client: change them together.
 package mondlexi;
 
 import java.net.SocketTimeoutException;

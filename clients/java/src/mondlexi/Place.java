@@ -1,3 +1,4 @@
+// Used by: Link, Session, SocketLink. Each client takes the same places, which clients/cases/connect.txt tries.
 package mondlexi;
 
 import java.nio.charset.StandardCharsets;

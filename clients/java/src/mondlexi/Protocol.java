@@ -1,3 +1,5 @@
+// Used by: Administrator, Client, Counted, Link, Session. A command or limit that docs/PROTOCOL.md gains is added here, in the file of this name
+// of each other client, and has cases in clients/cases.
 package mondlexi;
 
 import java.util.ArrayList;

@@ -1,3 +1,4 @@
+// Used by: Link, Protocol, Session. Protocol makes one for each command.
 package mondlexi;
 
 import java.util.List;

@@ -1,3 +1,4 @@
+// Used by: programs, Administrator, Protocol. It has what REPORT tells (docs/PROTOCOL.md): a further figure is one of each client.
 package mondlexi;
 
 import java.util.List;

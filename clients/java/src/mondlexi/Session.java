@@ -1,3 +1,4 @@
+// Used by: Administrator, Client. When it asks again is the same in each client: change them together, with a case in clients/cases.
 package mondlexi;
 
 import java.io.IOException;

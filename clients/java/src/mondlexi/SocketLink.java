@@ -1,3 +1,4 @@
+// Used by: Link. ChannelLink is the same for a local socket: change both.
 package mondlexi;
 
 import java.io.IOException;

@@ -1,3 +1,4 @@
+// Used by: programs, Protocol, Report. It has what a line of REPORT tells (docs/PROTOCOL.md): a further figure is one of each client.
 package mondlexi;
 
 /**

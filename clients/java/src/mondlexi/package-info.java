@@ -1,3 +1,4 @@
+// The first page of the documents that javadoc makes. Used by: programs.
 /**
  * A client of Mondlexi, a server of durable words, with Java's own classes alone.
  *

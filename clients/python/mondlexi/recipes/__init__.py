@@ -27,6 +27,7 @@ Each recipe has words of its own from `at` on, and nothing else may write these.
 docs/RECIPES.md has the layout of their words, and what must be true of these. A recipe of a client isn't for several threads at a
 time, though these may share the client.
 """
+# Used by: programs. A recipe that is added here is added to `aio`; `_base` says to what else.
 from typing import Iterable
 
 from .. import _protocol

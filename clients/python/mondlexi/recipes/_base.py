@@ -3,7 +3,8 @@
 A recipe is a class of coroutines over a client's session. `mondlexi.recipes.aio` gives these classes to users. Beside each is one
 whose calls block: over a client of `mondlexi` a coroutine never waits for an event loop, so that `run` takes it to its end.
 
-Used by: the other files of this folder.
+Used by: the other files of this folder. A recipe that is added is in the lists of `mondlexi.recipes` and of its `aio`, in docs/RECIPES.md, and
+in scripts/program_parts/recipes.py and scripts/check-recipes.
 """
 import functools
 import operator

@@ -8,6 +8,7 @@
 
 A constructor asks nobody, so it may come before the client is connected. A call that is cancelled leaves its change undecided.
 """
+# Used by: programs. A recipe that is added here is added to `mondlexi.recipes`; `_base` says to what else.
 from typing import Iterable
 
 from .. import _protocol

@@ -1,4 +1,7 @@
-"""A number that many processes add to, each addition once. It is one word."""
+"""A number that many processes add to, each addition once. It is one word.
+
+Used by: `mondlexi.recipes` and its `aio`. docs/RECIPES.md has this word: change both. scripts/recipe_parts/queues.py checks runs of it.
+"""
 from .._client import Client
 from .._protocol import MAX_VALUE
 from ._base import WAIT, AnyClient, AnyCounted, Blocking, Recipe, blocking

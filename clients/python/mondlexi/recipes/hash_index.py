@@ -3,6 +3,8 @@
 A slot has three words: its version (47 bits) and whether it is used (1 bit), its key, its value. Each change of a slot moves its
 version, so no state of a slot comes back. A key is in one slot of its two buckets at most: who inserts it compares the versions of
 all eight. A new tenant, all of 0, is an empty index.
+
+Used by: `mondlexi.recipes` and its `aio`. docs/RECIPES.md has these words: change both. scripts/recipe_parts/keys.py checks runs of it.
 """
 import random
 from typing import List, NamedTuple, Optional, Tuple

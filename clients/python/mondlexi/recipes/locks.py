@@ -7,6 +7,9 @@ No state of the two words comes back: the token never goes down, and under one t
 given back once. So a change whose reply was lost is sent again until there is one: it is made once at most.
 
 No clocks have to agree. A waiter takes a lock over once it has itself seen the same two words for the whole lease.
+
+Used by: `mondlexi.recipes` and its `aio`. docs/RECIPES.md has these words, and clients/c/lock_table.c uses them: change all three.
+scripts/recipe_parts/leases.py checks runs of it.
 """
 import random
 import time

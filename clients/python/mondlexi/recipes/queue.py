@@ -2,6 +2,8 @@
 
 Word 0 is how many values were ever taken, word 1 how many were ever put; value n, from 0 on, is in word 2 + n mod room. The two
 numbers only grow. A change that puts moves word 1, one that takes moves word 0: while these stay, so do the values between them.
+
+Used by: `mondlexi.recipes` and its `aio`. docs/RECIPES.md has these words: change both. scripts/recipe_parts/queues.py checks runs of it.
 """
 import random
 import time

@@ -5,6 +5,8 @@ bits) and the lease in units of 10 ms (16 bits); and the count. The first only g
 
 Who takes a place moves its count by 2^20, so that nothing is made any more of what its holder before has under way: if that one
 goes on after its lease, its changes are refused, and its `Counted` raises RuntimeError.
+
+Used by: `mondlexi.recipes` and its `aio`. docs/RECIPES.md has these words: change both. scripts/recipe_parts/leases.py checks runs of it.
 """
 import random
 import secrets

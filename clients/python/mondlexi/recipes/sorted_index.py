@@ -6,6 +6,8 @@ level. A new tenant, all of 0, is an empty index.
 
 Each change of a node moves its version, so no state of a node comes back. Whoever finds the versions of nodes as they were when it
 read these nodes knows that all were so at one moment: that is how the index is read without the disk.
+
+Used by: `mondlexi.recipes` and its `aio`. docs/RECIPES.md has these words: change both. scripts/recipe_parts/keys.py checks runs of it.
 """
 import random
 from typing import Dict, Iterable, List, NamedTuple, Optional, Set, Tuple

@@ -3,6 +3,8 @@
 A value has 15 words: its version (40 bits) and how many bytes it has (8 bits), then fourteen words of six bytes each, the first
 byte highest. The version goes up by one with each change. So whoever reads the first word before and after the others has read
 one value, without the disk.
+
+Used by: `mondlexi.recipes` and its `aio`. docs/RECIPES.md has these words: change both. scripts/recipe_parts/queues.py checks runs of it.
 """
 from typing import List, NamedTuple
 
