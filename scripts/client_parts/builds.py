@@ -1,7 +1,7 @@
 """The clients, how each is built, and the programs that scripts/check-clients asks.
 
-Used by: scripts/check-clients; scripts/check-programs, which tells that PROVED is not built. A further client has a row in CLIENTS here,
-a line in SCRIPTS of scripts/check-programs, and a word in SOURCES of package_parts/clients.py.
+Used by: scripts/check-clients; scripts/check-programs, which runs it for each of CLIENTS, and tells which parts it leaves out. A further
+client has a row in CLIENTS, and a word in SOURCES of package_parts/clients.py.
 """
 import json
 import re

@@ -1,6 +1,6 @@
 """The programs of the clients' READMEs. Each adds one to word 0 of the tenant t, by a count in word 1.
 
-Used by: scripts/check-clients, which runs them at mwserve; builds.py builds them.
+Used by: scripts/check-clients, which runs them at mwserve; builds.py, which builds them.
 """
 import subprocess
 from pathlib import Path
