@@ -63,6 +63,9 @@ class Trials:
         """The words at the end of the trial before."""
         self.unsynced = 0
         """How many writes were not synced when the power went."""
+        self.recorders: List[Recorder] = []
+        self.recorded: Optional[Load] = None
+        """What was recorded when the power went last, and what the clients were told meanwhile."""
 
     def others(self, host: Host) -> List[Host]:
         return [it for it in self.network.hosts if it is not host]
@@ -130,6 +133,14 @@ class Trials:
         self.healed()
         file = counted(self.keepers.serving()) / FILE
         gluster.until(lambda: len(set(gluster.replicas(self.network, str(file)).values())) == 1, "the replicas have the same bytes", PATIENCE)
+
+    def anew(self) -> None:
+        """A server that is started now writes to all replicas; one that runs, not to one that was away."""
+        self.healed()
+        before = len(self.keepers.starts())
+        self.keepers.serving().signal(signal.SIGKILL, "mondlexi-ha")
+        gluster.until(lambda: len(self.keepers.starts()) > before, "a server starts anew")
+        self.keepers.serving()
 
     # What is done.
 
@@ -212,10 +223,10 @@ class Trials:
     def power(self, load: Load, host: Host) -> None:
         """The serving host and another lose their power at once, and come back."""
         off = [host, self.dice.choice(self.others(host))]
-        recorders = [self.record(it) for it in off]
+        self.recorders, self.recorded = [self.record(it) for it in off], load
         time.sleep(self.dice.uniform(*BEFORE))
-        self.lose(off)
-        self.unsynced += sum(it.leave(self.dice) for it in recorders)
+        self.lose(off, self.recorders)
+        self.unsynced += sum(it.leave(self.dice) for it in self.recorders)
         self.back(*off)
 
     def old_power(self, load: Load, host: Host) -> None:
@@ -223,7 +234,7 @@ class Trials:
         other, third = self.others(host)
         recorders = [self.record(it) for it in (host, other)]
         time.sleep(self.dice.uniform(*BEFORE))
-        self.lose([third, host, other])
+        self.lose([third, host, other], recorders)
         for it in recorders:
             it.leave_old()
         self.back(host, other)
@@ -231,13 +242,15 @@ class Trials:
     def record(self, host: Host) -> Recorder:
         return Recorder(host, self.devices[host.number].folder)
 
-    def lose(self, off: Sequence[Host]) -> None:
-        """These hosts lose their power."""
-        for it in off:
-            it.unplug()
-            it.off()
-        for it in off:
-            self.devices[it.number].lose()
+    def lose(self, off: Sequence[Host], recorders: Sequence[Recorder]) -> None:
+        """These hosts lose their power, and records end."""
+        for host in off:
+            host.unplug()
+            host.off()
+        for host in off:
+            self.devices[host.number].lose()
+        for it in recorders:
+            it.end()
 
     def killed(self, load: Load, host: Host) -> None:
         """What keeps the server is killed, as by a mistake."""
@@ -274,11 +287,11 @@ def main_trials(trials: Trials, deaths: int, is_short: bool) -> Iterator[Seen]:
     trials.equal()
 
 
-def power_trials(trials: Trials, number: int) -> Iterator[Seen]:
-    """Two of three hosts lose their power at once, so often."""
-    for turn in range(number):
-        yield trials.run(f"the serving host and another lose their power ({turn + 1} of {number})", trials.power)
-        trials.equal()
+def power_trial(trials: Trials, what: str) -> Seen:
+    """Two of three hosts lose their power at once."""
+    seen = trials.run(f"the serving host and another lose their power ({what})", trials.power)
+    trials.equal()
+    return seen
 
 
 def lying(trials: Trials) -> List[str]:
