@@ -16,7 +16,8 @@ from soak_parts.recording import AT_THE_END, Disk, Write, image, plain_images, p
 from .hosts import Host, Wrong, run
 
 PROGRAM = "glusterfsd"
-BRICK = "/brick"
+BRICK = "/brick/"
+"""Where a host has its replica's device."""
 CALLS = "pwrite64,pwritev,pwritev2,fsync,fdatasync"
 SYNCS = ("fsync", "fdatasync")
 LONGEST = 1 << 22
@@ -107,8 +108,9 @@ class Recorder:
     def __init__(self, host: Host, brick: Path):
         self.host, self.brick, self.log = host, brick, host.disk / "record"
         numbers = [str(number) for number, line in host.processes().items() if PROGRAM in line.split()[0]]
-        words = ["strace", "-f", "-y", "-xx", "--absolute-timestamps=format:unix,precision:ns", "-s", str(LONGEST), "-e", f"trace={CALLS}", "-e", "signal=none", "-o", str(self.log)]
-        self.process = subprocess.Popen([*words, *(word for number in numbers for word in ("-p", number))], stdin=subprocess.DEVNULL, stderr=subprocess.PIPE)
+        words = ["strace", "-f", "-y", "-xx", "--absolute-timestamps=format:unix,precision:ns", "-s", str(LONGEST), "-e", f"trace={CALLS}",
+                 "-e", "signal=none", "-o", str(self.log), *(word for number in numbers for word in ("-p", number))]
+        self.process = subprocess.Popen(words, stdin=subprocess.DEVNULL, stderr=subprocess.PIPE)
         assert self.process.stderr
         for _ in numbers:
             if b"attached" not in self.process.stderr.readline():
@@ -125,9 +127,9 @@ class Recorder:
         self.process.wait()
         calls: Dict[int, FileCalls] = {}
         for path, file in read_record(self.log.read_text().splitlines()).items():
-            out_here = self.brick / Path(path).relative_to(BRICK)
+            out_here = self.brick / path[len(BRICK):]
             # (A file has several names. One that was made since may be lost wholly.)
-            if out_here.exists():
+            if path.startswith(BRICK) and out_here.exists():
                 merged = calls.setdefault(out_here.stat().st_ino, FileCalls())
                 merged.writes += file.writes
                 merged.syncs += file.syncs
