@@ -137,10 +137,9 @@ class Trials:
     def anew(self) -> None:
         """A server that is started now writes to all replicas; one that runs, not to one that was away."""
         self.healed()
-        before = len(self.keepers.starts())
+        before = len(self.keepers.notes)
         self.keepers.serving().signal(signal.SIGKILL, "mondlexi-ha")
-        gluster.until(lambda: len(self.keepers.starts()) > before, "a server starts anew")
-        self.keepers.serving()
+        gluster.until(lambda: any(it.line.startswith("ready ") for it in self.keepers.notes[before:]), "a server starts anew")
 
     # What is done.
 
