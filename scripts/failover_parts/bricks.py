@@ -1,7 +1,7 @@
 """What the program of a replica writes to its files and syncs, recorded by strace, and what a loss of power may leave of them: each range that
 was written since the file's last sync that went well is kept, lost or torn, as scripts/soak has it.
 
-Used by: trials.py, cuts.py, beside it.
+Used by: cuts.py, trials.py. It reads what strace prints.
 """
 import random
 import re

@@ -1,6 +1,6 @@
 """The Python client, which finds the serving host by one name that has the addresses of all: a session as those of load.py.
 
-Used by: load.py, beside it; scripts/check-failover.
+Used by: scripts/check-failover, load.py.
 """
 import contextlib
 import socket

@@ -1,6 +1,6 @@
 """What contrib/ha does without a volume: the times by the rule, the start of the unit that is refused, and locks that are waited for with a limit.
 
-Used by: scripts/check-programs; scripts/check-failover, which tries the rest on a volume.
+Used by: scripts/check-programs, scripts/check-failover. TIMES is by the rule of docs/MANY-MACHINES.md: change both, and mondlexi-volume.
 """
 import contextlib
 import fcntl
