@@ -1,6 +1,6 @@
 """The server of a case: it listens, takes the lines that the table tells, and says what the table tells.
 
-Used by: scripts/check-clients, cases.py, examples.py, twelve.py. A further step of the server is a function here, a word in table.py, and a
+Used by: scripts/check-clients, cases.py, examples.py, readme.py, twelve.py. A further step of the server is a function here, a word in table.py, and a
 row of clients/cases/README.md.
 """
 import os

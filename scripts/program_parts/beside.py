@@ -27,6 +27,7 @@ from bench_parts.stores import NAME  # noqa: E402
 
 VERSION = TOP / "crates/mw_main/src/lib.rt"
 SERVER_UNITS = [TOP / "contrib" / name for name in ("mondlexi.service", "mondlexi-local.service")]
+KEEPER_UNIT = TOP / "contrib/ha/mondlexi-ha@.service"
 MOST_EXPOSED = 2
 SECOND = re.compile(r"second \d+: \d+ changes, \d+ reads, \d+ refusals")
 KIND = re.compile(r"([A-Z]+) (\d+): mean (\d+) us, p50 (\d+) us, p90 (\d+) us, p95 (\d+) us, p99 (\d+) us, p99\.9 (\d+) us, slowest (\d+) us")
@@ -116,9 +117,9 @@ def check_load(server):
 def check_units(folder):
     """systemd-analyze wants the programs to be where the units say, so it is given copies with the paths of those that are here. The
     server's units are as little exposed as they say."""
-    units = sorted(path for path in (TOP / "contrib").iterdir() if path.suffix in (".service", ".socket", ".timer"))
+    units = sorted(path for path in (*(TOP / "contrib").iterdir(), KEEPER_UNIT) if path.suffix in (".service", ".socket", ".timer"))
     for path in units:
-        (folder / path.name).write_text(path.read_text().replace("/usr/local/bin/mwserve ", f"{MWSERVE} ").replace("/usr/local/bin/", f"{TOP}/contrib/"))
+        (folder / path.name).write_text(path.read_text().replace("/usr/local/bin/mwserve ", f"{MWSERVE} ").replace("/usr/local/bin/", f"{path.parent}/"))
     for path in units:
         looked = subprocess.run(["systemd-analyze", "verify", folder / path.name], stdout=subprocess.PIPE, stderr=subprocess.STDOUT)
         told_of = [line for line in looked.stdout.decode().splitlines() if "mondlexi" in line]
@@ -129,6 +130,8 @@ def check_units(folder):
         if exposed is not None:
             same((exposed <= MOST_EXPOSED, f"{exposed} of 10" in unit), (True, True), f"the exposure of contrib/{path.name}, {exposed}")
         print(f"contrib/{path.name}: systemd-analyze finds nothing; its exposure is {exposed}")
+    exposed = exposure(KEEPER_UNIT)
+    same(exposed is None or exposed <= MOST_EXPOSED, True, f"the exposure of {KEEPER_UNIT.name}, {exposed}")
 
 
 def exposure(unit):
@@ -170,8 +173,8 @@ def try_system_calls(folder):
         same(server.wait(), 0, f"the status of a server at {at}")
         server.stdout.close()
         found |= set(re.findall(r"^[0-9]+ +([a-z0-9_]+)\(", (room / "log").read_text(), re.MULTILINE))
-    for path in SERVER_UNITS:
-        same((found - allowed_by(path.read_text()) - {"execve"}, "fdatasync" in found), (set(), True), f"system calls that contrib/{path.name} doesn't allow")
+    for path in (*SERVER_UNITS, KEEPER_UNIT):
+        same((found - allowed_by(path.read_text()) - {"execve"}, "fdatasync" in found), (set(), True), f"system calls that {path.name} doesn't allow")
     print(f"the units allow each of the {len(found)} system calls that a server makes")
 
 
