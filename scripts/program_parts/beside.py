@@ -1,5 +1,5 @@
 """What scripts/check-programs tries beside the clients: mwbench; the units of contrib, how exposed they are, and that they allow the system calls
-which a server makes; that a log goes on after logrotate; contrib's check for cron; the version that each program tells; and
+which a server makes; that a log goes on after logrotate; contrib's check for cron; the version that each program tells, and its help; and
 scripts/bench-server with its chart.
 
 Used by: scripts/check-programs. The loads take two seconds each; how much is served in them is not looked at. It reads the lines of mwbench
@@ -17,6 +17,7 @@ from itertools import takewhile
 from xml.etree import ElementTree
 
 from .common import BUILT, MWBENCH, MWINIT, MWSERVE, PROGRAMS, TOP, Peer, at, is_built, same
+from .served import Served, make_tenants
 
 import mondlexi  # noqa: E402
 
@@ -34,6 +35,12 @@ KIND = re.compile(r"([A-Z]+) (\d+): mean (\d+) us, p50 (\d+) us, p90 (\d+) us, p
 KINDS = ["YES", "NO", "BUSY", "VAL"]
 FIGURES = ["changes a second", "reads a second", "refusals", "p50", "p90", "p99", "p99.9", "slowest"]
 TIMES = ["mean_us", "p50_us", "p90_us", "p95_us", "p99_us", "p99_9_us", "slowest_us"]
+DOCUMENTS = "\nDocuments: docs/OPERATING.md beside README.md, or below /usr/share/doc/mondlexi\n"
+HELP = {"mwinit": ("how many words it has, 1 to 4096\n", "\nExample: mwinit t.mw 1000 4\n", DOCUMENTS),
+        "mwserve": ("--clients <1..4096>", "--mode <0..777>", "\nEach line of the tenants file: name words quota path\n",
+                    "\nExample: mwinit t.mw 1000 4 && echo 't 1000 4 t.mw' > tenants && mwserve --tenants tenants --listen 127.0.0.1:7000\n", DOCUMENTS),
+        "mwbench": ("--clients <1..64>", "--reads <0..100>")}
+"""What the help of a program has: ranges, an example, the form of a tenants line, and where the documents are."""
 MOST_BUSY = 2100
 """How often a line of a client may be told BUSY in two seconds: it waits for a millisecond at least after each."""
 WRONG_SUMS = "mwbench: the words are not the sums of the replies YES\n"
@@ -112,6 +119,24 @@ def check_load(server):
         same(end_load(begin_load(*at, *wrong_words))[0], wanted, f"status of mwbench {wrong_words}")
     try_wrong_sums(server, at)
     print("mwbench: words are the sums of the replies, or it says that they aren't, and each status is as it should be")
+
+
+def try_quota(folder):
+    """Eight clients change one word. A quota a quarter above them keeps BUSY away, as docs/OPERATING says; one of half as many doesn't."""
+    room = folder / "quota"
+    room.mkdir()
+    make_tenants(MWINIT, room, {"t": 1}, 10)
+    for quota, is_busy in ((10, False), (4, True)):
+        (room / "tenants").write_text(f"t 1 {quota} t.mw\n")
+        server = Served(MWSERVE, room, ("--workers", "8"), True)
+        try:
+            status, lines, errors = end_load(begin_load("--connect", server.at, "--tenant", "t", "--words", "1", "--clients", "8", "--shared",
+                                                        "--pipeline", "16", "--seconds", "2", "--json"))
+        finally:
+            server.kill()
+        same((status, errors), (0, ""), f"mwbench at a quota of {quota}")
+        same(json.loads(lines[0])["busy"]["count"] > 0, is_busy, f"whether BUSY came at a quota of {quota}: {lines}")
+    print("quota: a quarter above the clients that change at once keeps BUSY away")
 
 
 def check_units(folder):
@@ -215,6 +240,15 @@ def try_versions():
         ran = subprocess.run([BUILT[program], "--version"], stdin=subprocess.DEVNULL, capture_output=True)
         same((ran.returncode, ran.stdout, ran.stderr), (0, f"{program} {version}\n".encode(), b""), f"{program} --version")
     print("versions: each program tells the same, and so does the client")
+
+
+def try_help():
+    """The help of a program has what a new user needs."""
+    for program in filter(is_built, HELP):
+        ran = subprocess.run([BUILT[program], "--help"], stdin=subprocess.DEVNULL, capture_output=True, text=True)
+        missing = [it for it in HELP[program] if it not in ran.stdout]
+        same((ran.returncode, ran.stderr, missing), (0, "", []), f"{program} --help")
+    print("help: ranges, an example, the form of a tenants line, and where the documents are")
 
 
 def try_chart(folder):
