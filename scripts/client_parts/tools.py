@@ -1,6 +1,6 @@
 """The parts of a client's check that need more than its compiler.
 
-Used by: builds.py.
+Used by: builds.py. What it leaves out, scripts/check-clients and scripts/check-programs tell.
 """
 import shutil
 from pathlib import Path

@@ -9,6 +9,7 @@ from .gluster import until
 from .hosts import PATIENCE, Host, Network
 
 MOUNTED = "/srv/mw"
+LOCAL = "/srv/local"
 FOLDERS = ("/etc/ceph", "/var/lib/ceph", "/var/log/ceph", "/srv")
 NEEDS = ("ceph", "ceph-mon", "ceph-osd", "ceph-mds", "ceph-mgr", "ceph-fuse", "monmaptool")
 SESSION = 30

@@ -11,6 +11,8 @@ from .hosts import PATIENCE, Host, Network, Wrong, run
 TOP = Path(__file__).resolve().parent.parent.parent
 VOLUME = "mw"
 MOUNTED = "/srv/mw"
+LOCAL = "/brick/local"
+"""A folder on a host's own disk."""
 FOLDERS = ("/var/lib/glusterd", "/var/log/glusterfs", "/etc/glusterfs", "/brick", "/srv")
 """What of a host stays when it dies."""
 NEEDS = ("glusterd", "gluster", "mount.glusterfs")
@@ -58,12 +60,14 @@ def make(network: Network, others: Sequence[str] = ()) -> None:
         mount(host)
 
 
-def again(host: Host) -> None:
-    """A host that died comes back, with its disk."""
-    host.plug()
-    host.on()
-    begin(host)
-    mount(host)
+def again(*hosts: Host) -> None:
+    """Hosts that died come back, with their disks."""
+    for host in hosts:
+        host.plug()
+        host.on()
+        begin(host)
+    for host in hosts:
+        mount(host)
 
 
 def healed(network: Network, seconds: float) -> None:

@@ -1,10 +1,11 @@
-"""A program that has one file open, on a host, and does with it what it is told, a line at a time: `lock`, `write`, `read`. It answers a line for each:
-`ok` or `no`, the seconds that it took, and what was read or the error's name.
+"""A program that has one file open, on a host, and does with it what it is told, a line at a time: `lock`, `write`, `read`, `loop`. It answers a line
+for each: `ok` or `no`, the seconds that it took, and what was read or the error's name; but none for `loop`, with which it writes until it is killed.
 
 Used by: scripts/check-volume.
 """
 import errno
 import fcntl
+import itertools
 import os
 import subprocess
 import sys
@@ -29,10 +30,14 @@ class Holder:
     def __init__(self, words: "list[str]", path: str):
         self.process = subprocess.Popen([*words, sys.executable, str(Path(__file__).resolve()), path], stdin=subprocess.PIPE, stdout=subprocess.PIPE, text=True)
 
-    def ask(self, line: str) -> Answer:
-        assert self.process.stdin and self.process.stdout
+    def tell(self, line: str) -> None:
+        assert self.process.stdin
         self.process.stdin.write(line + "\n")
         self.process.stdin.flush()
+
+    def ask(self, line: str) -> Answer:
+        self.tell(line)
+        assert self.process.stdout
         words = self.process.stdout.readline().split(" ", 2)
         if len(words) < 3:
             return Answer(False, 0.0, "it has ended")
@@ -47,9 +52,10 @@ def do(descriptor: int, word: str, number: int) -> str:
     """One command; what was read."""
     if word == "lock":
         fcntl.flock(descriptor, fcntl.LOCK_EX | fcntl.LOCK_NB)
-    elif word == "write":
-        os.pwrite(descriptor, f"{number}".encode().ljust(SIZE), 0)
-        os.fdatasync(descriptor)
+    elif word in ("write", "loop"):
+        for each in itertools.count(number) if word == "loop" else [number]:
+            os.pwrite(descriptor, f"{each}".encode().ljust(SIZE), 0)
+            os.fdatasync(descriptor)
     return os.pread(descriptor, SIZE, 0).decode().strip() if word == "read" else "-"
 
 

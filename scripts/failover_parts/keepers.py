@@ -1,6 +1,6 @@
 """The server on each host, started again whenever it ends, as a service manager does: by contrib/ha/mondlexi-ha, or mwserve alone.
 
-Used by: scripts/check-failover, proxy.py, speed.py, trials.py. An option of mondlexi-ha that the pages name is tried here.
+Used by: scripts/check-failover, cuts.py, proxy.py, speed.py, trials.py. An option of mondlexi-ha that the pages name is tried here.
 """
 import re
 import signal

@@ -1,9 +1,10 @@
-"""Clients of several hosts, of which one serves at a time: what they ask, what they are told, and by whom. The checker of scripts/soak judges it:
+"""Clients of several hosts, of which one serves at a time: what they ask, what they are told, and by whom. One is the Python client, which finds
+the host that serves by a name for all. The checker of scripts/soak judges it:
 there must be a serial order of all requests, of all servers together, that agrees with real time.
 
 A client asks for one thing at a time. A request that isn't answered, or is answered FAULT, may be done at any later time.
 
-Used by: keepers.py, speed.py, trials.py. It notes requests in the form of soak_parts/history.py.
+Used by: cuts.py, keepers.py, speed.py, trials.py. It notes requests in the form of soak_parts/history.py.
 """
 import contextlib
 import itertools
@@ -11,12 +12,13 @@ import random
 import socket
 import threading
 import time
-from typing import Dict, Iterator, List, NamedTuple, Optional, Sequence, Tuple
+from typing import Dict, Iterator, List, NamedTuple, Optional, Sequence, Tuple, Union
 
 from soak_parts.checker import judge
 from soak_parts.history import NOTHING, UNDECIDED, Answer, Entry, Epoch, Request
 
 from .hosts import Wrong
+from .named import NAME, NamedSession
 
 WORDS = 8
 QUOTA = 16
@@ -84,7 +86,7 @@ class Load:
         self.is_over = False
         self.is_idle = False
         work = [(self.write, [self.places[it % len(self.places):] + self.places[:it % len(self.places)]]) for it in range(writers)]
-        work += [(self.write, [[proxy]])] if proxy else []
+        work += [(self.write, [[place]]) for place in (proxy, (NAME, self.places[0][1])) if place]
         work += [(self.read, [place]) for place in self.places]
         self.threads = [threading.Thread(target=call, args=(*arguments, random.Random(f"{self.seed} {number}")), daemon=True)
                         for number, (call, arguments) in enumerate(work)]
@@ -125,10 +127,10 @@ class Load:
                     self.ask(session, self.job(dice))
                 return
 
-    def session(self, place: Place) -> Session:
+    def session(self, place: Place) -> Union[Session, NamedSession]:
         number = next(self.sessions)
         self.at[number] = place
-        return Session(number, place)
+        return NamedSession(number, place[1], TENANT) if place[0] == NAME else Session(number, place)
 
     def job(self, dice: random.Random) -> Request:
         """Something to ask for."""
@@ -138,7 +140,7 @@ class Load:
                    for address in sorted(dice.sample(range(WORDS), dice.randint(1, MOST_ENTRIES)))]
         return Request(0, 0, 0, tuple(entries))
 
-    def ask(self, session: Session, request: Request) -> None:
+    def ask(self, session: Union[Session, NamedSession], request: Request) -> None:
         """Asks, and notes the reply. OSError if none comes."""
         request.session, request.sent = session.number, time.monotonic_ns()
         self.requests.append(request)

@@ -1,5 +1,5 @@
 """Each host's replica on a device of its own, so that a host can lose its power: it comes back with what the device held at that moment. What was
-in the file system's memory alone is lost.
+in the file system's memory alone is lost, but for the writes to files: of what was not synced each is kept, lost or torn (bricks.py).
 
 The devices are loop devices with ext4 in files. Used by: scripts/check-failover, trials.py.
 """
@@ -9,7 +9,7 @@ from typing import Dict
 
 from .hosts import Host, Network, run
 
-NEEDS = ("losetup", "mkfs.ext4")
+NEEDS = ("losetup", "mkfs.ext4", "strace")
 MEGABYTES = 128
 OPTIONS = "commit=300"
 """The file system writes by itself as late as it can."""
@@ -40,14 +40,10 @@ class Device:
         run("umount", self.folder, may_fail=True)
         run("losetup", "--detach", self.loop, may_fail=True)
 
-    def keep(self) -> None:
-        """Remembers what the device holds now."""
-        run("cp", "--sparse=always", self.image(), f"{self.host.disk}/kept")
-
-    def lose(self, older: bool) -> None:
-        """Of a host that was just killed: its device has what it holds at this moment; or, if so asked, what was remembered."""
+    def lose(self) -> None:
+        """Of a host that was just killed: its device has what it holds at this moment."""
         old, self.number = self.image(), self.number + 1
-        run("cp", "--sparse=always", f"{self.host.disk}/kept" if older else old, self.image())
+        run("cp", "--sparse=always", old, self.image())
         self.unmount()
         self.mount()
 

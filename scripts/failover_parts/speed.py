@@ -1,13 +1,13 @@
 """Changes a second of one server, on the volume and on the same host's own disk.
 
-Used by: scripts/check-failover.
+Used by: scripts/check-failover, scripts/check-volume.
 """
 import contextlib
 import signal
 import subprocess
 import threading
 import time
-from typing import Iterator, List
+from typing import Iterator
 
 from program_parts.common import MWSERVE
 
@@ -17,7 +17,6 @@ from .keepers import PORT, SERVER, new_tenant
 from .load import WORDS, Place, Session
 
 SECONDS = 3.0
-LOCAL = "/brick/local"
 
 
 @contextlib.contextmanager
@@ -57,13 +56,13 @@ def changes(place: Place, clients: int) -> float:
     return sum(counts) / SECONDS
 
 
-def lines(host: Host) -> List[str]:
-    """What was timed. The volume has a new tenant after it, with words."""
+def line(host: Host, local: str) -> str:
+    """What was timed, on the volume and in a folder of the host's own disk. The volume has a new tenant after it, with words."""
     new_tenant(host)
     volume = f"{gluster.MOUNTED}/{SERVER}/first"
-    host.run("sh", "-c", f"rm -rf {LOCAL} && cp -r {volume} {LOCAL}")
+    host.run("sh", "-c", f"rm -rf {local} && cp -r {volume} {local}")
     found = []
-    for what, folder in (("its own disk", LOCAL), ("the volume", volume)):
+    for what, folder in (("its own disk", local), ("the volume", volume)):
         with server_in(host, folder) as place:
             found.append(f"on {what} {changes(place, 1):.0f} with one client, {changes(place, WORDS):.0f} with {WORDS}")
-    return [f"changes a second: {'; '.join(found)}"]
+    return f"changes a second: {'; '.join(found)}"

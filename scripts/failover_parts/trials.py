@@ -10,6 +10,7 @@ import time
 from typing import Callable, Dict, Iterator, List, NamedTuple, Optional, Sequence
 
 from . import gluster
+from .bricks import Recorder
 from .hosts import Host, Network, Wrong
 from .keepers import BARE, FILE, PORT, Keepers, counted, new_tenant
 from .load import Load, words_at
@@ -31,14 +32,23 @@ FROZEN, STOPPED = "the serving host is frozen, and goes on", "the serving host's
 
 
 class Seen(NamedTuple):
-    """A trial: what was done; the longest time without a YES; how many YES and VAL there were; what was wrong with the replies to changes, and
-    with all of them."""
+    """A trial: what was done; the longest time without a YES; how many YES and VAL there were; what the words and the replies to changes tell that
+    is wrong, what all replies do, and what tells of two servers at once."""
     what: str
     gap: float
     yes: int
     val: int
-    of_changes: List[str]
-    complaints: List[str]
+    lost: List[str]
+    stale: List[str]
+    doubled: List[str]
+
+    @property
+    def of_changes(self) -> List[str]:
+        return self.lost + self.doubled
+
+    @property
+    def complaints(self) -> List[str]:
+        return self.stale + self.doubled
 
     def text(self) -> str:
         return f"{self.what}: {self.gap:.1f} s without a YES; {self.yes} YES, {self.val} VAL"
@@ -49,6 +59,13 @@ class Trials:
 
     def __init__(self, network: Network, keepers: Keepers, dice: random.Random, proxy: Optional[Proxy], devices: Optional[Dict[int, Device]] = None):
         self.network, self.keepers, self.dice, self.proxy, self.devices = network, keepers, dice, proxy, devices or {}
+        self.words: Sequence[int] = ()
+        """The words at the end of the trial before."""
+        self.unsynced = 0
+        """How many writes were not synced when the power went."""
+        self.recorders: List[Recorder] = []
+        self.recorded: Optional[Load] = None
+        """What was recorded when the power went last, and what the clients were told meanwhile."""
 
     def others(self, host: Host) -> List[Host]:
         return [it for it in self.network.hosts if it is not host]
@@ -58,7 +75,8 @@ class Trials:
         places = self.keepers.places()
         host = self.keepers.serving()
         load = Load(places, self.proxy.place if self.proxy else None, WRITERS, LOADED, self.dice)
-        load.begin(words_at(places, PATIENCE))
+        first = words_at(places, PATIENCE)
+        load.begin(first)
         try:
             time.sleep(self.dice.uniform(*BEFORE))
             begun = time.monotonic_ns()
@@ -68,11 +86,12 @@ class Trials:
         finally:
             load.end()
         ended = time.monotonic_ns()
-        words = words_at(places, PATIENCE)
-        both = self.two_servers(load)
-        of_changes, complaints = ([f"{what}: {it}" for it in load.complaints(words, only) + both] for only in (True, False))
+        between = [f"the words were {self.words} after the trial before, and are {first}"] if self.words and self.words != first else []
+        self.words = words_at(places, PATIENCE)
+        lost, stale = (between + load.complaints(self.words, only) for only in (True, False))
+        found = ([f"{what}: {it}" for it in complaints] for complaints in (lost, stale, self.two_servers(load)))
         counts = load.counts()
-        return Seen(what, load.gap(begun, ended), counts.get("YES", 0), counts.get("VAL", 0), of_changes, complaints)
+        return Seen(what, load.gap(begun, ended), counts.get("YES", 0), counts.get("VAL", 0), *found)
 
     def wait_for_yes(self, load: Load, since: int) -> None:
         """Until a change that was asked for now is answered YES."""
@@ -101,17 +120,26 @@ class Trials:
     def healed(self) -> None:
         gluster.healed(self.network, PATIENCE)
 
-    def back(self, host: Host) -> None:
-        """A host that died comes back, with its keeper."""
-        self.keepers.kept[host.number].end()
-        gluster.again(host)
-        self.keepers.begin(host)
+    def back(self, *hosts: Host) -> None:
+        """Hosts that died come back, with their keepers."""
+        for host in hosts:
+            self.keepers.kept[host.number].end()
+        gluster.again(*hosts)
+        for host in hosts:
+            self.keepers.begin(host)
 
     def equal(self) -> None:
         """Until all replicas of the tenant's file have the same bytes, while nobody writes."""
         self.healed()
         file = counted(self.keepers.serving()) / FILE
         gluster.until(lambda: len(set(gluster.replicas(self.network, str(file)).values())) == 1, "the replicas have the same bytes", PATIENCE)
+
+    def anew(self) -> None:
+        """A server that is started now writes to all replicas; one that runs, not to one that was away."""
+        self.healed()
+        before = len(self.keepers.notes)
+        self.keepers.serving().signal(signal.SIGKILL, "mondlexi-ha")
+        gluster.until(lambda: any(it.line.startswith("ready ") for it in self.keepers.notes[before:]), "a server starts anew")
 
     # What is done.
 
@@ -121,6 +149,11 @@ class Trials:
         time.sleep(0.05)
         host.off()
         self.until_taken(host)
+
+    def come_back(self, load: Load, host: Host) -> None:
+        """A host that died comes back, and its replica is made equal."""
+        self.back(next(it for it in self.network.hosts if not it.begun))
+        time.sleep(AWAY / 2)
 
     def other_dies(self, load: Load, host: Host) -> None:
         """A host dies that doesn't serve, and comes back."""
@@ -186,20 +219,37 @@ class Trials:
         host.signal(signal.SIGCONT)
         time.sleep(AWAY / 4)
 
-    def power(self, load: Load, host: Host, older: bool = False) -> None:
+    def power(self, load: Load, host: Host) -> None:
         """The serving host and another lose their power at once, and come back."""
         off = [host, self.dice.choice(self.others(host))]
-        for it in off:
-            it.unplug()
-            it.off()
-        for it in off:
-            self.devices[it.number].lose(older)
-        for it in off:
-            self.back(it)
+        self.recorders, self.recorded = [self.record(it) for it in off], load
+        time.sleep(self.dice.uniform(*BEFORE))
+        self.lose(off, self.recorders)
+        self.unsynced += sum(it.leave(self.dice) for it in self.recorders)
+        self.back(*off)
 
-    def older_power(self, load: Load, host: Host) -> None:
-        """The same, by devices that lack what was written last."""
-        self.power(load, host, True)
+    def old_power(self, load: Load, host: Host) -> None:
+        """All hosts do. The serving one and another come back, and their devices lack what was synced last. The third stays away."""
+        other, third = self.others(host)
+        recorders = [self.record(it) for it in (host, other)]
+        time.sleep(self.dice.uniform(*BEFORE))
+        self.lose([third, host, other], recorders)
+        for it in recorders:
+            it.leave_old()
+        self.back(host, other)
+
+    def record(self, host: Host) -> Recorder:
+        return Recorder(host, self.devices[host.number].folder)
+
+    def lose(self, off: Sequence[Host], recorders: Sequence[Recorder]) -> None:
+        """These hosts lose their power, and records end."""
+        for host in off:
+            host.unplug()
+            host.off()
+        for host in off:
+            self.devices[host.number].lose()
+        for it in recorders:
+            it.end()
 
     def killed(self, load: Load, host: Host) -> None:
         """What keeps the server is killed, as by a mistake."""
@@ -212,7 +262,10 @@ def main_trials(trials: Trials, deaths: int, is_short: bool) -> Iterator[Seen]:
     for number in range(deaths):
         host = trials.keepers.serving()
         yield trials.run(f"host {host.number} dies ({number + 1} of {deaths})", trials.die)
-        trials.back(host)
+        if number:
+            trials.back(host)
+        else:
+            yield trials.run(f"host {host.number} comes back", trials.come_back)
         trials.equal()
     yield trials.run("the keeper of the server is killed", trials.killed)
     yield trials.run("the serving host is cut off from the others, busy", trials.alone)
@@ -233,21 +286,19 @@ def main_trials(trials: Trials, deaths: int, is_short: bool) -> Iterator[Seen]:
     trials.equal()
 
 
-def power_trials(trials: Trials, number: int) -> Iterator[Seen]:
-    """Two of three hosts lose their power at once, so often."""
-    for turn in range(number):
-        yield trials.run(f"the serving host and another lose their power ({turn + 1} of {number})", trials.power)
-        trials.equal()
+def power_trial(trials: Trials, what: str) -> Seen:
+    """Two of three hosts lose their power at once."""
+    seen = trials.run(f"the serving host and another lose their power ({what})", trials.power)
+    trials.equal()
+    return seen
 
 
 def lying(trials: Trials) -> List[str]:
-    """What is found where two devices lack what was written last."""
-    for device in trials.devices.values():
-        device.keep()
-    try:
-        return trials.run("two devices lack what was written last", trials.older_power).of_changes
-    except Wrong as error:
-        return [str(error)]
+    """What the words and the replies to changes tell where two devices lack what was synced last, and the third is away."""
+    seen = trials.run("two devices lack what was synced last", trials.old_power)
+    trials.back(*(host for host in trials.network.hosts if not host.begun))
+    trials.healed()
+    return seen.lost
 
 
 def planted(network: Network, dice: random.Random, options: Sequence[str]) -> Seen:

@@ -1,22 +1,31 @@
-"""How the status page looks: in headless Chromium, wide and narrow, with its script, and in a terminal.
+"""How the status page looks: in headless Chromium, wide and narrow, green and red, with its script, and in a terminal.
 
-Used by: scripts/check-http. It looks for texts of the page, which crates/mw_server_pages/src/status.rt has: change both.
+Used by: scripts/check-http. It looks for texts of the page and its colours, which crates/mw_server_pages/src/status.rt and look.rt beside
+it have: change both.
 """
 import contextlib
+import re
 import shutil
 import struct
 import subprocess
 import threading
 import time
 import zlib
+from collections import Counter
 from http.server import BaseHTTPRequestHandler, ThreadingHTTPServer
 from pathlib import Path
-from typing import Iterator, List, Tuple
+from typing import Callable, Dict, Iterator, List, Tuple
 
 from .server import PATIENCE, Server, Wrong, get
 
 Colour = Tuple[int, int, int]
+Change = Callable[[str, int], str]
+"""Changes the text of an answer, by how often the page was asked for before."""
 BROWSER = "chromium"
+WELL, NOT_WELL = (204, 238, 204), (255, 204, 204)
+"""The colours of the line that says whether all is well: green, and red."""
+LINE = 1000
+"""So many pixels of such a line have its colour, at least."""
 WIDE, NARROW = (1000, 1000), (500, 1600)
 EDGE = 8
 """So many columns of pixels at the right are free, if the page is not too wide."""
@@ -57,8 +66,10 @@ def in_browser(server: Server, picture: Path) -> None:
     for part in ("<h2>Who is slow</h2>", "No tenant is slow.", "<td>a</td>", "All tenants are up.", "<meter "):
         if part not in page:
             raise Wrong(f"the status page in a browser has no {part!r}: {page}")
-    if sum(blue - red > 40 for red, _, blue in colours(picture)) < 20:
+    shown = Counter(colours(picture))
+    if sum(count for (red, _, blue), count in shown.items() if blue - red > 40) < 20:
         raise Wrong("the status page in a browser shows no curve, which is blue")
+    has_line(shown, WELL, NOT_WELL)
     edge = [colour for number, colour in enumerate(colours(narrow)) if number % NARROW[0] >= NARROW[0] - EDGE]
     if set(edge) != {(255, 255, 255)}:
         raise Wrong(f"the status page is wider than {NARROW[0]} pixels")
@@ -67,11 +78,44 @@ def in_browser(server: Server, picture: Path) -> None:
         page = browsed(place, picture.parent, "--dump-dom")
     if "No answer from the server since" not in page:
         raise Wrong(f"the status page of a server that answers no more: {page}")
+    slow_tenant(server, picture.parent)
+
+
+def slow_tenant(server: Server, folder: Path) -> None:
+    """A tenant that is slow is marked, and comes before the one that has no change."""
+    with at_port(server, MANY, slowed) as place:
+        page = browsed(place, folder, "--dump-dom")
+    rows = re.findall(r"<tr(?: class=\"(\w+)\")?><td>([^<]*)</td><td>[^<]*</td><td>([^<]*)</td>", page.partition('id="minute"')[2].partition('id="rest"')[0])
+    if rows != [("slow", "b (slow)", "5.0 s"), ("", "a", "none")] or '<p class="slow">Slow: b. ' not in page:
+        raise Wrong(f"the status page of a slow tenant has the rows {rows}: {page}")
+
+
+def slowed(text: str, turn: int) -> str:
+    """The figures, with changes of the tenant b that took longer than each bound: one more each time."""
+    slow = re.compile(r'^(mondlexi_request_seconds_bucket\{tenant="b",kind="CAS",le="\+Inf"\}) (\d+)$', re.MULTILINE)
+    return slow.sub(lambda found: f"{found[1]} {int(found[2]) + turn}", text)
+
+
+def red(server: Server, folder: Path) -> None:
+    """The page of a server with a tenant that is down, if the browser is there."""
+    if shutil.which(BROWSER):
+        picture = folder / "red.png"
+        with at_port(server, MANY) as place:
+            take(place, picture, WIDE)
+        has_line(Counter(colours(picture)), NOT_WELL, WELL)
+        picture.unlink()
+
+
+def has_line(shown: Dict[Colour, int], wanted: Colour, other: Colour) -> None:
+    """A picture has a line of the one colour, and none of the other, by how many of its pixels have which colour."""
+    if shown.get(wanted, 0) < LINE or shown.get(other, 0) >= LINE:
+        raise Wrong(f"the status page in a browser has {shown.get(wanted, 0)} pixels of the colour {wanted}, and {shown.get(other, 0)} of {other}")
 
 
 @contextlib.contextmanager
-def at_port(server: Server, answers: int) -> Iterator[str]:
-    """The pages of a server, which are at a local socket, at a port: so many answers, and then none. A browser takes its picture late."""
+def at_port(server: Server, answers: int, change: Change = lambda text, _: text) -> Iterator[str]:
+    """The pages of a server, which are at a local socket, at a port: so many answers, and then none. A browser takes its picture late.
+    The figures may be changed."""
     left, pages = [answers], [0]
 
     class Handler(BaseHTTPRequestHandler):
@@ -93,7 +137,8 @@ def at_port(server: Server, answers: int) -> Iterator[str]:
             self.send_response(answer.status)
             self.send_header("Content-Type", answer.fields.get("Content-Type", "text/plain"))
             self.end_headers()
-            self.wfile.write(answer.body.replace(b"</body>", HOLD + b"</body>"))
+            body = change(answer.body.decode(), pages[0]).encode() if self.path == "/metrics" else answer.body
+            self.wfile.write(body.replace(b"</body>", HOLD + b"</body>"))
 
         def log_message(self, *_: object) -> None:
             """Says nothing."""

@@ -1,13 +1,13 @@
 """A tenant's file that is cut, overwritten, replaced or removed while the server serves it: what is noted, what the pages say, how a
-copy of it is answered, and the next change.
+copy of it is answered, and the next change; and what the report says.
 
 Used by: scripts/check-backup.
 """
 import os
 from pathlib import Path
-from typing import Callable, NamedTuple
+from typing import Callable, List, NamedTuple
 
-from .server import Client, Server, figures, get, same
+from .server import Client, Server, figures, get, said, same
 
 TENANTS = (("a", 3, 1), ("b", 5, 2))
 LEFT = 100
@@ -62,14 +62,21 @@ def try_harm(program: Path, folder: Path, harm: Harm, is_strict: bool, copies: i
         same([get(server.pages, FILE).status for _ in range(copies)], [500] * copies, f"copies, {what}")
         same(server.note(), "tenant a: replaced\n", f"the note, {what}")
         same_pages(server, is_strict, what)
+        same(reported(server), ["up", "up"], f"the report, {what}")
         same(client.ask("CAS 0:1:2"), "FAULT" if is_strict else "YES", f"the next change, {what}")
         same_pages(server, is_strict, f"{what}, after a change")
+        same(reported(server), ["down" if is_strict else "up", "up"], f"the report, {what}, after a change")
         same(other.ask("CAS 0:0:1"), "YES", f"a change of another tenant, {what}")
         for kind in ("file", "words"):
             same([get(server.pages, f"/tenants/{name}/{kind}").status for name in "ab"], [503 if is_strict else 500, 200], f"{kind}, {what}")
         client.close()
         other.close()
         same(server.end(), "tenant a: failed\na.mw: Stale file handle (os error 116)\n" if is_strict else "", f"further notes, {what}")
+
+
+def reported(server: Server) -> List[str]:
+    """Whether the tenants are up, as the report tells."""
+    return [line.split()[-1] for line in said(server.port, b"ADMIN\nREPORT\n").decode().splitlines()[1:-1]]
 
 
 def same_pages(server: Server, is_strict: bool, what: str) -> None:

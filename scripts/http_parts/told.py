@@ -89,8 +89,17 @@ def rows_of(page: str, tenant: str) -> List[Curve]:
     return [Curve(int(last), int(most), len(points.split())) for last, most, points in found]
 
 
+def near(server: Server, limit: str, used: int, most: int, remedy: str) -> None:
+    """The status page marks a limit as near, and tells what raises it."""
+    page = get(server.pages, "/").body.decode()
+    row = f'<td>{limit}</td><td>{used} of {most}</td><td><meter max="{most}" value="{used}"></meter></td><td>{remedy}</td>'
+    for part in ('<p class="near">A limit is near.</p>', f'<tr class="near">{row}</tr>'):
+        if part not in page:
+            raise Wrong(f"the status page has no {part!r}: {page}")
+
+
 def full_quota(server: Server) -> None:
-    """Sixteen clients change words of a tenant with a quota of 1: each BUSY, YES and NO is counted."""
+    """Sixteen clients change words of a tenant with a quota of 1: each BUSY, YES and NO is counted, and the quota is near."""
     clients = [Client(server.port, "b") for _ in range(16)]
 
     def change(number: int) -> None:
@@ -110,16 +119,19 @@ def full_quota(server: Server) -> None:
     for reply in ("YES", "NO", "BUSY"):
         same(now.of("mondlexi_requests_total", tenant="b", kind="CAS", reply=reply), replies[reply], f"changes answered {reply}")
     same((most, now.of("mondlexi_quota", tenant="b"), replies["BUSY"] > 0), (1, 1, True), "a full quota")
+    near(server, "quota of b", 1, 1, "its number in the tenants file")
     for client in clients:
         client.close()
 
 
 def many_clients(server: Server, rest: int) -> None:
-    """A thousand clients are served at once, and some more wait; then all end."""
+    """A thousand clients are served at once, and some more wait; then all end. No limit is near before, and then the sessions are."""
+    same("<p>No limit is near.</p>" in get(server.pages, "/").body.decode(), True, "that no limit is near without clients")
     crowd = [Client(server.port, "a") for _ in range(CROWD)]
     waiting = [connected(server.port) for _ in range(rest)]
     until(lambda: figures(server.pages).of("mondlexi_connections_waiting") == rest, f"not {rest} connections wait")
     same(figures(server.pages).of("mondlexi_connections_served"), CROWD, "connections that are served")
+    near(server, "sessions", CROWD, CROWD, "--clients, or end some by --idle")
     for client in crowd:
         same(client.ask("GET 1"), "VAL 0", "one of many clients")
     same(figures(server.pages).of("mondlexi_requests_total", tenant="a", kind="GET", reply="VAL"), CROWD, "requests of many clients")

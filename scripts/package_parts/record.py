@@ -1,10 +1,12 @@
-"""The record that the gate leaves of what it tried: the commit, the checksum of each program, and its last line.
+"""The record that the gate leaves of what it tried: the commit, the checksum of each program, and its last line. And what packages
+call a commit.
 
-Used by: scripts/check-programs, which writes it as the last part of .ci/run; scripts/package, which packs nothing else; program_parts/recorded.py,
-which tries both.
+Used by: scripts/check-programs, which writes the record as the last part of .ci/run; scripts/package, which packs nothing else;
+program_parts/recorded.py, which tries all.
 """
 import hashlib
 import subprocess
+from datetime import datetime, timezone
 from pathlib import Path
 from typing import Dict, Iterable, List
 
@@ -25,6 +27,19 @@ def git(*words: str) -> str:
     return ran.stdout.decode(errors="replace").strip() if ran.returncode == 0 else ""
 
 
+def has_changes() -> bool:
+    """Whether a file differs from the commit, or git doesn't tell. If none differs it tells the branch alone."""
+    return len(git("status", "--porcelain", "--branch", "--untracked-files=no").splitlines()) != 1
+
+
+def release_of(version: str) -> str:
+    """What the packages call this commit: the version if the tag `vVERSION` is on it, else the version with `unreleased`, moment and commit."""
+    if f"v{version}" in git("tag", "--points-at", "HEAD").split() and not has_changes():
+        return version
+    moment, commit = git("log", "-1", "--format=%ct %H").split()
+    return f"{version}+unreleased.{datetime.fromtimestamp(int(moment), timezone.utc):%Y%m%d%H%M%S}.{commit[:8]}" + (".changed" if has_changes() else "")
+
+
 def sum_of(path: Path) -> str:
     """The SHA-256 of a file."""
     return hashlib.sha256(path.read_bytes()).hexdigest()
@@ -41,7 +56,7 @@ def write(tried: str, programs: Dict[str, Path], line: str) -> str:
     proved anything. Gives why there is no record; nothing if there is one."""
     if tried != git("rev-parse", "HEAD") or not tried:
         return "files differ from the commit, or there is another one"
-    if git("status", "--porcelain", "--untracked-files=no"):
+    if has_changes():
         return "files were changed meanwhile"
     RECORD.parent.mkdir(exist_ok=True)
     RECORD.write_text("".join([f"commit {tried}\n", *(f"program {name} {sum_of(path)}\n" for name, path in programs.items()), f"gate {line}\n"]))
@@ -60,7 +75,7 @@ def recorded_line(programs: Dict[str, Path], names: Iterable[str]) -> str:
     commit = git("rev-parse", "HEAD")
     if lines_of("commit") != [[commit]]:
         raise NoRecord(f"the gate's record is of another commit than {commit[:8]}: run .ci/run again")
-    if git("status", "--porcelain", "--untracked-files=no"):
+    if has_changes():
         raise NoRecord("files differ from the commit that the gate tried: commit them, and run .ci/run again")
     sums = {name: it for name, it in lines_of("program")}
     other = [name for name in names if sums.get(name) != sum_of(programs[name])]

@@ -5,23 +5,25 @@ puts a proxy in front by those of docs/MANY-MACHINES.md, and removes the package
 usage: as_operator.py PACKAGE BOOT [ARCHIVE]
 
 BOOT is 1 in the first boot and 2 in the next one, where the unit that was enabled must run. Each thing that was tried is a line on
-standard output, the last one is `all well`. Used by: booted.py, which runs it in a container. It needs units.py beside it, the
-package's client, Python alone otherwise, and no other file of this repository.
+standard output, the last one is `all well`. Used by: booted.py, which runs it in a container. It needs units.py and upkeep.py beside
+it, the package's client, Python alone otherwise, and no other file of this repository.
 """
 import os
 import pwd
 import re
 import signal
+import socket
 import subprocess
 import sys
 import threading
 import time
 from pathlib import Path
-from typing import List, Tuple
+from typing import List
 
 from units import (LOCAL, OPTIONS, PAGE, PATIENCE, PROXY, PROXY_PAGE, ROOM, UNITS, DropIn, Unit, begin, blocks, client, end, ended, journal, main_process,
                    refuses_to_start, run, same, section_of, servers, shown, state, try_to_talk, type_block, wait_until, word,
                    wrong)
+from upkeep import KEPT, try_cron, try_page, try_upgrades
 
 
 # What clients and root see
@@ -125,6 +127,16 @@ def try_unit(unit: Unit) -> None:
           "started six times at once, stopped")
 
 
+def try_web_page(unit: Unit) -> None:
+    """A web page in a browser of this machine posts lines to a unit's port: its session ends at the first one, and the change isn't made."""
+    value, (host, port) = word(unit), unit.listen.split(":")
+    with socket.create_connection((host, int(port)), PATIENCE) as page:
+        page.sendall(f"POST / HTTP/1.1\r\nHost: {unit.listen}\r\n\r\nTENANT t\nCAS 0:{value}:{value + 1}\n".encode())
+        told = b"".join(iter(lambda: page.recv(4096), b""))
+    same((told, word(unit)), (b"ERR 2\n", value), "what a web page hears of a unit, and the word after")
+    print(f"{unit.name}: a web page can't have it change a word")
+
+
 def try_second_unit() -> None:
     """The other unit ends the first one, and serves its files."""
     first, second = UNITS
@@ -155,9 +167,11 @@ def try_failing_starts(unit: Unit) -> None:
     (ROOM / "tenants.away").rename(tenants)
     OPTIONS.write_text(chosen.replace("--clients 256", "--clients none"))
     refuses_to_start(unit, "none", "with a wrong option")
+    same(any("'none' for '--clients <1..4096>'" in line for line in errors_of(unit)), True, f"that journalctl -p err shows the wrong option of {unit.name}")
     OPTIONS.write_text(chosen.replace(" --strict", ""))
     (ROOM / "t.mw").rename(ROOM / "t.away")
     refuses_to_start(unit, "mondlexi-ready: no tenant is up", "whose only tenant is down")
+    same("mondlexi-ready: no tenant is up" in errors_of(unit), True, f"that journalctl -p err shows that {unit.name} has no tenant that is up")
     (ROOM / "t.away").rename(ROOM / "t.mw")
     tenants.write_text(f"{text}away 2 1 away.mw\n")
     begin(unit)
@@ -307,7 +321,7 @@ def fails_with_alarm(name: str, why: str, mail: Path) -> None:
 
 def try_timers(unit: Unit) -> None:
     """What the timers start: the look at the health, and the backup with its figure for node_exporter. Each fails without a server, with an alarm."""
-    kept, figures, mail, mailer = Path("/backup"), Path("/var/lib/prometheus/node-exporter"), Path("/root/mail"), Path("/usr/local/bin/mail")
+    figures, mail, mailer = Path("/var/lib/prometheus/node-exporter"), Path("/root/mail"), Path("/usr/local/bin/mail")
     for name in ("mondlexi-health.timer", "mondlexi-backup.timer"):
         same((run("systemctl", "is-enabled", name), run("systemctl", "is-active", name)), ("enabled\n", "active\n"), name)
     wait_until("the first minute", lambda: shown("mondlexi-health.timer", "LastTriggerUSec") != "")
@@ -320,70 +334,16 @@ def try_timers(unit: Unit) -> None:
     for name in ("mondlexi-health", "mondlexi-backup", "mondlexi-backup"):
         run("systemctl", "start", name)
     end(unit)
-    copies = sorted(kept.iterdir())
+    copies = sorted(KEPT.iterdir())
     same([sorted(it.name for it in copy.iterdir()) for copy in copies], 2 * [["t.mw", "tenants", "tenants.served"]], "the copies of mondlexi-backup")
     same([f"word 0 {value}" in run("mwshow", copy / "t.mw").splitlines() for copy in copies], [True, True], "the word 0 of these copies")
     figure = (figures / "mondlexi.prom").read_text().split()
     same((figure[-2], time.time() - float(figure[-1]) < PATIENCE), ("mondlexi_backup_time_seconds", True), "the figure of the last backup")
     fails_with_alarm("mondlexi-health", "no answer at unix:/run/mondlexi/pages: is the unit running", mail)
     fails_with_alarm("mondlexi-backup", "mondlexi-backup: failed at tenant t", mail)
-    same(sorted(kept.iterdir()), copies, "the copies after a backup that failed")
+    same(sorted(KEPT.iterdir()), copies, "the copies after a backup that failed")
     run("rm", "-r", *copies, mailer)
     print("the timers' health and backup: well with a server, with a figure of the last backup; without one an alarm in the journal and by mail")
-
-
-def try_drill(unit: Unit, drill: List[Tuple[str, str]], value: int) -> None:
-    """The page's drill, and with a change in place of its read, beside a server and without one: the served word stays as it is."""
-    changing = [(command.replace("GET 0", f"CAS 0:{value}:{value + 1}"), "OK 1000\nYES\n" if "--script" in command else wanted)
-                for command, wanted in drill]
-    same("CAS" in "".join(command for command, _ in changing), True, "that the page's drill reads the word 0")
-    type_block(drill, ROOM)
-    type_block(changing, ROOM)
-    same(word(unit), value, "the word after a drill beside the server")
-    end(unit)
-    type_block(changing, ROOM)
-    begin(unit)
-    same(word(unit), value, "the word after a drill without a server")
-
-
-def try_drill_in_service(unit: Unit, second: List[Tuple[str, str]], value: int) -> None:
-    """The page's commands that restore a copy as a second tenant, which goes after."""
-    text = (ROOM / "tenants").read_text()
-    type_block(second, ROOM)
-    same(run("mondlexi", unit.listen, "u", "get", "0"), f"{value}\n", "the word of a copy that was restored as a second tenant")
-    end(unit)
-    (ROOM / "tenants").write_text(text)
-    (ROOM / "u.mw").unlink()
-    begin(unit)
-
-
-def try_page(unit: Unit) -> None:
-    """The page's commands for a backup of a server that serves, and of a stopped one, for drills, to restore it, when a tenant is down,
-    and for more words. The tenants file has an absolute path."""
-    text = (ROOM / "tenants").read_text()
-    (ROOM / "tenants").write_text(text.replace(" t.mw\n", f" {ROOM}/t.mw\n"))
-    begin(unit)
-    try_to_talk(unit)
-    value = word(unit)
-    backup, restore, second = (it for it in blocks("Backup") if any("systemctl stop" in command for command, _ in it))
-    serving, drill = (next(it for it in blocks("Backup") if any(word_of in command for command, _ in it)) for word_of in ("--unix-socket", "--script"))
-    type_block(serving, ROOM)
-    same(f"word 0 {value}" in run("mwshow", "/backup/today/t.mw").splitlines(), True, "the word 0 of a backup while it serves")
-    type_block(backup, ROOM)
-    wait_until("the server after a backup", lambda: ended("mondlexi-check", unit.admin).returncode == 0)
-    try_drill(unit, drill, value)
-    try_to_talk(unit)
-    type_block(restore, ROOM)
-    wait_until("the server after that was restored", lambda: ended("mondlexi-check", unit.admin).returncode == 0)
-    same(word(unit), value, "the word of a backup that was restored")
-    try_drill_in_service(unit, second, value)
-    type_block(blocks("When a tenant is down")[0], ROOM)
-    same(state(unit.name), ("inactive", "success"), "the unit while a tenant is mended")
-    type_block(blocks("Changing tenants")[0], ROOM)
-    wait_until("the server after the tenant has grown", lambda: ended("mondlexi-check", unit.admin).returncode == 0)
-    with client(unit) as at:
-        same((at.words, at.get(0)), (2000, value), "the tenant that has grown")
-    print("the page's commands for a backup of a server that serves, and of a stopped one, for drills, to restore it, when a tenant is down, and for more words")
 
 
 def restart_elsewhere(unit: Unit) -> None:
@@ -452,6 +412,7 @@ def first_boot(deb: str) -> None:
     try_socket_users()
     try_unit(local)
     begin(port)
+    try_web_page(port)
     try_unit(port)
     if not denies_addresses():
         print("left out: IPAddressDeny=, which denies nothing in this container")
@@ -459,8 +420,9 @@ def first_boot(deb: str) -> None:
     for unit in UNITS:
         try_failing_starts(unit)
         try_pages(unit)
+        try_full(unit)
     try_timers(port)
-    try_full(port)
+    try_cron(port)
     try_most_clients(port)
     try_command(local, Path("/tmp"))
     try_strict(local)
@@ -469,53 +431,6 @@ def first_boot(deb: str) -> None:
     try_move(port)
     try_page(local)
     try_proxy(local)
-
-
-BEFORE = """#!/bin/sh
-set -e
-[ ! -d /run/systemd/system ] || systemctl stop mondlexi.service mondlexi-local.service
-"""
-"""The script by which the package of version 0.2.0 stopped its units, before an upgrade too."""
-
-
-def package_before(deb: str) -> str:
-    """A package of the version before: this one with the scripts that it had."""
-    tree = Path("/root/before")
-    run("dpkg-deb", "--raw-extract", deb, tree)
-    control = (tree / "DEBIAN/control").read_text()
-    (tree / "DEBIAN/control").write_text(re.sub(r"(?m)^Version: .*$", "Version: 0.1", control))
-    (tree / "DEBIAN/prerm").write_text(BEFORE)
-    for name in ("preinst", "postinst", "postrm"):
-        (tree / "DEBIAN" / name).unlink()
-    run("dpkg-deb", "-Zgzip", "-z1", "--build", tree, "/root/before.deb")
-    return "/root/before.deb"
-
-
-def try_upgrades(unit: Unit, deb: str) -> None:
-    """A package over a running service: it serves the same words after, by a new server. One that doesn't run isn't started. The options stay."""
-    value = try_to_talk(unit)
-    OPTIONS.write_text(OPTIONS.read_text().replace("--clients 256", "--clients 300"))
-    chosen = OPTIONS.read_text()
-    before = package_before(deb)
-    for what, first in (("the same version", deb), ("the version before", before)):
-        server = main_process(unit.name)
-        if first == before:
-            run("dpkg", "--install", before)
-            same((main_process(unit.name), word(unit)), (server, value), "the server after a package whose scripts start nothing")
-        run("dpkg", "--install", deb)
-        same((main_process(unit.name) not in (0, server), word(unit), servers()), (True, value, [str(main_process(unit.name))]), f"an upgrade from {what}")
-        same((OPTIONS.read_text(), "--clients\x00300" in Path(f"/proc/{main_process(unit.name)}/cmdline").read_text()), (chosen, True), "the options")
-    end(unit)
-    run("dpkg", "--install", deb)
-    same((state(unit.name), servers()), (("inactive", "success"), []), "a unit that was stopped, after an upgrade")
-    begin(unit)
-    (ROOM / "t.mw").rename(ROOM / "t.away")
-    told = ended("dpkg", "--install", deb)
-    same((told.returncode, f"mondlexi: {unit.name}.service doesn't start" in told.stdout), (0, True), f"an upgrade whose server doesn't start: {told.stdout}")
-    (ROOM / "t.away").rename(ROOM / "t.mw")
-    begin(unit)
-    print("upgrades: a server that runs is restarted, also from the version before; one that was stopped stays so; one that doesn't start is told of; "
-          "the options are kept")
 
 
 def second_boot(deb: str) -> None:

@@ -1,5 +1,5 @@
 """What scripts/check-programs tries beside the clients: mwbench; the units of contrib, how exposed they are, and that they allow the system calls
-which a server makes; that a log goes on after logrotate; contrib's check for cron; the version that each program tells; and
+which a server makes; that a log goes on after logrotate; contrib's check for cron; the version that each program tells, and its help; and
 scripts/bench-server with its chart.
 
 Used by: scripts/check-programs. The loads take two seconds each; how much is served in them is not looked at. It reads the lines of mwbench
@@ -17,6 +17,7 @@ from itertools import takewhile
 from xml.etree import ElementTree
 
 from .common import BUILT, MWBENCH, MWINIT, MWSERVE, PROGRAMS, TOP, Peer, at, is_built, same
+from .served import Served, make_tenants
 
 import mondlexi  # noqa: E402
 
@@ -27,12 +28,19 @@ from bench_parts.stores import NAME  # noqa: E402
 
 VERSION = TOP / "crates/mw_main/src/lib.rt"
 SERVER_UNITS = [TOP / "contrib" / name for name in ("mondlexi.service", "mondlexi-local.service")]
+KEEPER_UNIT = TOP / "contrib/ha/mondlexi-ha@.service"
 MOST_EXPOSED = 2
 SECOND = re.compile(r"second \d+: \d+ changes, \d+ reads, \d+ refusals")
 KIND = re.compile(r"([A-Z]+) (\d+): mean (\d+) us, p50 (\d+) us, p90 (\d+) us, p95 (\d+) us, p99 (\d+) us, p99\.9 (\d+) us, slowest (\d+) us")
 KINDS = ["YES", "NO", "BUSY", "VAL"]
 FIGURES = ["changes a second", "reads a second", "refusals", "p50", "p90", "p99", "p99.9", "slowest"]
 TIMES = ["mean_us", "p50_us", "p90_us", "p95_us", "p99_us", "p99_9_us", "slowest_us"]
+DOCUMENTS = "\nDocuments: docs/OPERATING.md beside README.md, or below /usr/share/doc/mondlexi\n"
+HELP = {"mwinit": ("how many words it has, 1 to 4096\n", "\nExample: mwinit t.mw 1000 4\n", DOCUMENTS),
+        "mwserve": ("--clients <1..4096>", "--mode <0..777>", "\nEach line of the tenants file: name words quota path\n",
+                    "\nExample: mwinit t.mw 1000 4 && echo 't 1000 4 t.mw' > tenants && mwserve --tenants tenants --listen 127.0.0.1:7000\n", DOCUMENTS),
+        "mwbench": ("--clients <1..64>", "--reads <0..100>")}
+"""What the help of a program has: ranges, an example, the form of a tenants line, and where the documents are."""
 MOST_BUSY = 2100
 """How often a line of a client may be told BUSY in two seconds: it waits for a millisecond at least after each."""
 WRONG_SUMS = "mwbench: the words are not the sums of the replies YES\n"
@@ -113,12 +121,30 @@ def check_load(server):
     print("mwbench: words are the sums of the replies, or it says that they aren't, and each status is as it should be")
 
 
+def try_quota(folder):
+    """Eight clients change one word. A quota a quarter above them keeps BUSY away, as docs/OPERATING says; one of half as many doesn't."""
+    room = folder / "quota"
+    room.mkdir()
+    make_tenants(MWINIT, room, {"t": 1}, 10)
+    for quota, is_busy in ((10, False), (4, True)):
+        (room / "tenants").write_text(f"t 1 {quota} t.mw\n")
+        server = Served(MWSERVE, room, ("--workers", "8"), True)
+        try:
+            status, lines, errors = end_load(begin_load("--connect", server.at, "--tenant", "t", "--words", "1", "--clients", "8", "--shared",
+                                                        "--pipeline", "16", "--seconds", "2", "--json"))
+        finally:
+            server.kill()
+        same((status, errors), (0, ""), f"mwbench at a quota of {quota}")
+        same(json.loads(lines[0])["busy"]["count"] > 0, is_busy, f"whether BUSY came at a quota of {quota}: {lines}")
+    print("quota: a quarter above the clients that change at once keeps BUSY away")
+
+
 def check_units(folder):
     """systemd-analyze wants the programs to be where the units say, so it is given copies with the paths of those that are here. The
     server's units are as little exposed as they say."""
-    units = sorted(path for path in (TOP / "contrib").iterdir() if path.suffix in (".service", ".socket", ".timer"))
+    units = sorted(path for path in (*(TOP / "contrib").iterdir(), KEEPER_UNIT) if path.suffix in (".service", ".socket", ".timer"))
     for path in units:
-        (folder / path.name).write_text(path.read_text().replace("/usr/local/bin/mwserve ", f"{MWSERVE} ").replace("/usr/local/bin/", f"{TOP}/contrib/"))
+        (folder / path.name).write_text(path.read_text().replace("/usr/local/bin/mwserve ", f"{MWSERVE} ").replace("/usr/local/bin/", f"{path.parent}/"))
     for path in units:
         looked = subprocess.run(["systemd-analyze", "verify", folder / path.name], stdout=subprocess.PIPE, stderr=subprocess.STDOUT)
         told_of = [line for line in looked.stdout.decode().splitlines() if "mondlexi" in line]
@@ -129,6 +155,8 @@ def check_units(folder):
         if exposed is not None:
             same((exposed <= MOST_EXPOSED, f"{exposed} of 10" in unit), (True, True), f"the exposure of contrib/{path.name}, {exposed}")
         print(f"contrib/{path.name}: systemd-analyze finds nothing; its exposure is {exposed}")
+    exposed = exposure(KEEPER_UNIT)
+    same(exposed is None or exposed <= MOST_EXPOSED, True, f"the exposure of {KEEPER_UNIT.name}, {exposed}")
 
 
 def exposure(unit):
@@ -170,8 +198,8 @@ def try_system_calls(folder):
         same(server.wait(), 0, f"the status of a server at {at}")
         server.stdout.close()
         found |= set(re.findall(r"^[0-9]+ +([a-z0-9_]+)\(", (room / "log").read_text(), re.MULTILINE))
-    for path in SERVER_UNITS:
-        same((found - allowed_by(path.read_text()) - {"execve"}, "fdatasync" in found), (set(), True), f"system calls that contrib/{path.name} doesn't allow")
+    for path in (*SERVER_UNITS, KEEPER_UNIT):
+        same((found - allowed_by(path.read_text()) - {"execve"}, "fdatasync" in found), (set(), True), f"system calls that {path.name} doesn't allow")
     print(f"the units allow each of the {len(found)} system calls that a server makes")
 
 
@@ -212,6 +240,15 @@ def try_versions():
         ran = subprocess.run([BUILT[program], "--version"], stdin=subprocess.DEVNULL, capture_output=True)
         same((ran.returncode, ran.stdout, ran.stderr), (0, f"{program} {version}\n".encode(), b""), f"{program} --version")
     print("versions: each program tells the same, and so does the client")
+
+
+def try_help():
+    """The help of a program has what a new user needs."""
+    for program in filter(is_built, HELP):
+        ran = subprocess.run([BUILT[program], "--help"], stdin=subprocess.DEVNULL, capture_output=True, text=True)
+        missing = [it for it in HELP[program] if it not in ran.stdout]
+        same((ran.returncode, ran.stderr, missing), (0, "", []), f"{program} --help")
+    print("help: ranges, an example, the form of a tenants line, and where the documents are")
 
 
 def try_chart(folder):

@@ -20,7 +20,7 @@ LIMIT = 300
 GRACE = 10
 """For how many seconds a halt may take."""
 PLACE = Path("root/tried")
-STEPS = [Path(__file__).resolve().parent / name for name in ("as_operator.py", "units.py")]
+STEPS = [Path(__file__).resolve().parent / name for name in ("as_operator.py", "units.py", "upkeep.py")]
 UNIT = """[Unit]
 Description=What scripts/check-package tries
 SuccessAction=poweroff

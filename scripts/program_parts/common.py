@@ -2,8 +2,8 @@
 told to, and how a difference is told.
 
 Used by: scripts/check-counts, scripts/check-failover, scripts/check-map, scripts/check-move, scripts/check-package, scripts/check-programs,
-scripts/check-proxy, scripts/check-recipes, scripts/check-volume, many of this folder, failover_parts/keepers.py, failover_parts/speed.py,
-recipe_parts/running.py. A further program is a row of PROGRAMS here and in scripts/package.
+scripts/check-proxy, scripts/check-recipes, scripts/check-volume, many of this folder, failover_parts/cuts.py, failover_parts/keepers.py,
+failover_parts/speed.py, recipe_parts/running.py. A further program is a row of PROGRAMS here and in scripts/package.
 """
 import importlib.util
 import os

@@ -1,8 +1,9 @@
-"""The record that the gate leaves for scripts/package: what is recorded, and what is not packed.
+"""The record that the gate leaves for scripts/package: what is recorded, what is not packed, and which commit is a release.
 
 Used by: scripts/check-programs, in a repository of its own, in a folder.
 """
 import subprocess
+import time
 from pathlib import Path
 
 from package_parts import record
@@ -52,6 +53,20 @@ def try_cases(folder: Path, program: Path) -> None:
     same("no gate has left a record" in refusal(program), True, "a program whose record is gone")
 
 
+def try_releases(folder: Path) -> None:
+    """A commit is a release by the tag of the version, if no file differs from it."""
+    moment, commit = git(folder, "log", "-1", "--format=%ct %H").split()
+    unreleased = f"1+unreleased.{time.strftime('%Y%m%d%H%M%S', time.gmtime(int(moment)))}.{commit[:8]}"
+    git(folder, "tag", "v2")
+    same(record.release_of("1"), unreleased, "the name of a commit with the tag of another version")
+    git(folder, "tag", "v1")
+    same(record.release_of("1"), "1", "the name of a commit with the tag of its version")
+    (folder / "file").write_text("3")
+    same(record.release_of("1"), f"{unreleased}.changed", "its name, after a file was changed")
+    git(folder, "commit", "--quiet", "--all", "-m", "third")
+    same("+unreleased." in record.release_of("1"), True, "the name of the next commit")
+
+
 def try_record(folder: Path) -> None:
     """The cases, in place of this repository."""
     before = record.TOP, record.RECORD
@@ -61,6 +76,7 @@ def try_record(folder: Path) -> None:
     record.TOP, record.RECORD = folder, folder / "out/gate-record"
     try:
         try_cases(folder, program)
+        try_releases(folder)
     finally:
         record.TOP, record.RECORD = before
-    print("the record of the gate: of one commit and its programs, and nothing else is packed")
+    print("the record of the gate: of one commit and its programs, and nothing else is packed; a tag makes a release")

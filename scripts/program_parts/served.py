@@ -1,6 +1,6 @@
 """mwserve as a process that is killed (SIGKILL), started again and held up.
 
-Used by: common.py, eight.py, client_parts/readme.py, client_parts/twelve.py, recipe_parts/running.py.
+Used by: beside.py, common.py, eight.py, client_parts/readme.py, client_parts/twelve.py, recipe_parts/running.py.
 """
 import random
 import signal

@@ -1,6 +1,6 @@
 """A unit as systemd shows it, and the commands of a page, in a Debian that systemd has booted.
 
-Used by: as_operator.py; booted.py, which puts both into the container. It needs no file of this repository.
+Used by: as_operator.py, upkeep.py; booted.py, which puts all into the container. It needs no file of this repository.
 """
 import re
 import subprocess

@@ -1,6 +1,6 @@
 """The power goes: runs of the server are recorded, and what a cut between their calls may leave is opened and compared.
 
-Used by: scripts/soak, planted_writers.py. SLOTS is the most tenants of a server, `MAX_TENANTS` of crates/mw_words/src/limits.rt.
+Used by: scripts/soak, planted_writers.py, failover_parts/cuts.py. SLOTS is the most tenants of a server, `MAX_TENANTS` of crates/mw_words/src/limits.rt.
 """
 import itertools
 import random

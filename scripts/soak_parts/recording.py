@@ -3,8 +3,8 @@
 The recorder (recorder.c) is loaded into the built mwserve. The disk is the one of docs/OPERATING.md, *Which disks*: between
 two syncs that went well each range that was written, also by a write that failed, may hold any bytes after a crash.
 
-Used by: scripts/check-backup, scripts/check-cache, scripts/soak, lives.py, planted_writers.py, power.py, server.py. It reads the lines that
-recorder.c writes: change both.
+Used by: scripts/check-backup, scripts/check-cache, scripts/soak, lives.py, planted_writers.py, power.py, server.py,
+failover_parts/bricks.py, failover_parts/cuts.py. It reads the lines that recorder.c writes: change both.
 """
 import random
 import shutil

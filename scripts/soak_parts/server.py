@@ -1,7 +1,8 @@
 """The built mwserve over a folder of tenants: started with the recorder or without it, asked for all words, killed.
 
-Used by: scripts/check-backup, scripts/soak, backups.py, crowd.py, lives.py, planted_writers.py, power.py. It reads the lines of REPORT
-(docs/PROTOCOL.md) and of standard error (docs/OPERATING.md), and gives recorder.c its variables: change them together.
+Used by: scripts/check-backup, scripts/soak, backups.py, crowd.py, lives.py, planted_writers.py, power.py,
+failover_parts/cuts.py. It reads the lines of REPORT (docs/PROTOCOL.md) and of standard error (docs/OPERATING.md), and gives
+recorder.c its variables: change them together.
 """
 import os
 import random

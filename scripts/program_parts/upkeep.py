@@ -1,0 +1,192 @@
+"""Does by docs/OPERATING.md what an operator does to keep a service: cron, backups, drills, more words, upgrades and the way back.
+
+Used by: as_operator.py; booted.py, which puts both into the container. It needs units.py, and no other file of this repository.
+"""
+import re
+from pathlib import Path
+from typing import List, Tuple
+
+from units import (OPTIONS, PAGE, ROOM, Unit, begin, blocks, client, end, ended, main_process, run, same, section_of, servers, state, try_to_talk,
+                   type_block, wait_until, word)
+
+Block = List[Tuple[str, str]]
+"""Commands of a page, each with what the page says that it prints."""
+KEPT = Path("/backup")
+
+
+def is_up(unit: Unit) -> bool:
+    """Whether the server answers, and all tenants are up."""
+    return ended("mondlexi-check", unit.admin).returncode == 0
+
+
+# What cron runs
+
+
+def cron_lines() -> List[List[str]]:
+    """The page's file for cron: how cron runs each line, as its user, in an environment that has the file's PATH and nothing else."""
+    text = section_of(PAGE, "What to watch")
+    paths = re.findall(r"^ {4}(PATH=\S+)$", text, re.MULTILINE)
+    lines = re.findall(r"^ {4}(?:[\d*]+ ){5}(\w+) (.*)$", text, re.MULTILINE)
+    same((len(paths), [user for user, _ in lines]), (1, ["mw", "root"]), "the lines of OPERATING for cron")
+    return [["runuser", "-u", user, "--", "env", "-i", paths[0], "sh", "-c", command] for user, command in lines]
+
+
+def try_cron(unit: Unit) -> None:
+    """The page's lines for cron, run as cron runs them. They are silent with a server, and fail without one."""
+    before = set(KEPT.iterdir())
+    for is_served in (True, False):
+        if is_served:
+            begin(unit)
+        for words in cron_lines():
+            told = ended(*words)
+            same((told.returncode == 0, told.stdout == ""), (is_served, is_served), f"`{words[-1]}` of cron, which prints {told.stdout!r}")
+        if is_served:
+            end(unit)
+    new = set(KEPT.iterdir()) - before
+    same([sorted(file.name for file in it.iterdir()) for it in new], [["t.mw", "tenants", "tenants.served"]], "the copy that cron has made")
+    run("rm", "-r", *new)
+    print("the page's lines for cron: silent with a server; without one each says so")
+
+
+# Backups and drills
+
+
+def stopping_blocks() -> List[Block]:
+    """The page's blocks that stop the server: for a backup, to restore a tenant, and for a drill in the service."""
+    found = [it for it in blocks("Backup") if any("systemctl stop" in command for command, _ in it)]
+    same(len(found), 3, "the blocks of the section Backup that stop the server")
+    return found
+
+
+def try_drill(unit: Unit, drill: Block, value: int) -> None:
+    """The page's drill, and with a change in place of its read, beside a server and without one: the served word stays as it is."""
+    changing = [(command.replace("GET 0", f"CAS 0:{value}:{value + 1}"), "OK 1000\nYES\n" if "--script" in command else wanted)
+                for command, wanted in drill]
+    same("CAS" in "".join(command for command, _ in changing), True, "that the page's drill reads the word 0")
+    type_block(drill, ROOM)
+    type_block(changing, ROOM)
+    same(word(unit), value, "the word after a drill beside the server")
+    end(unit)
+    type_block(changing, ROOM)
+    begin(unit)
+    same(word(unit), value, "the word after a drill without a server")
+
+
+def try_drill_in_service(unit: Unit, second: Block, value: int) -> None:
+    """The page's commands that restore a copy as a second tenant, which goes after."""
+    text = (ROOM / "tenants").read_text()
+    type_block(second, ROOM)
+    same(run("mondlexi", unit.listen, "u", "get", "0"), f"{value}\n", "the word of a copy that was restored as a second tenant")
+    end(unit)
+    (ROOM / "tenants").write_text(text)
+    (ROOM / "u.mw").unlink()
+    begin(unit)
+
+
+def try_tenants_file(unit: Unit, restore: Block, value: int) -> None:
+    """The tenants file of a backup goes back in the way in which the page restores a tenant's file."""
+    text = (ROOM / "tenants").read_text()
+    (ROOM / "tenants").write_text("u 2 1 u.mw\n")
+    way = [(command.replace("t.new", "tenants.new").replace("today/t.mw", "today/tenants.served").replace(" t.mw", " tenants"), wanted)
+           for command, wanted in restore]
+    same("mv tenants.new tenants &&" in "".join(command for command, _ in way), True, f"the way of the tenants file in {way}")
+    type_block(way, ROOM)
+    wait_until("the server after its tenants file was restored", lambda: is_up(unit))
+    same(((ROOM / "tenants").read_text(), word(unit)), (text, value), "the tenants file that was restored, and the word")
+
+
+def try_page(unit: Unit) -> None:
+    """The page's commands for a backup of a server that serves, and of a stopped one, for drills, to restore it, when a tenant is down,
+    and for more words. The tenants file has an absolute path."""
+    text = (ROOM / "tenants").read_text()
+    (ROOM / "tenants").write_text(text.replace(" t.mw\n", f" {ROOM}/t.mw\n"))
+    begin(unit)
+    try_to_talk(unit)
+    value = word(unit)
+    backup, restore, second = stopping_blocks()
+    serving, drill = (next(it for it in blocks("Backup") if any(word_of in command for command, _ in it)) for word_of in ("--unix-socket", "--script"))
+    type_block(serving, ROOM)
+    same(f"word 0 {value}" in run("mwshow", "/backup/today/t.mw").splitlines(), True, "the word 0 of a backup while it serves")
+    type_block(backup, ROOM)
+    wait_until("the server after a backup", lambda: is_up(unit))
+    try_drill(unit, drill, value)
+    try_to_talk(unit)
+    type_block(restore, ROOM)
+    wait_until("the server after that was restored", lambda: is_up(unit))
+    same(word(unit), value, "the word of a backup that was restored")
+    try_tenants_file(unit, restore, value)
+    try_drill_in_service(unit, second, value)
+    type_block(blocks("When a tenant is down")[0], ROOM)
+    same(state(unit.name), ("inactive", "success"), "the unit while a tenant is mended")
+    type_block(blocks("Changing tenants")[0], ROOM)
+    wait_until("the server after the tenant has grown", lambda: is_up(unit))
+    with client(unit) as at:
+        same((at.words, at.get(0)), (2000, value), "the tenant that has grown")
+    print("the page's commands for a backup of a server that serves, and of a stopped one, for drills, to restore it, when a tenant is down, and for more words")
+
+
+# Upgrades
+
+
+BEFORE = """#!/bin/sh
+set -e
+[ ! -d /run/systemd/system ] || systemctl stop mondlexi.service mondlexi-local.service
+"""
+"""The script by which the package of version 0.2.0 stopped its units, before an upgrade too."""
+
+
+def package_before(deb: str) -> str:
+    """A package of the version before: this one with the scripts that it had."""
+    tree = Path("/root/before")
+    run("dpkg-deb", "--raw-extract", deb, tree)
+    control = (tree / "DEBIAN/control").read_text()
+    (tree / "DEBIAN/control").write_text(re.sub(r"(?m)^Version: .*$", "Version: 0.1", control))
+    (tree / "DEBIAN/prerm").write_text(BEFORE)
+    for name in ("preinst", "postinst", "postrm"):
+        (tree / "DEBIAN" / name).unlink()
+    run("dpkg-deb", "-Zgzip", "-z1", "--build", tree, "/root/before.deb")
+    return "/root/before.deb"
+
+
+def try_way_back(unit: Unit, before: str) -> None:
+    """By the page: copies of a stopped server, the package of the version before, and the copies again. What was changed since is gone."""
+    backup, restore, _ = stopping_blocks()
+    type_block(backup, ROOM)
+    wait_until("the server after copies for the way back", lambda: is_up(unit))
+    value = word(unit)
+    try_to_talk(unit)
+    end(unit)
+    run("dpkg", "--install", before)
+    type_block(restore, ROOM)
+    wait_until("the server of the version before", lambda: is_up(unit))
+    same((run("dpkg-query", "--show", "--showformat", "${Version}", "mondlexi"), word(unit)), ("0.1", value), "the version before, and its word")
+
+
+def try_upgrades(unit: Unit, deb: str) -> None:
+    """A package over a running service: it serves the same words after, by a new server. One that doesn't run isn't started. The options stay."""
+    value = try_to_talk(unit)
+    OPTIONS.write_text(OPTIONS.read_text().replace("--clients 256", "--clients 300"))
+    chosen = OPTIONS.read_text()
+    before = package_before(deb)
+    for what, first in (("the same version", deb), ("the version before", before)):
+        server = main_process(unit.name)
+        if first == before:
+            run("dpkg", "--install", before)
+            same((main_process(unit.name), word(unit)), (server, value), "the server after a package whose scripts start nothing")
+        run("dpkg", "--install", deb)
+        same((main_process(unit.name) not in (0, server), word(unit), servers()), (True, value, [str(main_process(unit.name))]), f"an upgrade from {what}")
+        same((OPTIONS.read_text(), "--clients\x00300" in Path(f"/proc/{main_process(unit.name)}/cmdline").read_text()), (chosen, True), "the options")
+    end(unit)
+    run("dpkg", "--install", deb)
+    same((state(unit.name), servers()), (("inactive", "success"), []), "a unit that was stopped, after an upgrade")
+    begin(unit)
+    (ROOM / "t.mw").rename(ROOM / "t.away")
+    told = ended("dpkg", "--install", deb)
+    same((told.returncode, f"mondlexi: {unit.name}.service doesn't start" in told.stdout), (0, True), f"an upgrade whose server doesn't start: {told.stdout}")
+    (ROOM / "t.away").rename(ROOM / "t.mw")
+    begin(unit)
+    try_way_back(unit, before)
+    run("dpkg", "--install", deb)
+    try_to_talk(unit)
+    print("upgrades: a server that runs is restarted, also from the version before; one that was stopped stays so; one that doesn't start is told of; "
+          "the options are kept; the version before comes back with the copies, by the page's commands")
