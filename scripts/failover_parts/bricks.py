@@ -107,18 +107,21 @@ class Recorder:
 
     def __init__(self, host: Host, brick: Path):
         self.host, self.brick, self.log = host, brick, host.disk / "record"
-        numbers = [str(number) for number, line in host.processes().items() if PROGRAM in line.split()[0]]
+        numbers = [number for number, line in host.processes().items() if PROGRAM in line.split()[0]]
+        if len(numbers) != 1:
+            raise Wrong(f"{host.name} has {len(numbers)} programs of replicas")
         words = ["strace", "-f", "-y", "-xx", "--absolute-timestamps=format:unix,precision:ns", "-s", str(LONGEST), "-e", f"trace={CALLS}",
-                 "-e", "signal=none", "-o", str(self.log), *(word for number in numbers for word in ("-p", number))]
+                 "-e", "signal=none", "-o", str(self.log), "-p", str(numbers[0])]
         self.process = subprocess.Popen(words, stdin=subprocess.DEVNULL, stderr=subprocess.PIPE)
         assert self.process.stderr
-        for _ in numbers:
-            if b"attached" not in self.process.stderr.readline():
-                raise Wrong(f"strace does not record the replica of {host.name}")
+        if b"attached" not in self.process.stderr.readline():
+            raise Wrong(f"strace does not record the replica of {host.name}")
         # (What was written before is synced; what is written from now on is in the record.)
         run("sync", "--file-system", brick)
         self.before = {path.stat().st_ino: path.read_bytes() for path in plain_files(brick)}
-        self.ahead = time_ns() - monotonic_ns()
+        self.since = time_ns()
+        """From when on a write is in these bytes only if the record has it before."""
+        self.ahead = self.since - monotonic_ns()
         """By how much the system's time is ahead of the clock of the clients' requests, in nanoseconds."""
         self.files: List[RecordedFile] = []
 

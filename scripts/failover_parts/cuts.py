@@ -34,7 +34,7 @@ def file_of(recorder: Recorder) -> RecordedFile:
 def moments_of(recorder: Recorder, load: Load, dice: random.Random, lies: bool) -> List[Moment]:
     """Some moments, each just before a call on the tenant's file."""
     file, tenant = file_of(recorder), Tenant(TENANT, WORDS, QUOTA, QUOTA)
-    calls = [*file.calls.writes, *file.calls.syncs]
+    calls = [it for it in (*file.calls.writes, *file.calls.syncs) if it.at > recorder.since]
     requests = sorted(load.requests, key=lambda it: it.sent)
     return [Moment(tenant, load.first, requests, it.at - recorder.ahead, file.calls.disk(file.before, it.begun, lies))
             for it in dice.sample(calls, min(MOMENTS, len(calls)))]
