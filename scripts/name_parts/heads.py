@@ -10,6 +10,9 @@ Used by: scripts/check-names. faults() tells what is wrong of the crates' files:
   crates.txt alone. What follows a name is not read.
 - A list of a page names each other crate that imports the page, or says 'many crates from mw_a on': more than MOST_NAMED,
   of which mw_a is the lowest. It need not name pages beside it, nor all functions.
+- The head of a file of src/ names each other crate that imports a public name of the file by `use`, in its list if it has one.
+  That of a crate's root names each that imports anything of the crate. Crates of tests are left out. The head may say that the
+  crates are many, as a page does, or 'among others' or 'Every layer uses'.
 - `f` (src/a.rt) in the head of a proof is a function of that file, and 'the law `f`' one of the crate.
 - A name that a document cites, as in 'docs/PROMISES cites `f`', is in backquotes in that document.
 
@@ -35,6 +38,11 @@ SENTENCE = re.compile(r"(?:(?<=[.])|(?<=[.][)]))\s+(?=[A-Z`\[(]|mw_|docs/|specs/
 LIST = re.compile(r"Used by:? (.*?)[.:]?")
 BETWEEN = re.compile(r"(?:, and |; |, | and )(?![^()]*\))")
 NAMED = re.compile(r"(?:and |by )*(?:`([^`]+)`.*|([\w:./-]+)(?: \(.*\))?)")
+PUBLIC = re.compile(r"^pub (?:const )?(?:unsafe )?(?:fn|struct|trait|enum|type|const) (\w+)", re.M)
+USE = re.compile(r"^ *(?:pub )?use (\w+)::(?:\{([^}]*)\}|(\w+))", re.M)
+TAKEN = re.compile(r"(\w+)(?: as \w+)?")
+ROOTS = ("/src/lib.rt", "/src/main.rt")
+REST = ("among others", "Every layer uses")
 MANY = re.compile(r"many crates from (\w+) on")
 PLACED = re.compile(r"`([^`]+)` \((src/[\w/]+\.rt)\)")
 LAW = re.compile(r"Proves the law `(\w+)`")
@@ -69,12 +77,17 @@ class Heads:
         self.words = {path: set(WORD.findall(text)) for path, text in texts.items() if path.endswith(".rt")}
         self.defined = {path: set(DEFINED.findall(texts[path])) for path in self.words}
         self.importers, self.imported, self.crates = defaultdict(set), defaultdict(set), defaultdict(list)
+        self.takers = defaultdict(set)
         for path, text in texts.items():
             self.crates[crate_of(path)].append(path)
             found = set(IMPORT.findall(text))
             self.imported[crate_of(path)].update(crate for crate, _, _ in found)
             for page in {self.page(*names) for names in found} - {None, path}:
                 self.importers[page].add(path)
+            for crate, several, one in USE.findall(text):
+                self.imported[crate_of(path)].add(crate)
+                for name in TAKEN.findall(several or one):
+                    self.takers[crate, name].add(crate_of(path))
         self.missing = []
 
     def page(self, crate, kind, rest):
@@ -100,17 +113,22 @@ class Heads:
     def not_used(self, path, name):
         self.tell(path, f"is not used by {name}, which its head names")
 
+    def names_crates(self, path, crates, text, names):
+        """The crates that use a file are among the names of this text of its head, or the text says that they are many."""
+        many = MANY.search(text)
+        if many:
+            if len(crates) <= MOST_NAMED or min(crates, key=self.order.index) != many.group(1):
+                self.tell(path, f"is used by {len(crates)} crates, not by many from {many.group(1)} on")
+        elif not any(rest in text for rest in REST):
+            others = sorted(crates.difference(names))
+            if others:
+                self.tell(path, f"is used by {', '.join(others)}, which its head does not name")
+
     def users_of_page(self, path, items):
         """A list of users in a page of specs/ or proofs/."""
         above = {crate_of(user) for user in self.importers[path]} - {crate_of(path)}
         names = [name.group(1) or name.group(2) for name in map(NAMED.fullmatch, items) if name]
-        lowest = next((many.group(1) for many in map(MANY.fullmatch, items) if many), None)
-        if lowest:
-            if len(above) <= MOST_NAMED or min(above, key=self.order.index) != lowest:
-                self.tell(path, f"is used by {len(above)} crates, not by many from {lowest} on")
-        elif "among others" not in items:
-            for other in sorted(above.difference(names)):
-                self.tell(path, f"is used by {other}, which its head does not name")
+        self.names_crates(path, above, ", ".join(items), names)
         for name in names:
             self.user_of_page(path, name)
 
@@ -130,6 +148,17 @@ class Heads:
             self.tell(path, f"`{name}` is no file, function, type or crate")
         elif is_proof and importers and last[0].islower() and not any(f"/{last}/" in user for user in importers):
             self.not_used(path, f"the proof of {name}")
+
+    def crates_of_source(self, path, text):
+        """The head of a file of src/ names the crates that import from it."""
+        crate = crate_of(path)
+        if path.endswith(ROOTS):
+            users = {user for user, crates in self.imported.items() if crate in crates}
+        else:
+            users = set().union(*(self.takers[crate, name] for name in PUBLIC.findall(self.texts[path])))
+        users = {user for user in users - {crate} if not user.endswith("_tests")}
+        lists = " ".join(sentence for sentence in SENTENCE.split(text) if sentence.startswith("Used by")) or text
+        self.names_crates(path, users, lists, WORD.findall(lists))
 
     def users_of_module(self, path, items):
         """A list of users in a file of src/, where a name has backquotes or is a crate."""
@@ -182,6 +211,8 @@ class Heads:
             self.users_of_page(path, [])
         if "/proofs/" in path:
             self.functions(path, text)
+        if "/src/" in path:
+            self.crates_of_source(path, text)
 
     def all(self):
         for path in self.heads:

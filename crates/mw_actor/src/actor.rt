@@ -1,7 +1,7 @@
 //! A request as a state machine: it is asked for its next step, told what the step found, and at last has its reply.
 //!
-//! mw_engine makes one for each request, and mw_core runs it; mw_simulator has one for each busy worker. It must ask
-//! what `specs/Asks` says, and go where `specs/Program` says.
+//! Used by: many crates from mw_rule on. mw_engine makes one for each request, and mw_core runs it; mw_simulator has
+//! one for each busy worker. It must ask what `specs/Asks` says, and go where `specs/Program` says.
 ghost use Rattle.std.specs.Prelude.{◌≡◌, ◌≤◌, ◌<◌};
 ghost use Rattle.mw_words.specs.declared.limits.TheConstants.{MAX_POOL, MAX_WORKERS};
 ghost use Rattle.mw_look.specs.Steps.{op_of, place};

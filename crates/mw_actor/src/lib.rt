@@ -24,8 +24,8 @@
 //! there) with its parts `Admission`, `Inspection`, `Help`, `ReleasePhase` and `RequestEnds`, and `specs/Ranges`.
 //! mw_law_runs says what holds of all runs of a request.
 //!
-//! Used by: mw_core, on the shared words of threads; mw_simulator, in memory. docs/STEPS tells the algorithm; a
-//! change of it changes `specs/Program` and the laws of the world.
+//! Used by: many crates from mw_world on. mw_core runs the machine on the shared words of threads, mw_simulator in
+//! memory. docs/STEPS tells the algorithm; a change of it changes `specs/Program` and the laws of the world.
 #![tactic(auto)]
 
 mod actor;

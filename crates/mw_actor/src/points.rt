@@ -1,7 +1,9 @@
 //! The points of a request's program (its program counter), each with what the request must know there.
 //!
-//! `actor.rt` goes from point to point. A new point needs a case in `specs/Asks`, `specs/Program`, `specs/Parts`,
-//! `specs/Stages` and `specs/Ranges`, and in each law of requests.
+//! Used by: many crates from mw_world on; `actor.rt` goes from point to point. A new point needs a case in
+//! `specs/Asks`, `specs/Program`, `specs/Parts`, `specs/Stages` and `specs/Ranges`, and in each law of requests. Many
+//! of these laws have a last case for all other points, which takes a new one silently, as in
+//! `specs/Knowledge/Points` and `specs/Counts/Ready` of mw_law_runs; so does `step_labels.rt` of mw_world_memory.
 
 use mw_look::Look;
 use mw_words::{Door, Gate, Reply};

@@ -103,9 +103,6 @@ own_listed facts book file SealCall slot entries finds = refl
 own_listed facts book file SettleCall slot entries finds = settle_listed facts book file slot finds
 own_listed facts book file CancelCall slot entries finds = refl
 
-pub makes_listed : {D : Type 0} (facts : D → Facts) → AloneMakesListedCalls facts
-makes_listed facts book file call slot entries finds written none = let listed = own_listed facts book file call slot entries finds in omega (arith, listed, none)
-
 none_ahead_after : {D : Type 0} (facts : D → Facts) (old : Book D) (file : File) (call : Call) (slot : ℕ) (answer : Filed) → FindsAlone facts old file call slot → (place : ℕ)
     → ahead_after call slot old answer place ≡ false
 none_ahead_after facts old file PrepareCall slot answer finds place = finds.none_ahead place
@@ -128,6 +125,12 @@ none_waits old call slot entries = by (makes_calls old call slot entries) (min M
   by : (b : Bool) (n : ℕ) → (if b then take n (filter (is_ready old.words (states_in old.held) old.table old.places slot) []) else []) ≡ []
   by true n = nothing n
   by false n = refl
+
+pub makes_listed : {D : Type 0} (facts : D → Facts) → AloneMakesListedCalls facts
+makes_listed facts book file call slot entries finds =
+    let none : length (written_by book call slot entries []) ≡ 0 = ap length (none_waits book call slot entries) in
+    let own = own_listed facts book file call slot entries finds in
+    omega (arith, none, own)
 
 pub leaves_none_prepared : {D : Type 0} (facts : D → Facts) → AloneLeavesNonePrepared facts
 leaves_none_prepared facts old new file call slot entries answer finds filed other those = filed.records other those ∙ by answer where

@@ -43,7 +43,7 @@ use Rattle.mw_book.specs.Crashes.{LeavesEither}
 use Rattle.mw_book.specs.Ends.{FailedAt, calls_on, prepare_calls, settle_calls}
 use Rattle.mw_book.specs.CallOutcome.{IsFiled}
 use Rattle.mw_book.specs.PreparedAhead.{are_writes_of, has_written, is_for, is_written}
-use Rattle.mw_book.specs.RecordsAhead.{any_below, count_below, first_ready, free_places, is_free, place_lost, written_by}
+use Rattle.mw_book.specs.RecordsAhead.{any_below, count_below, first_ready, free_places, is_free, makes_calls, place_lost, places_left, written_by}
 use Rattle.mw_book.specs.SettledAhead.{ahead_after, ahead_by_settle}
 use Rattle.mw_book.specs.Permits.{HasPlace, is_vacant, vacant_place}
 use Rattle.mw_book.specs.OpenFile.{states_in, disk_in, OnDisk}
@@ -53,7 +53,7 @@ use Rattle.mw_book.proofs.FoundPlaces.{found_at, free_of, vacant_plain, vacant_s
 use Rattle.mw_book.proofs.PlacedAhead.{IsFresh, fresh_or_same, placed_beside, placed_settled}
 use Rattle.mw_book.proofs.PlacesAhead.{placed_let_go}
 use Rattle.mw_book.proofs.RepresentedFiles.{shows_parts, on_disk, on_same, leaves_either, untouched, failed_as, placed_in, keeps_in, certain, same_place, place_within, plain_at, writes_called}
-use Rattle.mw_book.proofs.RecordsAhead.{any_same, broken_records, free_from_first, free_past, has_any, has_parts, lost_needed, made_many, made_records, none_by, none_needed, not_written, same_records}
+use Rattle.mw_book.proofs.RecordsAhead.{any_same, broken_records, chosen_by, free_from_first, free_past, has_any, has_parts, lost_needed, made_records, none_by, none_needed, not_written, same_records}
 use Rattle.mw_book.proofs.StagedPlaces.{placed_on, placed_as, staged_by}
 
 -- the same fact, if the call is known by another name
@@ -82,7 +82,7 @@ pub refused : {D : Type 0} (facts : D → Facts) (call : Call) (slot : ℕ) (ent
     → (call ≡ CancelCall → ⊥) → IsFiled facts call slot entries waiting old old Untouched
 refused facts call slot entries waiting old failed fails other = record {
   records = λ s es. refl;
-  counts = λ is. absurd (let e : Untouched ≡ Made = is in cc);
+  counts = tt;
   ahead = same_ahead call Untouched slot old (λ is. absurd (let e : Untouched ≡ Made = is in cc));
   ends = λ file shows. record { refused = fails file ∙ shows.same_failed ∙ failed; same = refl };
   answers = record { refused = refused_so call old.has_failed other ∙ failed; same = refl };
@@ -123,15 +123,16 @@ listed_some CancelCall entries other = absurd (other refl)
 failed_within : (calls well : ℕ) → well < calls → is_made calls (well + 1) ≡ true
 failed_within calls well fewer = and_from (nat_le 1 (well + 1)) (nat_le (well + 1) calls) (le-leb 1 (well + 1) (omega arith)) (le-leb (well + 1) calls (omega (arith, fewer)))
 
--- The number in the world of a device call that failed: its own, if the run is as long as the world lists it.
-record Numbered (calls listed well : ℕ) : Type 0 where
+-- The number in the world of a device call that failed after so many others, some of which wrote records ahead: its own, if the rest of
+-- the run is as long as the world lists it.
+record Numbered (ahead calls listed well : ℕ) : Type 0 where
   number : ℕ
   within : is_made listed number ≡ true
-  own : calls ≡ listed → well + 1 ≡ number
+  own : calls ≡ listed → well - ahead + 1 ≡ number
 
-numbered : (calls listed well : ℕ) → well < calls → 1 ≤ listed → Numbered calls listed well
-numbered calls listed well fewer some = elim (cases_eq calls listed) [
-  | inl same ↦ record { number = well + 1; within = failed_within listed well (omega (arith, same, fewer)); own = λ is. refl }
+numbered : (ahead calls listed well : ℕ) → well < ahead + calls → 1 ≤ listed → Numbered ahead calls listed well
+numbered ahead calls listed well fewer some = elim (cases_eq calls listed) [
+  | inl same ↦ record { number = well - ahead + 1; within = failed_within listed (well - ahead) (omega (arith, same, fewer, some)); own = λ is. refl }
   | inr apart ↦ record { number = 1; within = failed_within listed 0 (omega (arith, some)); own = λ is. absurd (apart is) }
 ]
 
@@ -160,34 +161,65 @@ module _ {D : Type 0} (facts : D → Facts) (old new : Book D) (held now : Tenan
   still : (contents : List ℕ) (doubt : Pairs) → (IsTrue (facts (disk_of held)).honest → RecoversTo facts now contents doubt) → IsTrue (facts (disk_of now)).honest → RecoversTo facts now contents doubt
   still contents doubt keeps honest = keeps (was_honest (facts (disk_of held)) (facts (disk_of now)) later honest)
 
+  -- a call that may take each free place writes the records that were chosen
+  as_many : (call : Call) (slot : ℕ) (entries : List Entry) (waiting : List Waiting) (next : PlaceTable) (changes : List NewChange)
+      → AreAhead old.table next old.places changes (first_ready old.words (states_of held) old.table old.places slot (free_within (states_of held) old.table 0 old.places) waiting)
+      → free_places old ≡ places_left old call → makes_calls old call slot entries ≡ true → length changes ≡ length (written_by old call slot entries waiting)
+  as_many call slot entries waiting next changes ahead left calls =
+      ahead.many
+      ∙ ap length (chosen_by call slot entries waiting old held (free_within (states_of held) old.table 0 old.places) is_old
+      (free_from_first (states_of held) old.table old.places ∙ ap (λ h. count_below (is_free (states_in h) old.table) old.places) (sym is_old) ∙ left) calls)
+
+  -- A place that is vacant, and has no change that is prepared ahead, is free. Those past it are left.
+  room_left : (place : ℕ) → place ≡ vacant_place (states_of held) old.table old.places → is_prepared_ahead old.table place ≡ false → HasPlace (states_of held) old.table old.places
+      → (1 ≤ free_places old) × (free_within (states_of held) old.table (place + 1) old.places ≡ free_places old - 1)
+  room_left place is off room =
+      let used : place < old.places = (let lt = room in omega (arith, is, lt)) in
+      let free : is_free (states_of held) old.table place ≡ true =
+      ap (λ b. b && not (is_prepared_ahead old.table place)) (ap (is_vacant (states_of held) old.table) is ∙ vacant_so (states_of held) old.table old.places room) ∙ ap not off in
+      let past = free_past (states_of held) old.table old.places place is used free in
+      let all_free : free_places old ≡ count_below (is_free (states_of held) old.table) old.places = ap (λ h. count_below (is_free (states_in h) old.table) old.places) is_old in
+      (omega (arith, past, all_free), omega (arith, past, all_free))
+
+  -- a prepare leaves the vacant place to its own record, and writes those that were chosen for the others
+  as_many_beside : (slot place : ℕ) (entries : List Entry) (waiting : List Waiting) (next : PlaceTable) (changes : List NewChange) → place ≡ vacant_place (states_of held) old.table old.places
+      → is_prepared_ahead old.table place ≡ false → HasPlace (states_of held) old.table old.places → has_written old slot entries ≡ false
+      → AreAhead old.table next old.places changes (first_ready old.words (states_of held) old.table old.places slot (free_within (states_of held) old.table (place + 1) old.places) waiting)
+      → length changes ≡ length (written_by old PrepareCall slot entries waiting)
+  as_many_beside slot place entries waiting next changes is off room none ahead =
+      let left = (room_left place is off room).1 in
+      ahead.many ∙ ap length (chosen_by PrepareCall slot entries waiting old held (free_within (states_of held) old.table (place + 1) old.places) is_old left (ap not none))
+
   -- a device call failed
   module _ (parts : HasParts new (Some now) old.words old.places old.place_of old.table true) (sound : old.has_failed ≡ false) (calls : ℕ) (met : MetFault facts calls held now)
-      (call : Call) (slot : ℕ) (entries : List Entry) (written : ℕ) (waiting : List Waiting) (few : written ≤ length waiting) (none_lost : place_lost old call slot entries ≡ old.places) (other : call ≡ CancelCall → ⊥) (fails : (file : File) → fails_on call file ≡ file.has_failed) where
-    pub broke : ((entries_there : List Entry) → calls ≡ written + calls_on old call slot entries entries_there)
+      (call : Call) (slot : ℕ) (entries : List Entry) (waiting : List Waiting) (none_lost : place_lost old call slot entries ≡ old.places) (other : call ≡ CancelCall → ⊥) (fails : (file : File) → fails_on call file ≡ file.has_failed) where
+    pub broke : ((entries_there : List Entry) → calls ≡ length (written_by old call slot entries waiting) + calls_on old call slot entries entries_there)
         → ((file : File) → Represents facts old file → IsTrue (facts (disk_of held)).honest → RecoversTo facts now file.contents (pairs_of (doubt_of call (entries_at file (place_for call file old.places slot)))))
         → ((file : File) → Represents facts old file → LeavesEither file.contents (at_stake call file (place_for call file old.places slot)) (facts (disk_of held)) (facts (disk_of now)))
         → IsFiled facts call slot entries waiting old new Broken
     broke many keeps leaves = record {
-      counts = λ is. absurd (let e : Broken ≡ Made = is in cc);
+      counts = on_disk facts (Bad (length (written_by old call slot entries waiting) + calls_on old call slot entries entries)) old.held new.held held now is_old parts.is_held
+          (subst (λ n. Bad n (facts (disk_of held)) (facts (disk_of now))) (many entries) met.made);
       records = broken_records call slot entries waiting old new none_lost (λ s es.
           has_parts new (Some now) old.words old.places old.place_of old.table true parts s es ∙ ap (λ states. any_below (is_written states old.table s es) old.places) met.states
           ∙ ap (λ h. any_below (is_written (states_in h) old.table s es) old.places) (sym is_old) ∙ sym (has_any old s es));
       ends = λ file shows.
           let place : ℕ = place_for call file old.places slot in
           let doubt : List Entry = doubt_of call (entries_at file place) in
+          let ahead : ℕ = length (written_by old call slot entries waiting) in
+          let own : ℕ = calls_on old call slot entries (entries_at file place) in
           let listed : ℕ = device_calls call (entries_at file place) in
-          let so : Numbered calls listed met.made.well = numbered calls listed met.made.well met.made.fewer (listed_some call (entries_at file place) other) in
+          let all : calls ≡ ahead + own = many (entries_at file place) in
+          let so : Numbered ahead own listed met.made.well =
+          numbered ahead own listed met.made.well (let fewer = met.made.fewer in omega (arith, fewer, all)) (listed_some call (entries_at file place) other) in
           record {
             began = fails file ∙ shows.same_failed ∙ sound;
             number = so.number;
             within = so.within;
-            written = written;
-            few = few;
-            failed = on_disk facts (Bad (written + calls_on old call slot entries (entries_at file place))) old.held new.held held now is_old parts.is_held
-                (subst (λ n. Bad n (facts (disk_of held)) (facts (disk_of now))) (many (entries_at file place)) met.made);
-            made = λ same. on_disk facts (FailedAt listed so.number) old.held new.held held now is_old parts.is_held
-                (subst (λ n. FailedAt n so.number (facts (disk_of held)) (facts (disk_of now))) (many (entries_at file place) ∙ same)
-                (record { failed = met.made; at = so.own (many (entries_at file place) ∙ same) }));
+            failed = on_disk facts (Bad (ahead + own)) old.held new.held held now is_old parts.is_held (subst (λ n. Bad n (facts (disk_of held)) (facts (disk_of now))) all met.made);
+            made = λ same.
+                let both = subst (λ n. (failed : Bad n (facts (disk_of held)) (facts (disk_of now))) × (failed.well - ahead + 1 ≡ so.number)) (all ∙ ap (λ n. ahead + n) same) (met.made, so.own same) in
+                on_disk facts (FailedAt ahead listed so.number) old.held new.held held now is_old parts.is_held (record { failed = both.0; at = both.1 });
             shows = shows_parts facts new (Some now) old.words old.places old.place_of old.table true (broken file doubt) parts (record {
               same_words = shows.same_words;
               same_places = placed_as (states_of held) (states_of now) old.table old.places file.places met.states (placed_in facts old held is_old file shows);
@@ -219,61 +251,40 @@ module _ {D : Type 0} (facts : D → Facts) (old new : Book D) (held now : Tenan
         subst (λ doubt. RecoversTo facts now file.contents doubt) (certain facts old held is_old file shows sound honest) (stays file shows honest).after
 
     -- a prepare in which the device failed
-    pub prepare_broken : (slot : ℕ) (entries : List Entry) (written : ℕ) (waiting : List Waiting) → written ≤ length waiting → 1 ≤ free_places old → HasParts new (Some now) old.words old.places old.place_of old.table true → old.has_failed ≡ false → has_written old slot entries ≡ false → MetFault facts (written + 2) held now
-        → IsFiled facts PrepareCall slot entries waiting old new Broken
-    prepare_broken slot entries written waiting few some parts sound none met =
-        broke parts sound (written + 2) met PrepareCall slot entries written waiting few (lost_needed old slot entries none ∙ none_needed old some) (λ is. let e : PrepareCall ≡ CancelCall = is in cc) (λ file. refl) (λ there. sym (ap (λ b. written + prepare_calls b there) none)) (stays_certain sound)
-        stays_safe
+    pub prepare_broken : (slot place : ℕ) (entries : List Entry) (waiting : List Waiting) (next : PlaceTable) (changes : List NewChange) → place ≡ vacant_place (states_of held) old.table old.places
+        → is_prepared_ahead old.table place ≡ false → HasPlace (states_of held) old.table old.places → has_written old slot entries ≡ false
+        → AreAhead old.table next old.places changes (first_ready old.words (states_of held) old.table old.places slot (free_within (states_of held) old.table (place + 1) old.places) waiting)
+        → HasParts new (Some now) old.words old.places old.place_of old.table true → old.has_failed ≡ false → MetFault facts (length changes + 2) held now → IsFiled facts PrepareCall slot entries waiting old new Broken
+    prepare_broken slot place entries waiting next changes is off room none ahead parts sound met =
+        let many = as_many_beside slot place entries waiting next changes is off room none ahead in
+        broke parts sound (length changes + 2) met PrepareCall slot entries waiting (lost_needed old slot entries none ∙ none_needed old (room_left place is off room).0) (λ is. let e : PrepareCall ≡ CancelCall = is in cc) (λ file. refl)
+        (λ there. ap (λ n. n + 2) many ∙ sym (ap (λ b. length (written_by old PrepareCall slot entries waiting) + prepare_calls b there) none)) (stays_certain sound) stays_safe
 
     pub prepare_made : (slot place : ℕ) (entries : List Entry) (waiting : List Waiting) (next : PlaceTable) (changes all : List NewChange) (top : ℕ) (own : NewChange) → all ≡ changes ++ own ∷ [] → place ≡ vacant_place (states_of held) old.table old.places
-        → is_prepared_ahead old.table place ≡ false → has_written old slot entries ≡ false → AreChosen old.words (states_of held) old.table old.places (place + 1) next changes top → length changes ≤ length waiting
+        → is_prepared_ahead old.table place ≡ false → has_written old slot entries ≡ false → AreChosen old.words (states_of held) old.table old.places (place + 1) next changes top
         → AreAhead old.table next old.places changes (first_ready old.words (states_of held) old.table old.places slot (free_within (states_of held) old.table (place + 1) old.places) waiting)
         → own.place.0 ≡ place_in_file old.table place → own.entries.items ≡ entries
         → HasParts new (Some now) old.words old.places (slice_set old.place_of slot place) next old.has_failed
         → old.has_failed ≡ false → slot < MAX_POOL → MAX_POOL ≤ length old.place_of → WentWell facts (length all + 1) held now
         → ArePrepared (states_of held) (states_of now) all → HasPlace (states_of held) old.table old.places
         → IsFiled facts PrepareCall slot entries waiting old new Made
-    prepare_made slot place entries waiting next changes all top own is_all is off none are fewer ahead number_is entries_are parts sound within long went_all staged_all room = record {
+    prepare_made slot place entries waiting next changes all top own is_all is off none are ahead number_is entries_are parts sound within long went_all staged_all room = record {
       records =
           let used : place < old.places = (let lt = room in omega (arith, is, lt)) in
-          let free : is_free (states_of held) old.table place ≡ true =
-          ap (λ b. b && not (is_prepared_ahead old.table place)) (ap (is_vacant (states_of held) old.table) is ∙ vacant_so (states_of held) old.table old.places room) ∙ ap not off in
-          let past = free_past (states_of held) old.table old.places place is used free in
-          let all_free : free_places old ≡ count_below (is_free (states_of held) old.table) old.places = ap (λ h. count_below (is_free (states_in h) old.table) old.places) is_old in
-          let some : 1 ≤ free_places old = omega (arith, past, all_free) in
-          let left : free_within (states_of held) old.table (place + 1) old.places ≡ free_places old - 1 = omega (arith, past, all_free) in
-          made_records PrepareCall slot entries waiting old new held now is_old next changes (free_within (states_of held) old.table (place + 1) old.places) ahead left (ap not none)
-          (lost_needed old slot entries none ∙ none_needed old some) are.same_places (front_of (λ d. writes_of_place (states_of now) d.place.0 ≡ pairs_of d.entries.items) changes own staged.writes_here)
+          made_records PrepareCall slot entries waiting old new held now is_old next changes (free_within (states_of held) old.table (place + 1) old.places) ahead (room_left place is off room).1 (ap not none)
+          (lost_needed old slot entries none ∙ none_needed old (room_left place is off room).0) are.same_places (front_of (λ d. writes_of_place (states_of now) d.place.0 ≡ pairs_of d.entries.items) changes own staged.writes_here)
           (λ k lt is_on. staged.writes_there (place_in_file old.table k) (All-push (λ d. d.place.0 ≢ place_in_file old.table k) changes own
           (ahead_nowhere old.words (states_of held) old.table old.places (place + 1) next changes top are old.permuted k lt is_on)
           (λ same. let here = old.permuted.apart place k used lt (sym number_is ∙ same) in let e : true ≡ false = sym is_on ∙ sym (ap (is_prepared_ahead old.table) here) ∙ off in cc)))
           (has_parts new (Some now) old.words old.places (slice_set old.place_of slot place) next old.has_failed parts);
-      counts = λ is_made.
-          let used : place < old.places = (let lt = room in omega (arith, is, lt)) in
-          let free : is_free (states_of held) old.table place ≡ true =
-          ap (λ b. b && not (is_prepared_ahead old.table place)) (ap (is_vacant (states_of held) old.table) is ∙ vacant_so (states_of held) old.table old.places room) ∙ ap not off in
-          let past = free_past (states_of held) old.table old.places place is used free in
-          let all_free : free_places old ≡ count_below (is_free (states_of held) old.table) old.places = ap (λ h. count_below (is_free (states_in h) old.table) old.places) is_old in
-          let some : 1 ≤ free_places old = omega (arith, past, all_free) in
-          let left : free_within (states_of held) old.table (place + 1) old.places ≡ free_places old - 1 = omega (arith, past, all_free) in
-          let many = made_many PrepareCall slot entries waiting old new held now is_old next changes (free_within (states_of held) old.table (place + 1) old.places) ahead left (ap not none)
-          (lost_needed old slot entries none ∙ none_needed old some) are.same_places (front_of (λ d. writes_of_place (states_of now) d.place.0 ≡ pairs_of d.entries.items) changes own staged.writes_here)
-          (λ k lt is_on. staged.writes_there (place_in_file old.table k) (All-push (λ d. d.place.0 ≢ place_in_file old.table k) changes own
-          (ahead_nowhere old.words (states_of held) old.table old.places (place + 1) next changes top are old.permuted k lt is_on)
-          (λ same. let here = old.permuted.apart place k used lt (sym number_is ∙ same) in let e : true ≡ false = sym is_on ∙ sym (ap (is_prepared_ahead old.table) here) ∙ off in cc)))
-          (has_parts new (Some now) old.words old.places (slice_set old.place_of slot place) next old.has_failed parts) in
-          on_disk facts (Good (length (written_by old PrepareCall slot entries waiting) + prepare_calls (has_written old slot entries) entries)) old.held new.held held now is_old parts.is_held
-          (subst (λ n. Good n (facts (disk_of held)) (facts (disk_of now))) (ap (λ n. n + 2) many ∙ ap (λ b. length (written_by old PrepareCall slot entries waiting) + prepare_calls b entries) (sym none)) went.made);
+      counts = good entries;
       ends = λ file shows.
           let placed = placed_in facts old held is_old file shows in
           let same = is ∙ found_at (states_of held) old.table old.places file placed in
           let used : place < old.places = (let lt = room in omega (arith, is, lt)) in
           record {
             began = shows.same_failed ∙ sound;
-            written = length changes;
-            few = fewer;
-            made = on_disk facts (Good (length changes + prepare_calls (has_written old slot entries) (entries_at file (place_for PrepareCall file old.places slot)))) old.held new.held held now is_old parts.is_held
-                (subst (λ b. Good (length changes + prepare_calls b (entries_at file (place_for PrepareCall file old.places slot))) (facts (disk_of held)) (facts (disk_of now))) (sym none) went.made);
+            made = good (entries_at file (place_for PrepareCall file old.places slot));
             shows = subst (λ p. Represents facts new (prepared file slot p entries)) same
                 (shows_parts facts new (Some now) old.words old.places (slice_set old.place_of slot place) next old.has_failed (prepared file slot place entries) parts (record {
                   same_words = shows.same_words;
@@ -303,6 +314,14 @@ module _ {D : Type 0} (facts : D → Facts) (old new : Book D) (held now : Tenan
       went : WentWell facts (length changes + 2) held now
       went = subst (λ n. WentWell facts n held now) (one_longer changes all own is_all) went_all
 
+      -- it made just its device calls
+      good : (there : List Entry) → OnDisk facts (Good (length (written_by old PrepareCall slot entries waiting) + prepare_calls (has_written old slot entries) there)) (disk_in old.held) (disk_in new.held)
+      good there =
+          on_disk facts (Good (length (written_by old PrepareCall slot entries waiting) + prepare_calls (has_written old slot entries) there)) old.held new.held held now is_old parts.is_held
+          (subst (λ n. Good n (facts (disk_of held)) (facts (disk_of now)))
+          (ap (λ n. n + 2) (as_many_beside slot place entries waiting next changes is off room none ahead)
+          ∙ ap (λ b. length (written_by old PrepareCall slot entries waiting) + prepare_calls b there) (sym none)) went.made)
+
       staged : ArePrepared (states_of held) (states_of now) (changes ++ own ∷ [])
       staged = subst (λ cs. ArePrepared (states_of held) (states_of now) cs) is_all staged_all
 
@@ -326,14 +345,12 @@ module _ {D : Type 0} (facts : D → Facts) (old new : Book D) (held now : Tenan
         → IsStaged (states_of held) (states_of now) (place_in_file old.table (place_at old slot)) FreeStage w → HasParts new (Some now) old.words old.places old.place_of old.table old.has_failed
         → (entries : List Entry) (waiting : List Waiting) → disk_of now ≡ disk_of held → IsFiled facts CancelCall slot entries waiting old new Made
     cancel_made slot within busy own w staged parts entries waiting same = record {
-      counts = λ is_made. on_disk facts (Good 0) old.held new.held held now is_old parts.is_held (subst (λ d. Good 0 (facts (disk_of held)) (facts d)) (sym same) (good_none (facts (disk_of held))));
+      counts = on_disk facts (Good 0) old.held new.held held now is_old parts.is_held (subst (λ d. Good 0 (facts (disk_of held)) (facts d)) (sym same) (good_none (facts (disk_of held))));
       records = same_records CancelCall slot entries waiting old new refl refl (λ s es.
           has_parts new (Some now) old.words old.places old.place_of old.table old.has_failed parts s es ∙ any_same (is_written (states_of now) old.table s es) (is_written (states_of held) old.table s es) old.places (still_written s es)
           ∙ ap (λ h. any_below (is_written (states_in h) old.table s es) old.places) (sym is_old) ∙ sym (has_any old s es));
       ends = λ file shows. record {
         began = refl;
-        written = 0;
-        few = omega arith;
         made = on_disk facts (Good 0) old.held new.held held now is_old parts.is_held
             (subst (λ d. Good 0 (facts (disk_of held)) (facts d)) (sym same) (good_none (facts (disk_of held))));
         shows = emptied_shown slot within busy old.table parts placed file shows;
@@ -371,28 +388,19 @@ module _ {D : Type 0} (facts : D → Facts) (old new : Book D) (held now : Tenan
       many_made = ap (λ h. roll_calls (states_in h)) (sym is_old) ∙ ap (λ flag. settle_calls flag (states_in old.held)) (sym plain)
 
       pub settle_made : (entries : List Entry) (waiting : List Waiting) (flags : List Bool) (next : PlaceTable) (changes : List NewChange) (top : ℕ) → AreChosen old.words (states_of held) old.table old.places 0 next changes top
-          → length changes ≤ length waiting → AreAhead old.table next old.places changes (first_ready old.words (states_of held) old.table old.places slot (free_within (states_of held) old.table 0 old.places) waiting) → HasParts new (Some now) old.words old.places old.place_of (record next { settled = flags }) old.has_failed
+          → AreAhead old.table next old.places changes (first_ready old.words (states_of held) old.table old.places slot (free_within (states_of held) old.table 0 old.places) waiting) → HasParts new (Some now) old.words old.places old.place_of (record next { settled = flags }) old.has_failed
           → ((place : ℕ) → flag_of flags place ≡ ahead_by_settle (states_of held) old.table (place_at old slot) place) → AreSettledWith (states_of held) (states_of now) changes
           → WentWell facts (length changes + roll_calls (states_of held)) held now → IsFiled facts SettleCall slot entries waiting old new Made
-      settle_made entries waiting flags next changes top chosen fewer ahead parts are settled went = record {
+      settle_made entries waiting flags next changes top chosen ahead parts are settled went = record {
         records =
             made_records SettleCall slot entries waiting old new held now is_old next changes (free_within (states_of held) old.table 0 old.places) ahead
             (free_from_first (states_of held) old.table old.places ∙ ap (λ h. count_below (is_free (states_in h) old.table) old.places) (sym is_old)) (ap not plain) refl chosen.same_places settled.writes_here
             (λ k lt is_on. settled.writes_there (place_in_file old.table k) (ahead_nowhere old.words (states_of held) old.table old.places 0 next changes top chosen old.permuted k lt is_on))
             (has_parts new (Some now) old.words old.places old.place_of (record next { settled = flags }) old.has_failed parts);
-        counts = λ is_made.
-            let many = made_many SettleCall slot entries waiting old new held now is_old next changes (free_within (states_of held) old.table 0 old.places) ahead
-            (free_from_first (states_of held) old.table old.places ∙ ap (λ h. count_below (is_free (states_in h) old.table) old.places) (sym is_old)) (ap not plain) refl chosen.same_places settled.writes_here
-            (λ k lt is_on. settled.writes_there (place_in_file old.table k) (ahead_nowhere old.words (states_of held) old.table old.places 0 next changes top chosen old.permuted k lt is_on))
-            (has_parts new (Some now) old.words old.places old.place_of (record next { settled = flags }) old.has_failed parts) in
-            on_disk facts (Good (length (written_by old SettleCall slot entries waiting) + settle_calls (is_settled old.table (place_at old slot)) (states_in old.held))) old.held new.held held now is_old parts.is_held
-            (subst (λ n. Good n (facts (disk_of held)) (facts (disk_of now))) (ap (λ n. n + roll_calls (states_of held)) many ∙ ap (λ n. length (written_by old SettleCall slot entries waiting) + n) many_made) went.made);
+        counts = good;
         ends = λ file shows. record {
           began = shows.same_failed ∙ sound;
-          written = length changes;
-          few = fewer;
-          made = on_disk facts (Good (length changes + settle_calls (is_settled old.table (place_at old slot)) (states_in old.held))) old.held new.held held now is_old parts.is_held
-              (subst (λ n. Good (length changes + n) (facts (disk_of held)) (facts (disk_of now))) many_made went.made);
+          made = good;
           shows = emptied_shown slot within (ap is_free_stage is_sealed_there) (record next { settled = flags }) parts placed file shows;
         };
         answers = record { began = sound; same_failed = parts.is_failed; faults = on_disk facts NoFault old.held new.held held now is_old parts.is_held went.made.faults };
@@ -403,16 +411,25 @@ module _ {D : Type 0} (facts : D → Facts) (old new : Book D) (held now : Tenan
         places = parts.is_places;
         ahead = λ place. ap (λ table. is_settled table place) parts.is_table ∙ are place ∙ ap (λ h. ahead_by_settle (states_in h) old.table (place_at old slot) place) (sym is_old);
       } where
+        -- it made just its device calls
+        good : OnDisk facts (Good (length (written_by old SettleCall slot entries waiting) + settle_calls (is_settled old.table (place_at old slot)) (states_in old.held))) (disk_in old.held) (disk_in new.held)
+        good =
+            on_disk facts (Good (length (written_by old SettleCall slot entries waiting) + settle_calls (is_settled old.table (place_at old slot)) (states_in old.held))) old.held new.held held now is_old parts.is_held
+            (subst (λ n. Good n (facts (disk_of held)) (facts (disk_of now)))
+            (ap (λ n. n + roll_calls (states_of held)) (as_many SettleCall slot entries waiting next changes ahead refl (ap not plain)) ∙ ap (λ n. length (written_by old SettleCall slot entries waiting) + n) many_made) went.made)
+
         placed : (file : File) → Represents facts old file → ArePlaced (states_of now) (record next { settled = flags }) old.places (upd file.places (place_at old slot) Empty)
         placed file shows =
             placed_settled old.words (states_of held) (states_of now) old.table next old.places 0 changes top chosen old.permuted file.places (placed_in facts old held is_old file shows)
             (place_at old slot) flags is_sealed_there plain are settled
 
-      pub settle_broken : (entries : List Entry) (written : ℕ) (waiting : List Waiting) → written ≤ length waiting → HasParts new (Some now) old.words old.places old.place_of old.table true → MetFault facts (written + roll_calls (states_of held)) held now
-          → IsFiled facts SettleCall slot entries waiting old new Broken
-      settle_broken entries written waiting few parts met =
-          broke parts sound (written + roll_calls (states_of held)) met SettleCall slot entries written waiting few refl (λ is. let e : SettleCall ≡ CancelCall = is in cc) (λ file. refl)
-          (λ there. ap (λ n. written + n) many_made) (stays_certain sound) stays_safe
+      pub settle_broken : (entries : List Entry) (waiting : List Waiting) (next : PlaceTable) (changes : List NewChange)
+          → AreAhead old.table next old.places changes (first_ready old.words (states_of held) old.table old.places slot (free_within (states_of held) old.table 0 old.places) waiting)
+          → HasParts new (Some now) old.words old.places old.place_of old.table true → MetFault facts (length changes + roll_calls (states_of held)) held now → IsFiled facts SettleCall slot entries waiting old new Broken
+      settle_broken entries waiting next changes ahead parts met =
+          broke parts sound (length changes + roll_calls (states_of held)) met SettleCall slot entries waiting refl (λ is. let e : SettleCall ≡ CancelCall = is in cc) (λ file. refl)
+          (λ there. ap (λ n. n + roll_calls (states_of held)) (as_many SettleCall slot entries waiting next changes ahead refl (ap not plain)) ∙ ap (λ n. length (written_by old SettleCall slot entries waiting) + n) many_made)
+          (stays_certain sound) stays_safe
 
   -- A seal, by its answer.
   module _ (slot : ℕ) (within : slot < MAX_POOL) (busy : is_free_stage (stage_in_file (states_of held) old.table (place_at old slot)) ≡ false) (own : is_prepared_ahead old.table (place_at old slot) ≡ false) (sound : old.has_failed ≡ false)
@@ -420,40 +437,34 @@ module _ {D : Type 0} (facts : D → Facts) (old new : Book D) (held now : Tenan
     safe_as : (file : File) → Represents facts old file → ChangeIsSealed facts held now (pairs_of (entries_at file (file.place_of slot))) r
     safe_as file shows = subst (λ w. ChangeIsSealed facts held now w r) (writes_called facts old held is_old file shows slot within busy own) safe
 
-    pub seal_broken : (entries : List Entry) (written : ℕ) (waiting : List Waiting) → written ≤ length waiting → is_err r ≡ true → FileEnds facts (written + 2) held now r → HasParts new (Some now) old.words old.places old.place_of old.table true → IsFiled facts SealCall slot entries waiting old new Broken
-    seal_broken entries written waiting few bad ends parts =
-        broke parts sound (written + 2) (met_fault facts (written + 2) held now r bad (failed_as facts old held is_old ∙ sound) ends) SealCall slot entries written waiting few refl (λ is. let e : SealCall ≡ CancelCall = is in cc) (λ file. refl)
-        (λ there. refl) (λ file shows honest. (left file shows honest).after)
+    pub seal_broken : (entries : List Entry) (waiting : List Waiting) (next : PlaceTable) (changes : List NewChange)
+        → AreAhead old.table next old.places changes (first_ready old.words (states_of held) old.table old.places slot (free_within (states_of held) old.table 0 old.places) waiting)
+        → is_err r ≡ true → FileEnds facts (length changes + 2) held now r → HasParts new (Some now) old.words old.places old.place_of old.table true → IsFiled facts SealCall slot entries waiting old new Broken
+    seal_broken entries waiting next changes ahead bad ends parts =
+        broke parts sound (length changes + 2) (met_fault facts (length changes + 2) held now r bad (failed_as facts old held is_old ∙ sound) ends) SealCall slot entries waiting refl (λ is. let e : SealCall ≡ CancelCall = is in cc) (λ file. refl)
+        (λ there. ap (λ n. n + 2) (as_many SealCall slot entries waiting next changes ahead refl refl)) (λ file shows honest. (left file shows honest).after)
         (λ file shows honest. leaves_either (facts (disk_of held)) (facts (disk_of now)) (length (states_of held)) file.contents (entries_at file (file.place_of slot)) (left file shows honest).moments) where
           left : (file : File) → Represents facts old file → IsTrue (facts (disk_of held)).honest
               → CrashSafe facts held now file.contents (pairs_of (entries_at file (file.place_of slot))) file.contents (pairs_of (entries_at file (file.place_of slot)))
           left file shows honest =
-              sealed_badly facts (written + 2) held now (pairs_of (entries_at file (file.place_of slot))) r bad (failed_as facts old held is_old ∙ sound) ends (safe_as file shows) honest
+              sealed_badly facts (length changes + 2) held now (pairs_of (entries_at file (file.place_of slot))) r bad (failed_as facts old held is_old ∙ sound) ends (safe_as file shows) honest
               file.contents (pairs_of file.doubt) (keeps_in facts old held is_old file shows honest)
 
-    pub seal_made : (entries : List Entry) (waiting : List Waiting) (next : PlaceTable) (changes : List NewChange) (top : ℕ) → AreChosen old.words (states_of held) old.table old.places 0 next changes top → length changes ≤ length waiting
+    pub seal_made : (entries : List Entry) (waiting : List Waiting) (next : PlaceTable) (changes : List NewChange) (top : ℕ) → AreChosen old.words (states_of held) old.table old.places 0 next changes top
         → AreAhead old.table next old.places changes (first_ready old.words (states_of held) old.table old.places slot (free_within (states_of held) old.table 0 old.places) waiting)
         → is_err r ≡ false → WentWell facts (length changes + 2) held now → stage_in_file (states_of held) old.table (place_at old slot) ≡ PreparedStage
         → IsSealedWith (states_of held) (states_of now) (place_in_file old.table (place_at old slot)) changes
         → HasParts new (Some now) old.words old.places old.place_of next old.has_failed → IsFiled facts SealCall slot entries waiting old new Made
-    seal_made entries waiting next changes top are fewer ahead well went was staged parts = record {
+    seal_made entries waiting next changes top are ahead well went was staged parts = record {
       records =
           made_records SealCall slot entries waiting old new held now is_old next changes (free_within (states_of held) old.table 0 old.places) ahead
           (free_from_first (states_of held) old.table old.places ∙ ap (λ h. count_below (is_free (states_in h) old.table) old.places) (sym is_old)) refl refl are.same_places staged.writes_here
           (λ k lt is_on. staged.writes_there (place_in_file old.table k) (ahead_nowhere old.words (states_of held) old.table old.places 0 next changes top are old.permuted k lt is_on))
           (has_parts new (Some now) old.words old.places old.place_of next old.has_failed parts);
-      counts = λ is_made.
-          let many = made_many SealCall slot entries waiting old new held now is_old next changes (free_within (states_of held) old.table 0 old.places) ahead
-          (free_from_first (states_of held) old.table old.places ∙ ap (λ h. count_below (is_free (states_in h) old.table) old.places) (sym is_old)) refl refl are.same_places staged.writes_here
-          (λ k lt is_on. staged.writes_there (place_in_file old.table k) (ahead_nowhere old.words (states_of held) old.table old.places 0 next changes top are old.permuted k lt is_on))
-          (has_parts new (Some now) old.words old.places old.place_of next old.has_failed parts) in
-          on_disk facts (Good (length (written_by old SealCall slot entries waiting) + 2)) old.held new.held held now is_old parts.is_held
-          (subst (λ n. Good n (facts (disk_of held)) (facts (disk_of now))) (ap (λ n. n + 2) many) went.made);
+      counts = good;
       ends = λ file shows. record {
         began = shows.same_failed ∙ sound;
-        written = length changes;
-        few = fewer;
-        made = on_disk facts (Good (length changes + 2)) old.held new.held held now is_old parts.is_held went.made;
+        made = good;
         shows = shown file shows;
       };
       answers = record { began = sound; same_failed = parts.is_failed; faults = on_disk facts NoFault old.held new.held held now is_old parts.is_held went.made.faults };
@@ -465,6 +476,12 @@ module _ {D : Type 0} (facts : D → Facts) (old new : Book D) (held now : Tenan
       places = parts.is_places;
       ahead = λ k. ap (λ table. is_settled table k) parts.is_table ∙ ap (λ flags. flag_of flags k) are.same_settled;
     } where
+      -- it made just its device calls
+      good : OnDisk facts (Good (length (written_by old SealCall slot entries waiting) + 2)) (disk_in old.held) (disk_in new.held)
+      good =
+          on_disk facts (Good (length (written_by old SealCall slot entries waiting) + 2)) old.held new.held held now is_old parts.is_held
+          (subst (λ n. Good n (facts (disk_of held)) (facts (disk_of now))) (ap (λ n. n + 2) (as_many SealCall slot entries waiting next changes ahead refl refl)) went.made)
+
       number : ℕ
       number = place_in_file old.table (place_at old slot)
 
@@ -513,27 +530,17 @@ module _ {D : Type 0} (facts : D → Facts) (old new : Book D) (held now : Tenan
             stands = still (put file.contents es) (pairs_of file.doubt) (stands file shows);
           })
 
-none_more : (n : ℕ) → n ≡ 0 + n
-none_more n = omega arith
-
 -- A settle of a change that was settled ahead: only its flag is cleared.
 pub settle_ahead : {D : Type 0} (facts : D → Facts) (old new : Book D) (slot : ℕ) (entries : List Entry) (waiting : List Waiting) (flags : List Bool) → slot < MAX_POOL → old.has_failed ≡ false
     → is_settled old.table (place_at old slot) ≡ true → HasParts new old.held old.words old.places old.place_of (record old.table { settled = flags }) old.has_failed
     → ((place : ℕ) → flag_of flags place ≡ ahead_by_settle (states_in old.held) old.table (place_at old slot) place) → IsFiled facts SettleCall slot entries waiting old new Made
 settle_ahead facts old new slot entries waiting flags within sound ahead parts are = record {
-  counts = λ is_made.
-      subst (λ n. OnDisk facts (Good n) (disk_in old.held) (disk_in new.held))
-      (sym (ap (λ ws. length ws + settle_calls (is_settled old.table (place_at old slot)) (states_in old.held)) (none_by old SettleCall slot entries waiting (ap not ahead)) ∙ ap (λ flag. 0 + settle_calls flag (states_in old.held)) ahead))
-      (subst (λ h. OnDisk facts (Good 0) (disk_in old.held) (disk_in h)) (sym parts.is_held) (on_same facts (Good 0) old.held good_none));
+  counts = good;
   records = same_records SettleCall slot entries waiting old new refl (ap not ahead) (λ s es.
       has_parts new old.held old.words old.places old.place_of (record old.table { settled = flags }) old.has_failed parts s es ∙ sym (has_any old s es));
   ends = λ file shows. record {
     began = shows.same_failed ∙ sound;
-    written = 0;
-    few = omega arith;
-    made = subst (λ n. OnDisk facts (Good n) (disk_in old.held) (disk_in new.held)) (none_more (settle_calls (is_settled old.table (place_at old slot)) (states_in old.held)))
-        (subst (λ h. OnDisk facts (Good (settle_calls (is_settled old.table (place_at old slot)) (states_in old.held))) (disk_in old.held) (disk_in h)) (sym parts.is_held)
-        (subst (λ flag. OnDisk facts (Good (settle_calls flag (states_in old.held))) (disk_in old.held) (disk_in old.held)) (sym ahead) (on_same facts (Good 0) old.held good_none)));
+    made = good;
     shows = subst (λ p. Represents facts new (emptied file p)) (sym (shows.same_place_of slot within))
         (shows_parts facts new old.held old.words old.places old.place_of (record old.table { settled = flags }) old.has_failed (emptied file (place_at old slot)) parts (record {
           same_words = shows.same_words;
@@ -550,4 +557,10 @@ settle_ahead facts old new slot entries waiting flags within sound ahead parts a
   words = parts.is_words;
   places = parts.is_places;
   ahead = λ place. ap (λ table. is_settled table place) parts.is_table ∙ are place;
-}
+} where
+  -- it made no device call
+  good : OnDisk facts (Good (length (written_by old SettleCall slot entries waiting) + settle_calls (is_settled old.table (place_at old slot)) (states_in old.held))) (disk_in old.held) (disk_in new.held)
+  good =
+      subst (λ n. OnDisk facts (Good n) (disk_in old.held) (disk_in new.held))
+      (sym (ap (λ ws. length ws + settle_calls (is_settled old.table (place_at old slot)) (states_in old.held)) (none_by old SettleCall slot entries waiting (ap not ahead)) ∙ ap (λ flag. 0 + settle_calls flag (states_in old.held)) ahead))
+      (subst (λ h. OnDisk facts (Good 0) (disk_in old.held) (disk_in h)) (sym parts.is_held) (on_same facts (Good 0) old.held good_none))

@@ -1,6 +1,6 @@
 -- What is prepared ahead after a call, by the changes that were chosen, by the places whose writes stay, and by the place
 -- that is lost.
--- Used by: Book::write_down, make_room.
+-- Used by: make_room.
 use Rattle.std.proofs.Common.{◌≡◌, ℕ, zero, suc, ◌+◌, ◌-◌, ◌==◌, ◌<◌, ◌≤◌, ◌&&◌, ◌||◌, not, Bool, true, false, List, [], length, take, min, Option, Some, None, get_or, nat_lt, nat_le, All, refl, sym, ap, ◌∙◌, inl, inr, arith}
 use Rattle.std.specs.Cmp.{both_ways}
 use Rattle.std.specs.List.{filter}
@@ -222,6 +222,14 @@ module _ {D : Type 0} where
       → ((s : ℕ) (es : List Entry) → has_written new s es ≡ has_written old s es) → PreparesAhead call slot entries waiting old new Broken
   broken_records call slot entries waiting old new none same s es = same s es ∙ sym (nothing_lost old (place_lost old call slot entries) s es none)
 
+  -- a call that makes device calls chooses the records that it writes
+  pub chosen_by : (call : Call) (slot : ℕ) (entries : List Entry) (waiting : List Waiting) (old : Book D) (held : TenantFile D) (left : ℕ) → old.held ≡ Some held → left ≡ places_left old call → makes_calls old call slot entries ≡ true
+      → first_ready old.words (states_of held) old.table old.places slot left waiting ≡ written_by old call slot entries waiting
+  chosen_by call slot entries waiting old held left is_old many calls =
+      ap (λ h. first_ready old.words (states_in h) old.table old.places slot left waiting) (sym is_old)
+      ∙ ap (λ n. first_ready old.words (states_in old.held) old.table old.places slot n waiting) many
+      ∙ sym (cond-true (makes_calls old call slot entries) (first_ready old.words (states_in old.held) old.table old.places slot (places_left old call) waiting) [] calls)
+
   -- A call that went well and wrote the records of the changes that were chosen.
   module _ (call : Call) (slot : ℕ) (entries : List Entry) (waiting : List Waiting) (old new : Book D) (held now : TenantFile D) (is_old : old.held ≡ Some held) (next : PlaceTable) (changes : List NewChange) (left : ℕ)
       (ahead : AreAhead old.table next old.places changes (first_ready old.words (states_of held) old.table old.places slot left waiting)) (many : left ≡ places_left old call)
@@ -229,22 +237,13 @@ module _ {D : Type 0} where
       (writes : All (λ c. writes_of_place (states_of now) c.place.0 ≡ pairs_of c.entries.items) changes)
       (kept : (k : ℕ) → k < old.places → is_prepared_ahead old.table k ≡ true → writes_of_place (states_of now) (place_in_file old.table k) ≡ writes_of_place (states_of held) (place_in_file old.table k))
       (shown : (s : ℕ) (es : List Entry) → has_written new s es ≡ any_below (is_written (states_of now) next s es) old.places) where
-    chosen : first_ready old.words (states_of held) old.table old.places slot left waiting ≡ written_by old call slot entries waiting
-    chosen =
-        ap (λ h. first_ready old.words (states_in h) old.table old.places slot left waiting) (sym is_old)
-        ∙ ap (λ n. first_ready old.words (states_in old.held) old.table old.places slot n waiting) many
-        ∙ sym (cond-true (makes_calls old call slot entries) (first_ready old.words (states_in old.held) old.table old.places slot (places_left old call) waiting) [] calls)
-
-    pub made_many : length changes ≡ length (written_by old call slot entries waiting)
-    made_many = ahead.many ∙ ap length chosen
-
     pub made_records : PreparesAhead call slot entries waiting old new Made
     made_records s es =
         shown s es
         ∙ has_after (states_of held) (states_of now) old.table next old.places changes (first_ready old.words (states_of held) old.table old.places slot left waiting) ahead same_places writes kept s es
         ∙ ap (λ b. b || is_among (first_ready old.words (states_of held) old.table old.places slot left waiting) s es)
         (ap (λ h. any_below (is_written (states_in h) old.table s es) old.places) (sym is_old) ∙ sym (has_any old s es) ∙ sym (nothing_lost old (place_lost old call slot entries) s es none))
-        ∙ ap (λ ws. has_but old (place_lost old call slot entries) s es || is_among ws s es) chosen
+        ∙ ap (λ ws. has_but old (place_lost old call slot entries) s es || is_among ws s es) (chosen_by call slot entries waiting old held left is_old many calls)
 
   -- After room was made, a prepare writes the same records as it would have before.
   module _ (slot : ℕ) (entries : List Entry) (waiting : List Waiting) (old mid : Book D) (words : mid.words ≡ old.words) (places : mid.places ≡ old.places) (left : free_places mid - 1 ≡ free_places old - 1)

@@ -31,7 +31,7 @@ use Rattle.mw_book.specs.FilePlaces.{place_in, IsPermutation}
 use Rattle.mw_book.specs.OpenFile.{states_in, disk_in, OnDisk}
 use Rattle.mw_book.specs.Permits.{HasPlace, is_vacant, vacant_place}
 use Rattle.mw_book.specs.PreparedAhead.{are_writes_of, has_written, is_for, is_written, written_place}
-use Rattle.mw_book.specs.RecordsAhead.{any_below, first_ready, has_but, is_among, makes_calls, place_lost, place_needed, places_left}
+use Rattle.mw_book.specs.RecordsAhead.{any_below, first_ready, has_but, is_among, makes_calls, place_lost, place_needed, places_left, written_by}
 use Rattle.mw_book.specs.Representation.{ArePlaced, HasParts, Represents, is_prepared_ahead, is_settled, place_in_file, stage_held, stage_in_file, writes_in_file}
 use Rattle.mw_book.specs.TakenPlaces.{taken}
 use Rattle.mw_book.proofs.CountedPlaces.{Passes, any_by, any_there}
@@ -281,10 +281,7 @@ pub prepare_taken : {D : Type 0} (facts : D → Facts) (old new : Book D) (slot 
     → MAX_POOL ≤ length old.place_of → place < length old.table.file_place → written < length old.table.file_place → length old.table.ahead_for ≡ length old.table.file_place
     → HasParts new old.held old.words old.places (slice_set old.place_of slot place) (taken old.table place written) old.has_failed → IsFiled facts PrepareCall slot entries waiting old new Made
 prepare_taken facts old new slot place written entries waiting is room found also sound within long low lower wide parts = record {
-  counts = λ is_made.
-      subst (λ n. OnDisk facts (Good n) (disk_in old.held) (disk_in new.held))
-      (sym (ap (λ ws. length ws + prepare_calls (has_written old slot entries) entries) (none_by old PrepareCall slot entries waiting (ap not there)) ∙ ap (λ b. 0 + prepare_calls b entries) there))
-      (subst (λ h. OnDisk facts (Good 0) (disk_in old.held) (disk_in h)) (sym parts.is_held) (on_same facts (Good 0) old.held good_none));
+  counts = good entries;
   records = λ s es.
       let used : place < old.places = (let lt = room in omega (arith, is, lt)) in
       has_parts new old.held old.words old.places (slice_set old.place_of slot place) (taken old.table place written) old.has_failed parts s es
@@ -298,10 +295,7 @@ prepare_taken facts old new slot place written entries waiting is room found als
       let used : place < old.places = (let lt = room in omega (arith, is, lt)) in
       record {
         began = shows.same_failed ∙ sound;
-        written = 0;
-        few = omega arith;
-        made = subst (λ h. OnDisk facts (Good (0 + prepare_calls (has_written old slot entries) (entries_at file (vacant_of file)))) (disk_in old.held) (disk_in h)) (sym parts.is_held)
-            (subst (λ n. OnDisk facts (Good n) (disk_in old.held) (disk_in old.held)) (sym (ap (λ b. 0 + prepare_calls b (entries_at file (vacant_of file))) there)) (on_same facts (Good 0) old.held good_none));
+        made = good (entries_at file (vacant_of file));
         shows = subst (λ p. Represents facts new (prepared file slot p entries)) same
             (shows_parts facts new old.held old.words old.places (slice_set old.place_of slot place) (taken old.table place written) old.has_failed (prepared file slot place entries) parts (record {
               same_words = shows.same_words;
@@ -334,3 +328,10 @@ prepare_taken facts old new slot place written entries waiting is room found als
 
   so : is_vacant (states_in old.held) old.table place ≡ true
   so = ap (is_vacant (states_in old.held) old.table) is ∙ vacant_so (states_in old.held) old.table old.places room
+
+  -- it made no device call
+  good : (entries_there : List Entry) → OnDisk facts (Good (length (written_by old PrepareCall slot entries waiting) + prepare_calls (has_written old slot entries) entries_there)) (disk_in old.held) (disk_in new.held)
+  good entries_there =
+      subst (λ n. OnDisk facts (Good n) (disk_in old.held) (disk_in new.held))
+      (sym (ap (λ ws. length ws + prepare_calls (has_written old slot entries) entries_there) (none_by old PrepareCall slot entries waiting (ap not there)) ∙ ap (λ b. 0 + prepare_calls b entries_there) there))
+      (subst (λ h. OnDisk facts (Good 0) (disk_in old.held) (disk_in h)) (sym parts.is_held) (on_same facts (Good 0) old.held good_none))

@@ -1,7 +1,7 @@
 -- Defines that a change is alone: no other change is sealed, settled ahead or prepared ahead, as with one client. Then each
 -- call makes just the device calls that the world lists.
 -- Used by: laws.rt. A change here changes the law a_change_alone_makes_the_listed_calls.
-use Rattle.std.specs.Prelude.{◌≡◌, ◌≢◌, ◌<◌, ◌≤◌, ◌+◌, ℕ, true, false, List, [], ◌∷◌}
+use Rattle.std.specs.Prelude.{◌≡◌, ◌≢◌, ◌<◌, ◌+◌, ℕ, true, false, List, [], ◌∷◌, length}
 use Rattle.mw_words.specs.declared.limits.TheConstants.{MAX_POOL}
 use Rattle.mw_words.specs.declared.jobs.Entry.{Entry}
 use Rattle.mw_look.specs.declared.steps.Call.{Call}
@@ -14,6 +14,7 @@ use Rattle.mw_book.specs.declared.waiting.Waiting.{Waiting}
 use Rattle.mw_book.specs.CallOutcome.{IsFiled}
 use Rattle.mw_book.specs.Ends.{calls_on}
 use Rattle.mw_book.specs.PreparedAhead.{HasNonePrepared}
+use Rattle.mw_book.specs.RecordsAhead.{written_by}
 use Rattle.mw_book.specs.SettledAhead.{HasNoneAhead}
 use Rattle.mw_book.specs.Representation.{Represents}
 
@@ -43,7 +44,7 @@ module _ {D : Type 0} (facts : D → Facts) where
   -- such a call makes as many device calls as the world lists, if no change waits, so that it writes no record of one
   abbrev pub AloneMakesListedCalls : Type 0
   AloneMakesListedCalls = (book : Book D) (file : File) (call : Call) (slot : ℕ) (entries : List Entry) → FindsAlone book file call slot
-      → (written : ℕ) → written ≤ 0 → written + calls_on book call slot entries (entries_at file (place_for call file book.places slot)) ≡ device_calls call (entries_at file (place_for call file book.places slot))
+      → length (written_by book call slot entries []) + calls_on book call slot entries (entries_at file (place_for call file book.places slot)) ≡ device_calls call (entries_at file (place_for call file book.places slot))
 
   -- and it settles none ahead
   abbrev pub AloneLeavesNoneAhead : Type 0

@@ -1,5 +1,5 @@
 -- Defines what the answer to a call on a book (a tenant's open file) says of the book and its device, on any disk.
--- Used by: calls.rt. A change here changes what a call promises.
+-- Used by: CallOutcome. A change here changes what a call promises.
 use Rattle.std.specs.Prelude.{◌≡◌, ◌≢◌, ◌+◌, Bool, true, false, min}
 use Rattle.mw_look.specs.declared.steps.Call.{Call}
 use Rattle.mw_look.specs.declared.steps.Call.TheVariants.{Cancel as CancelCall}

@@ -1,5 +1,5 @@
 -- Defines what a crash during a call on a book, or between two calls, leaves of the file.
--- Used by: mw_core, mw_engine, mw_law_threads, calls.rt, laws.rt. A change here changes what a call promises.
+-- Used by: mw_core, mw_engine, mw_law_threads, CallOutcome, laws.rt. A change here changes what a call promises.
 use Rattle.std.specs.Prelude.{ℕ, List, IsTrue}
 use Rattle.mw_words.specs.declared.jobs.Entry.{Entry}
 use Rattle.mw_look.specs.declared.steps.Call.{Call}

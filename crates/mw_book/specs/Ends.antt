@@ -1,6 +1,6 @@
 -- Defines how a call on a book ends, for each simulated file (`File` of mw_world_file) that the book represented before it.
--- Used by: mw_core, calls.rt. A change here changes what a call promises of the file.
-use Rattle.std.specs.Prelude.{◌≡◌, ◌≤◌, ◌+◌, ℕ, Bool, true, false, List}
+-- Used by: mw_core, CallOutcome. A change here changes what a call promises of the file.
+use Rattle.std.specs.Prelude.{◌≡◌, ◌+◌, ◌-◌, ℕ, Bool, true, false, List, length}
 use Rattle.mw_words.specs.declared.jobs.Entry.{Entry}
 use Rattle.mw_look.specs.declared.steps.Call.{Call}
 use Rattle.mw_look.specs.declared.steps.Call.TheVariants.{Prepare as PrepareCall, Settle as SettleCall}
@@ -13,15 +13,18 @@ use Rattle.mw_world_file.specs.Files.{File, entries_at, broken}
 use Rattle.mw_book.specs.declared.answers.Filed.{Filed}
 use Rattle.mw_book.specs.declared.answers.Filed.TheVariants.{Made, Broken, Untouched}
 use Rattle.mw_book.specs.declared.book.Book.{Book}
+use Rattle.mw_book.specs.declared.waiting.Waiting.{Waiting}
 use Rattle.mw_book.specs.OpenFile.{disk_in, states_in, OnDisk}
 use Rattle.mw_book.specs.PreparedAhead.{has_written}
+use Rattle.mw_book.specs.RecordsAhead.{written_by}
 use Rattle.mw_book.specs.Representation.{Represents, is_settled, place_at}
 
--- A run of so many device calls failed at the call with this number, counted from 1. The calls before it went well, and none was made
--- after it. The outcomes of an honest disk tell the number. Of any other disk it is the number of some call of the run.
-pub record FailedAt (calls number : ℕ) (old new : Facts) : Type 0 where
-  pub failed : Bad calls old new
-  pub at : failed.well + 1 ≡ number
+-- A run failed: so many writes of records ahead, and then so many other device calls. The calls before the one that failed went well,
+-- and none was made after it. The number is that one's, counted from 1 at the other calls; each write ahead counts as the first of them.
+-- The outcomes of an honest disk tell which call failed. Of any other disk it is some call of the run.
+pub record FailedAt (ahead calls number : ℕ) (old new : Facts) : Type 0 where
+  pub failed : Bad (ahead + calls) old new
+  pub at : failed.well - ahead + 1 ≡ number
 
 -- How many device calls a settle makes: none if its change is settled in the file already, else those that settle all sealed changes.
 abbrev pub settle_calls : Bool → List PlaceState → ℕ
@@ -40,8 +43,16 @@ calls_on book PrepareCall slot taken entries = prepare_calls (has_written book s
 calls_on book SettleCall slot taken entries = settle_calls (is_settled book.table (place_at book slot)) (states_in book.held)
 calls_on book call slot taken entries = device_calls call entries
 
-module _ {D : Type 0} (facts : D → Facts) (call : Call) (slot : ℕ) (entries : List Entry) (most : ℕ) (file : File) (old new : Book D) where
-  -- the place that the call is for, how many device calls the world lists for it, and how many it makes on the book for its own change
+-- A call made just these device calls, if it went well: one for each record of a waiting change that it wrote ahead, and those for its
+-- own change. If a device call failed, it was one of as many.
+abbrev pub CountsCalls : {D : Type 0} → (D → Facts) → Call → ℕ → List Entry → List Waiting → Book D → Book D → Filed → Type 0
+CountsCalls facts call slot entries waiting old new Made = OnDisk facts (Good (length (written_by old call slot entries waiting) + calls_on old call slot entries entries)) (disk_in old.held) (disk_in new.held)
+CountsCalls facts call slot entries waiting old new Broken = OnDisk facts (Bad (length (written_by old call slot entries waiting) + calls_on old call slot entries entries)) (disk_in old.held) (disk_in new.held)
+CountsCalls facts call slot entries waiting old new Untouched = Unit {0}
+
+module _ {D : Type 0} (facts : D → Facts) (call : Call) (slot : ℕ) (entries : List Entry) (waiting : List Waiting) (file : File) (old new : Book D) where
+  -- the place that the call is for, how many device calls the world lists for it, how many it makes on the book for its own change, and
+  -- how many records of waiting changes it writes ahead
   abbrev pub place_called : ℕ
   place_called = place_for call file old.places slot
 
@@ -51,25 +62,24 @@ module _ {D : Type 0} (facts : D → Facts) (call : Call) (slot : ℕ) (entries 
   abbrev pub calls_made : ℕ
   calls_made = calls_on old call slot entries (entries_at file place_called)
 
+  abbrev pub records_ahead : ℕ
+  records_ahead = length (written_by old call slot entries waiting)
+
   -- The call was made. All its device calls went well, as an honest disk counts them: those for its own change, and one for each record
-  -- of a waiting change that it wrote, which are at most `most`. The book represents the file after the call.
+  -- that it wrote ahead. The book represents the file after the call.
   pub record WasMade : Type 0 where
     pub began : fails_on call file ≡ false
-    pub written : ℕ
-    pub few : written ≤ most
-    pub made : OnDisk facts (Good (written + calls_made)) (disk_in old.held) (disk_in new.held)
+    pub made : OnDisk facts (Good (records_ahead + calls_made)) (disk_in old.held) (disk_in new.held)
     pub shows : Represents facts new (filed call file slot place_called entries)
 
   -- One of the device calls failed, and the book represents the file after this failure. The number is of a device call that the world
-  -- lists. If the call makes as many as are listed, it is the number of the one that failed.
+  -- lists. If the call makes as many for its own change as are listed, it is the number of the one that failed.
   pub record WasBroken : Type 0 where
     pub began : fails_on call file ≡ false
     pub number : ℕ
     pub within : is_made calls_listed number ≡ true
-    pub written : ℕ
-    pub few : written ≤ most
-    pub failed : OnDisk facts (Bad (written + calls_made)) (disk_in old.held) (disk_in new.held)
-    pub made : written + calls_made ≡ calls_listed → OnDisk facts (FailedAt calls_listed number) (disk_in old.held) (disk_in new.held)
+    pub failed : OnDisk facts (Bad (records_ahead + calls_made)) (disk_in old.held) (disk_in new.held)
+    pub made : calls_made ≡ calls_listed → OnDisk facts (FailedAt records_ahead calls_listed number) (disk_in old.held) (disk_in new.held)
     pub shows : Represents facts new (broken file (doubt_of call (entries_at file place_called)))
 
   -- The file had failed before, and the call did nothing.

@@ -1,11 +1,9 @@
 -- Defines which records of waiting changes a call on a book writes ahead, and which changes are prepared ahead after it.
--- Used by: calls.rt, place_table.rt, waiting.rt. A change here changes what a call promises of these changes.
+-- Used by: mw_core, CallOutcome, place_table.rt, waiting.rt. A change here changes what a call promises of these changes.
 use Rattle.std.specs.Prelude.{◌≡◌, ◌+◌, ◌-◌, ◌==◌, ◌&&◌, ◌||◌, not, if◌then◌else◌, ℕ, zero, suc, Bool, true, false, List, [], length, take, min, nat_lt}
 use Rattle.std.specs.List.{filter, list_any}
 use Rattle.mw_words.specs.Change.{is_change}
 use Rattle.mw_words.specs.declared.jobs.Entry.{Entry}
-use Rattle.mw_disk.specs.Facts.{Facts}
-use Rattle.mw_disk.specs.Runs.{Good}
 use Rattle.mw_record.specs.Layout.{pairs_of}
 use Rattle.mw_look.specs.declared.steps.Call.{Call}
 use Rattle.mw_look.specs.declared.steps.Call.TheVariants.{Prepare as PrepareCall, Seal as SealCall, Settle as SettleCall, Cancel as CancelCall}
@@ -16,8 +14,7 @@ use Rattle.mw_book.specs.declared.book.Book.{Book}
 use Rattle.mw_book.specs.declared.place_table.PlaceTable.{PlaceTable}
 use Rattle.mw_book.specs.declared.waiting.Waiting.{Waiting}
 use Rattle.mw_book.specs.declared.waiting.TheConstants.{MOST_AHEAD}
-use Rattle.mw_book.specs.Ends.{calls_on}
-use Rattle.mw_book.specs.OpenFile.{states_in, disk_in, OnDisk}
+use Rattle.mw_book.specs.OpenFile.{states_in}
 use Rattle.mw_book.specs.Permits.{is_vacant, vacant_place}
 use Rattle.mw_book.specs.PreparedAhead.{are_writes_of, has_written, is_written, written_place}
 use Rattle.mw_book.specs.Representation.{is_prepared_ahead, is_settled, place_at}
@@ -103,8 +100,3 @@ module _ {D : Type 0} where
   -- after the call just these changes are prepared ahead
   abbrev pub PreparesAhead : Call → ℕ → List Entry → List Waiting → Book D → Book D → Filed → Type 0
   PreparesAhead call slot entries waiting old new answer = (other : ℕ) (those : List Entry) → has_written new other those ≡ prepared_after call slot entries waiting old answer other those
-
-  -- A call that went well made just these device calls: one for each record that it wrote ahead, and those for its own change.
-  abbrev pub CountsCalls : (D → Facts) → Call → ℕ → List Entry → List Waiting → Book D → Book D → Filed → Type 0
-  CountsCalls facts call slot entries waiting old new answer =
-      answer ≡ Made → OnDisk facts (Good (length (written_by old call slot entries waiting) + calls_on old call slot entries entries)) (disk_in old.held) (disk_in new.held)

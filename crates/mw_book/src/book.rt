@@ -1,7 +1,8 @@
 //! A tenant's open file (its *book*), as threads keep it under a lock, with the place of each slot's change.
 //!
-//! `new_books.rt` makes books, `calls.rt` alone changes them, and `queries.rt` reads them. A new field needs a value
-//! in `new_books.rt`, and a clause in `specs/Representation` if the world knows of it.
+//! Used by: mw_core (`file_calls.rt`); mw_engine, which keeps one for each tenant. `new_books.rt` makes books,
+//! `calls.rt` alone changes them, and `queries.rt` reads them. A new field needs a value in `new_books.rt`, and a
+//! clause in `specs/Representation` if the world knows of it.
 ghost use Rattle.std.specs.Prelude.{◌≡◌, ◌≤◌};
 ghost use Rattle.mw_book.specs.FilePlaces.{IsPermutation};
 ghost use Rattle.mw_book.specs.OpenFile.{words_in, places_in, has_failed_in};

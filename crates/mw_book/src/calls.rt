@@ -1,11 +1,9 @@
 //! Makes the calls on a tenant's book: prepare, seal, settle and cancel the change of a slot.
 //!
 //! Used by: mw_core (`file_calls.rt`). Change it with `specs/Permits` (when one may be made) and `specs/CallOutcome`
-//! (what it leaves). docs/PROMISES cites `call`.
-ghost use Rattle.std.specs.Prelude.{◌≡◌, ◌≢◌, ℕ, List, [], length, true, false};
-ghost use Rattle.mw_disk.specs.Runs.{Later};
+//! (what it leaves). docs/PROMISES cites `call` and its record.
+ghost use Rattle.std.specs.Prelude.{◌≡◌, ◌≢◌, List, [], true, false};
 ghost use Rattle.mw_words.specs.declared.jobs.Entry.{Entry as EntryAt};
-ghost use Rattle.mw_world_file.specs.Files.{File};
 ghost use Rattle.mw_book.specs.declared.waiting.Waiting.{Waiting as WaitingAt};
 
 use crate::answers::Filed;
@@ -17,17 +15,12 @@ use mw_look::Call;
 use mw_words::{Entries, copy_of};
 
 impl<D: Disk> Book<D> {
-    ghost use Rattle.mw_book.specs.Answers.{Answers};
-    ghost use Rattle.mw_book.specs.OpenFile.{disk_in, states_in, OnDisk};
-    ghost use Rattle.mw_book.specs.Representation.{Represents, is_prepared_ahead};
+    ghost use Rattle.mw_book.specs.OpenFile.{states_in};
+    ghost use Rattle.mw_book.specs.Representation.{is_prepared_ahead};
     ghost use Rattle.mw_book.specs.Permits.{HasPlace, HasRoom, MayCall, vacant_place};
     ghost use Rattle.mw_book.specs.PreparedAhead.{has_written};
     ghost use Rattle.mw_book.specs.SameFiles.{HasMadeRoom, RepresentsSame};
-    ghost use Rattle.mw_book.specs.Ends.{Ends};
-    ghost use Rattle.mw_book.specs.Crashes.{IsCrashSafe};
     ghost use Rattle.mw_book.specs.CallOutcome.{IsFiled};
-    ghost use Rattle.mw_book.specs.RecordsAhead.{CountsCalls, PreparesAhead};
-    ghost use Rattle.mw_book.specs.SettledAhead.{SettlesAhead};
 
     /// Makes a call on the file for the change of a slot. A prepare writes these entries into the lowest vacant
     /// place, which then is the slot's. A seal, a settle and a cancel use the slot's place, and take no entries.
@@ -41,7 +34,7 @@ impl<D: Disk> Book<D> {
     /// If the book represented a file, it now represents what this call, with this answer, makes of that file.
     /// On any disk the answer tells whether a device call failed. A disk that keeps the model of [`Disk`] also tells how
     /// many were made, and which one failed. The number that the world's file is told is that one's, if this call makes
-    /// as many device calls as the world lists.
+    /// as many device calls for its own change as the world lists; the write of a waiting change's record counts as the first.
     ///
     /// On such a disk a crash at any moment since the call began leaves the words of each file that the book
     /// represented then, or these with the change at stake put over them. This is the change that the call
@@ -58,16 +51,7 @@ impl<D: Disk> Book<D> {
     /// represents.
     pub fn call(&mut self, call: Call, slot: u8, entries: &Entries, waiting: &[Waiting]) -> Filed
         requires may { MayCall self.old call slot entries.now.items }
-        ensures ends { (file : File) → Represents D.facts self.old file → Ends D.facts call slot entries.now.items (length waiting.now) file self.old self.new result }
-        ensures answers { Answers D.facts call self.old self.new result }
-        ensures moments { IsCrashSafe D.facts call slot self.old self.new result }
-        ensures later { OnDisk D.facts Later (disk_in self.old.held) (disk_in self.new.held) }
-        ensures quiet { call ≡ Call.Cancel → disk_in self.new.held ≡ disk_in self.old.held }
-        ensures words { self.new.words ≡ self.old.words }
-        ensures places { self.new.places ≡ self.old.places }
-        ensures ahead { SettlesAhead call slot self.old self.new result }
-        ensures records { PreparesAhead call slot entries.now.items waiting.now self.old self.new result }
-        ensures counts { CountsCalls D.facts call slot entries.now.items waiting.now self.old self.new result }
+        ensures { IsFiled D.facts call slot entries.now.items waiting.now self.old self.new result }
     {
         match call {
             Call::Prepare => self.prepare(slot, entries, waiting),

@@ -13,7 +13,7 @@
 //! of [`mw_disk::Disk`]. What is said of answers and of faults holds on every disk.
 //!
 //! Used by: mw_engine, which keeps a book for each tenant; mw_core, which makes the calls, and to which these
-//! contracts are promised.
+//! contracts are promised; mw_law_threads, in contracts.
 #![tactic(auto)]
 
 mod answers;

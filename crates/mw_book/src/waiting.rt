@@ -1,6 +1,7 @@
 //! Chooses which changes that wait for a file a call writes ahead, along with its own bytes, and into which places.
 //!
-//! The calls of `calls.rt` use it. `specs/ChosenPlaces` says what is chosen.
+//! Used by: `calls.rt`; mw_core, which passes on [`Waiting`] to mw_engine (`waiting_room.rt`). `specs/ChosenPlaces`
+//! says what is chosen.
 ghost use Rattle.std.specs.Prelude.{◌≡◌, ◌≤◌, ◌<◌, ◌+◌, ◌∷◌, ℕ, List, true, false, length, IsTrue, IfSome};
 ghost use Rattle.mw_words.specs.Change.{is_change};
 ghost use Rattle.mw_words.specs.declared.limits.TheConstants.{MAX_PLACES};

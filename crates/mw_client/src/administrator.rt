@@ -15,8 +15,8 @@ use mw_line::{Request, Say};
 use mw_report::Figures;
 use std::io::{Read, Write};
 
-/// A session for the administrator, who may ask how all tenants are. It holds a worker of the server until
-/// its connection is closed.
+/// A session for the administrator, who may ask how all tenants are. Until its connection is closed it holds a
+/// worker of the server, or with `--clients` one of its sessions, which takes a worker for each request only.
 #[derive(Drop)]
 pub struct Administrator<R, W> {
     /// The reader of the replies. It is asked for a byte at a time.

@@ -18,8 +18,9 @@ use mw_words::{Entries, Entry, Job, MAX_WORDS, Name, copy_of, copy_of_name, is_n
 use std::io::{Read, Write};
 use std::time::{Clock, Duration};
 
-/// A session for one tenant, which reads and changes the tenant's words. It holds a worker of the server
-/// until its connection is closed.
+/// A session for one tenant, which reads and changes the tenant's words. Until its connection is closed it
+/// holds a worker of the server, or with `--clients` one of its sessions, which takes a worker for each
+/// request only.
 #[derive(Drop)]
 pub struct Client<R, W> {
     /// The reader of the replies. It is asked for a byte at a time.

@@ -7,7 +7,7 @@
 //! which the server's reader reads as that request ([`what_is_sent_is_read`]). [`read_reply`] tells which reply a
 //! line is.
 //!
-//! Used by: mwbench, mw_client_tests. docs/CLIENTS describes it for users: change both together.
+//! Used by: mw_client_c, mwbench, mw_client_tests. docs/CLIENTS describes it for users: change both together.
 #![tactic(auto)]
 
 mod administrator;

@@ -1,7 +1,7 @@
 //! Reads which reply of the server a line is.
 //!
-//! Used by: `conversation`, `report`. A new reply of the server needs a case here and in
-//! `specs/ReplyGrammar`.
+//! Used by: `conversation`, `report`, mw_client_c. A new reply of the server needs a case here, in
+//! `specs/ReplyGrammar` and in mw_client_c.
 ghost use Rattle.std.specs.Prelude.{◌≡◌, IfSome, None};
 ghost use Rattle.mw_line.specs.declared.replies.Say.{Say as SayRead};
 ghost use Rattle.mw_client.specs.ReplyGrammar as spec;

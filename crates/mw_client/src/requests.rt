@@ -1,6 +1,7 @@
 //! Writes the line that a client sends for a request.
 //!
-//! Used by: `administrator`, `conversation`, mwbench. A new request needs a case here and in `specs/Grammar` of mw_line.
+//! Used by: `administrator`, `conversation`, mwbench, mw_client_c. A new request needs a case here and in
+//! `specs/Grammar` of mw_line, and a function in mw_client_c.
 ghost use Rattle.std.specs.Prelude.{◌≡◌, ◌+◌, ◌*◌, ◌≤◌, ◌<◌, ◌++◌, [], All, decimal, flat_map, length};
 ghost use Rattle.mw_line.specs.Grammar.{Get, spaced, spelling};
 ghost use Rattle.mw_line.specs.Limits.{command_of};

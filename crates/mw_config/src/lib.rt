@@ -1,7 +1,8 @@
 //! Reads what a server is started with: the tenants file and the command line.
 //!
-//! When a server starts, mw_opening calls [`read_tenants`], and mw_programs calls [`read_args`]. A change of what they
-//! accept changes docs/OPERATING.
+//! Used by: mw_plain, mw_engine, mw_opening, mw_programs; mw_law_threads, in contracts. When a server starts,
+//! mw_opening calls [`read_tenants`], and mw_programs calls [`read_args`]. A change of what they accept changes
+//! docs/OPERATING.
 #![tactic(auto)]
 
 mod command_line;

@@ -1,7 +1,7 @@
 //! Reads the lines of a tenants file, before any limit is checked.
 //!
-//! Used by: `tenants.rt`; mw_opening and mw_engine, for [`TenantLine`]. A new field needs a place in
-//! `specs/LineTexts`.
+//! Used by: `tenants.rt`; mw_plain, mw_engine, mw_opening and mw_programs, for [`TenantLine`]. A new field needs a
+//! place in `specs/LineTexts`.
 ghost use Rattle.std.specs.Prelude.{◌≡◌, MatchOption, true, false};
 ghost use Rattle.std.specs.List.{list_all};
 ghost use Rattle.mw_line.specs.LineReader.{Gives, narrow};

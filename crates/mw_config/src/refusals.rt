@@ -1,6 +1,6 @@
 //! The reasons why a tenants file is refused.
 //!
-//! `read_tenants` gives it, and mw_programs writes its text. A new refusal needs its text here, a case in
+//! `read_tenants` gives it, and mw_opening notes it (`opening.rt`). A new refusal needs its text here, a case in
 //! `specs/Refusals`, and a row in docs/OPERATING.
 
 use mw_words::{MAX_QUOTA, MAX_TENANTS, MAX_WORDS};

@@ -27,9 +27,9 @@
 //! Each reply is sent at once: a TCP connection is set not to hold back what is written to it. If the
 //! system refuses that, the client is served all the same.
 //!
-//! mw_workers serves connections, and mw_programs listens for them. The proofs are about what a session read and wrote,
-//! and how long it may wait; of sockets they say nothing. What a client or an operator sees of it is in docs/PROTOCOL
-//! and docs/OPERATING: change them together.
+//! Used by: mw_workers, which serves connections; mw_server_pages, which serves streams; mw_programs, which listens
+//! for both. The proofs are about what a session read and wrote, and how long it may wait; of sockets they say
+//! nothing. What a client or an operator sees of it is in docs/PROTOCOL and docs/OPERATING: change them together.
 #![tactic(auto)]
 
 mod brief;

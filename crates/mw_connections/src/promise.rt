@@ -1,7 +1,7 @@
 //! What the answers to a server's clients keep to, as a type.
 //!
-//! Used by: `network.rt`, `sockets.rt`; mw_programs has the promise of a server, tests have [`Anything`]. Change it with
-//! `specs/Promises`.
+//! Used by: `network.rt`, `sockets.rt`; mw_server_pages, for the promise of the pages; mw_programs, which has the
+//! promise of a server; tests, which have [`Anything`]. Change it with `specs/Promises`.
 ghost use Rattle.std.specs.Prelude.{List};
 ghost use Rattle.mw_session.specs.Talk.{Call};
 

@@ -1,7 +1,8 @@
 //! Implements listeners and connections by TCP sockets and local sockets.
 //!
-//! mw_programs calls [`listen_at`]. No contract says what a socket carries; what was read and written is recorded.
-//! The limits at the top may have other numbers; docs/OPERATING and docs/PROTOCOL tell them.
+//! Used by: mw_programs, which calls [`listen_at`]; mw_server_pages, which ends its connections by [`say_goodbye`].
+//! No contract says what a socket carries; what was read and written is recorded. The limits at the top may have
+//! other numbers; docs/OPERATING and docs/PROTOCOL tell them.
 ghost use Rattle.std.specs.Prelude.{◌≡◌, None};
 ghost use Rattle.mw_session.specs.KnownStreams.{reads_of, writes_of};
 

@@ -1,7 +1,7 @@
 //! The limits of a session's waits, and how much of each is left: a calculation with times, which reads no clock.
 //!
-//! `timed_stream.rt` and `sockets.rt` ask it before a wait. Change it with `specs/TimesLeft`. [`LOOK`] may have
-//! another number; docs/OPERATING tells the limits.
+//! mw_programs gives the [`TimeLimits`] (`doors.rt`), and `timed_stream.rt` and `sockets.rt` ask them before a wait.
+//! Change it with `specs/TimesLeft`. [`LOOK`] may have another number; docs/OPERATING tells the limits.
 ghost use Rattle.std.specs.Prelude.{◌≡◌, None, IsFalse, if◌then◌else◌};
 ghost use Rattle.std.specs.Time.{instant_nanos};
 ghost use Rattle.mw_connections.specs.declared.time_limits.Timing.TheVariants.{Starting, Stopped};

@@ -13,6 +13,7 @@ use Rattle.mw_world.specs.declared.config.Config.{Config}
 use Rattle.mw_world.specs.Definition.Calls.{Called as CallOn}
 use Rattle.mw_world.specs.Definition.State.{TenantStart}
 use Rattle.mw_book.specs.declared.book.Book.{Book}
+use Rattle.mw_book.specs.declared.waiting.Waiting.{Waiting}
 use Rattle.mw_table.specs.FromRule.{End, FileToken, FindsFault, GoesWell, HeldFile, MayEnd, MeetsFault, WorkerToken, Serves, Skips, View, LearnsFileCall, after_call, without_file, takes_files, opening_at, file_token_by, file_token_filed}
 use Rattle.mw_table.specs.declared.file_pass.FilePass.{FilePass}
 use Rattle.mw_table.specs.declared.shared.Pass.{Pass}
@@ -78,7 +79,7 @@ module _ {D : Type 0} (facts : D → Facts) (shared : Shared) (old taken : Pass)
       taken.seat.me.0.config (sym (ap file_among files_are)) (sym own.openings) whose (sym own.config) agrees
 
   -- The call is made.
-  module _ (waiting : ℕ) (last : Pass) (before after : Book D) (well : Bool) (same_last : IsSamePass taken last) (made : MakesCall facts waiting taken.worker taken.seat.me.0 last.seat.me.0 actor before after well) where
+  module _ (waiting : List Waiting) (last : Pass) (before after : Book D) (well : Bool) (same_last : IsSamePass taken last) (made : MakesCall facts waiting taken.worker taken.seat.me.0 last.seat.me.0 actor before after well) where
     known : file_among taken.seat.me.0.files ≡ file_kept file_pass
     known = ap file_among files_are
 

@@ -19,6 +19,7 @@ use Rattle.mw_world.specs.Definition.Events.{File as FileEvent}
 use Rattle.mw_book.specs.declared.answers.Filed.{Filed}
 use Rattle.mw_book.specs.declared.answers.Filed.TheVariants.{Made, Broken, Untouched}
 use Rattle.mw_book.specs.declared.book.Book.{Book}
+use Rattle.mw_book.specs.declared.waiting.Waiting.{Waiting}
 use Rattle.mw_book.specs.Crashes.{IsCrashSafe}
 use Rattle.mw_book.specs.Ends.{Ends}
 use Rattle.mw_book.specs.Permits.{MayCall}
@@ -87,7 +88,7 @@ module _ {D : Type 0} (facts : D → Facts) (old between : Pass) (actor : ActorS
           loaded_starts old.worker actor called has.held bits status old.seat.me.0 between.seat.me.0 loaded read starts (ap (λ (one : Call). starts_from one status) call_is ∙ test)
 
       -- The call doesn't start.
-      pub skipped : (waiting : ℕ) → starts_from call status ≡ false → AddsLoadEvent bits old.seat.me.0 between.seat.me.0 → MakesCall facts waiting old.worker old.seat.me.0 between.seat.me.0 actor book book true
+      pub skipped : (waiting : List Waiting) → starts_from call status ≡ false → AddsLoadEvent bits old.seat.me.0 between.seat.me.0 → MakesCall facts waiting old.worker old.seat.me.0 between.seat.me.0 actor book book true
       skipped waiting test event =
           let starts_not = ap (λ (one : Call). starts_from one status) call_is ∙ test in
           made_skips facts waiting old.worker old.seat.me.0 between.seat.me.0 actor called has.held book status comes has.only has.idle agrees starts_not (as_loaded false test)
@@ -124,7 +125,7 @@ module _ {D : Type 0} (facts : D → Facts) (old between : Pass) (actor : ActorS
             book_takes facts old.seat.me.0 between.seat.me.0 actor called has.held book status old.worker comes has.only has.its words.slot agrees starts_here starts call slot entries few call_is slot_is given
 
         -- The book has answered.
-        module _ (waiting : ℕ) (after : Book D) (entries : List Entry) (given : AreTaken call entries (own_entries actor)) (answer : Filed) (as_before : after.places ≡ book.places)
+        module _ (waiting : List Waiting) (after : Book D) (entries : List Entry) (given : AreTaken call entries (own_entries actor)) (answer : Filed) (as_before : after.places ≡ book.places)
             (told : (file : File) → Represents facts book file → Ends facts call slot entries waiting file book after answer) (moments : IsCrashSafe facts call slot book after answer) where
           safe : IsCrashSafe facts called.call called.change.slot book after answer
           safe =

@@ -24,8 +24,10 @@ use Rattle.mw_world.specs.Definition.Events.{File as FileEvent}
 use Rattle.mw_book.specs.declared.answers.Filed.{Filed}
 use Rattle.mw_book.specs.declared.answers.Filed.TheVariants.{Made, Broken, Untouched}
 use Rattle.mw_book.specs.declared.book.Book.{Book}
+use Rattle.mw_book.specs.declared.waiting.Waiting.{Waiting}
 use Rattle.mw_book.specs.Crashes.{IsCrashSafe, LeavesEither}
-use Rattle.mw_book.specs.Ends.{Ends, WasBroken, calls_on}
+use Rattle.mw_book.specs.Ends.{Ends, FailedAt, WasBroken, calls_on}
+use Rattle.mw_book.specs.RecordsAhead.{written_by}
 use Rattle.mw_disk.specs.Runs.{Good as GoodRun, Bad as BadRun}
 use Rattle.mw_book.specs.OpenFile.{OnDisk, disk_in}
 use Rattle.mw_book.specs.Permits.{MayCall}
@@ -81,7 +83,7 @@ pub agrees_first : {D : Type 0} (facts : D → Facts) (view : View) (tenant : �
 agrees_first facts view tenant held book only agrees = subst (λ (file_token : FileToken). Agrees facts book file_token (opening_at view.openings tenant).quota view.config.pool) (ap file_among only) agrees
 
 -- A call that doesn't start.
-pub made_skips : {D : Type 0} (facts : D → Facts) (waiting worker : ℕ) (old new : View) (actor : ActorState) (called : CallOn) (held : HeldFile) (book : Book D) (status : Status) → called_at actor.point ≡ Some called
+pub made_skips : {D : Type 0} (facts : D → Facts) (waiting : List Waiting) (worker : ℕ) (old new : View) (actor : ActorState) (called : CallOn) (held : HeldFile) (book : Book D) (status : Status) → called_at actor.point ≡ Some called
     → old.files ≡ held ∷ [] → held.found ≡ None → AgreesHeld facts book old actor.tenant → starts_from called.call status ≡ false → LearnsFileCall true held held.file old new
     → WentOn (FileEvent worker Good ∷ []) old new → MakesCall facts waiting worker old new actor book book true
 made_skips facts waiting worker old new actor called held book status comes only idle agrees test went event = record {
@@ -124,38 +126,43 @@ may_with book SealCall slot own entries given may = may
 may_with book SettleCall slot own entries given may = may
 may_with book CancelCall slot own entries given may = may
 
-ends_as : {D : Type 0} (facts : D → Facts) (call : Call) (slot : ℕ) (entries own : List Entry) (waiting : ℕ) (file : File) (before after : Book D) (answer : Filed)
+-- A call makes as many device calls for these entries as for those, if it writes the same records ahead.
+as_many : {D : Type 0} (before : Book D) (call : Call) (slot : ℕ) (entries own : List Entry) (waiting : List Waiting) (there : List Entry) → calls_on before call slot entries there ≡ calls_on before call slot own there
+    → written_by before call slot entries waiting ≡ written_by before call slot own waiting
+    → length (written_by before call slot entries waiting) + calls_on before call slot entries there ≡ length (written_by before call slot own waiting) + calls_on before call slot own there
+as_many before call slot entries own waiting there calls ahead =
+    ap (λ (ws : List Waiting). length ws + calls_on before call slot entries there) ahead ∙ ap (λ (n : ℕ). length (written_by before call slot own waiting) + n) calls
+
+ends_as : {D : Type 0} (facts : D → Facts) (call : Call) (slot : ℕ) (entries own : List Entry) (waiting : List Waiting) (file : File) (before after : Book D) (answer : Filed)
     → filed call file slot (place_for call file before.places slot) entries ≡ filed call file slot (place_for call file before.places slot) own
     → ((taken : List Entry) → calls_on before call slot entries taken ≡ calls_on before call slot own taken)
+    → written_by before call slot entries waiting ≡ written_by before call slot own waiting
     → Ends facts call slot entries waiting file before after answer → Ends facts call slot own waiting file before after answer
-ends_as facts call slot entries own waiting file before after Made same calls ends = record {
+ends_as facts call slot entries own waiting file before after Made same calls ahead ends = record {
   began = ends.began;
-  written = ends.written;
-  few = ends.few;
-  made = subst (λ (n : ℕ). OnDisk facts (GoodRun (ends.written + n)) (disk_in before.held) (disk_in after.held)) (calls (entries_at file (place_for call file before.places slot))) ends.made;
+  made = subst (λ (n : ℕ). OnDisk facts (GoodRun n) (disk_in before.held) (disk_in after.held)) (as_many before call slot entries own waiting (entries_at file (place_for call file before.places slot)) (calls (entries_at file (place_for call file before.places slot))) ahead) ends.made;
   shows = subst (λ (one : File). Represents facts after one) same ends.shows;
 }
-ends_as facts call slot entries own waiting file before after Broken same calls ends =
-    let many = calls (entries_at file (place_for call file before.places slot)) in
+ends_as facts call slot entries own waiting file before after Broken same calls ahead ends =
+    let there : List Entry = entries_at file (place_for call file before.places slot) in
     record {
       began = ends.began;
       number = ends.number;
       within = ends.within;
-      written = ends.written;
-      few = ends.few;
-      failed = subst (λ (n : ℕ). OnDisk facts (BadRun (ends.written + n)) (disk_in before.held) (disk_in after.held)) many ends.failed;
-      made = λ listed. ends.made (ap (λ (n : ℕ). ends.written + n) many ∙ listed);
+      failed = subst (λ (n : ℕ). OnDisk facts (BadRun n) (disk_in before.held) (disk_in after.held)) (as_many before call slot entries own waiting there (calls there) ahead) ends.failed;
+      made = λ listed.
+          subst (λ (ws : List Waiting). OnDisk facts (FailedAt (length ws) (device_calls call there) ends.number) (disk_in before.held) (disk_in after.held)) ahead (ends.made (calls there ∙ listed));
       shows = ends.shows;
     }
-ends_as facts call slot entries own waiting file before after Untouched same calls ends = record { refused = ends.refused; same = ends.same }
+ends_as facts call slot entries own waiting file before after Untouched same calls ahead ends = record { refused = ends.refused; same = ends.same }
 
-ends_with : {D : Type 0} (facts : D → Facts) (call : Call) (slot : ℕ) (entries own : List Entry) (waiting : ℕ) (file : File) (before after : Book D) (answer : Filed) → AreTaken call entries own
+ends_with : {D : Type 0} (facts : D → Facts) (call : Call) (slot : ℕ) (entries own : List Entry) (waiting : List Waiting) (file : File) (before after : Book D) (answer : Filed) → AreTaken call entries own
     → Ends facts call slot entries waiting file before after answer → Ends facts call slot own waiting file before after answer
 ends_with facts PrepareCall slot entries own waiting file before after answer given ends =
     subst (λ (one : List Entry). Ends facts PrepareCall slot one waiting file before after answer) given ends
-ends_with facts SealCall slot entries own waiting file before after answer given ends = ends_as facts SealCall slot entries own waiting file before after answer refl (λ taken. refl) ends
-ends_with facts SettleCall slot entries own waiting file before after answer given ends = ends_as facts SettleCall slot entries own waiting file before after answer refl (λ taken. refl) ends
-ends_with facts CancelCall slot entries own waiting file before after answer given ends = ends_as facts CancelCall slot entries own waiting file before after answer refl (λ taken. refl) ends
+ends_with facts SealCall slot entries own waiting file before after answer given ends = ends_as facts SealCall slot entries own waiting file before after answer refl (λ taken. refl) refl ends
+ends_with facts SettleCall slot entries own waiting file before after answer given ends = ends_as facts SettleCall slot entries own waiting file before after answer refl (λ taken. refl) refl ends
+ends_with facts CancelCall slot entries own waiting file before after answer given ends = ends_as facts CancelCall slot entries own waiting file before after answer refl (λ taken. refl) refl ends
 
 -- A call that starts, by a thread that has this file and no other.
 module _ {D : Type 0} (facts : D → Facts) (old between : View) (actor : ActorState) (called : CallOn) (held : HeldFile) (before : Book D) (status : Status) (worker : ℕ) (comes : called_at actor.point ≡ Some called)
@@ -182,7 +189,7 @@ module _ {D : Type 0} (facts : D → Facts) (old between : View) (actor : ActorS
       (books_take_calls facts before old between worker old.config.pool actor called held status agrees_here (let within = within_pool in omega (arith, within, few)) starts)))
 
   -- how it ended on the book, said of the token's own file
-  pub ends_here : (waiting : ℕ) (after : Book D) (call : Call) (slot : ℕ) (entries : List Entry) (answer : Filed) → called.call ≡ call → called.change.slot ≡ slot → AreTaken call entries (own_entries actor)
+  pub ends_here : (waiting : List Waiting) (after : Book D) (call : Call) (slot : ℕ) (entries : List Entry) (answer : Filed) → called.call ≡ call → called.change.slot ≡ slot → AreTaken call entries (own_entries actor)
       → Ends facts call slot entries waiting (file_told held.file) before after answer → Ends facts called.call called.change.slot (own_entries actor) waiting (file_told held.file) before after answer
   ends_here waiting after call slot entries answer same there given ends =
       subst (λ (one : Call). Ends facts one called.change.slot (own_entries actor) waiting (file_told held.file) before after answer) (sym same)
@@ -218,19 +225,19 @@ module _ {D : Type 0} (facts : D → Facts) (old between : View) (actor : ActorS
   calls_at n = device_calls called.call (entries_at (file_told held.file) (place_for called.call (file_told held.file) n called.change.slot))
 
   -- The device call that failed is one that the call makes.
-  one_made : (waiting : ℕ) (after : Book D) (broken : WasBroken facts called.call called.change.slot (own_entries actor) waiting (file_told held.file) before after)
+  one_made : (waiting : List Waiting) (after : Book D) (broken : WasBroken facts called.call called.change.slot (own_entries actor) waiting (file_told held.file) before after)
       → is_made (device_calls called.call (entries_at (file_told held.file) (place_held between called found))) broken.number ≡ true
   one_made waiting after broken = ap (λ (n : ℕ). is_made (calls_at n) broken.number) (same_quota ∙ sym agrees_here.as_many) ∙ broken.within
 
   -- If it failed and the file hadn't failed before, one of its device calls failed.
-  pub call_failed : (waiting : ℕ) (after : Book D) (answer : Filed) → answer ≢ Made → Ends facts called.call called.change.slot (own_entries actor) waiting (file_told held.file) before after answer
+  pub call_failed : (waiting : List Waiting) (after : Book D) (answer : Filed) → answer ≢ Made → Ends facts called.call called.change.slot (own_entries actor) waiting (file_told held.file) before after answer
       → fails between called found ≡ false → (number : ℕ) × (is_made (device_calls called.call (entries_at (file_told held.file) (place_held between called found))) number ≡ true)
   call_failed waiting after Made other ends sound = absurd (other refl)
   call_failed waiting after Broken other ends sound = (ends.number, one_made waiting after ends)
   call_failed waiting after Untouched other ends sound = absurd (let e : true ≡ false = sym ends.refused ∙ sound in cc)
 
   -- After the device calls, and the step on a shared word that ends the call.
-  module _ (waiting : ℕ) (after : Book D) (last : View) (as_before : after.places ≡ before.places) where
+  module _ (waiting : List Waiting) (after : Book D) (last : View) (as_before : after.places ≡ before.places) where
     agrees_after : (answer : Filed) → Ends facts called.call called.change.slot (own_entries actor) waiting (file_told held.file) before after answer
         → Agrees facts after (file_token_answered called.call held.file quota called.change.slot (own_entries actor) answer) quota old.config.pool
     agrees_after answer ends =

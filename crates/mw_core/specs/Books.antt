@@ -14,6 +14,7 @@ use Rattle.mw_world.specs.Definition.Calls.{Called as CallOn}
 use Rattle.mw_book.specs.declared.answers.Filed.{Filed}
 use Rattle.mw_book.specs.declared.answers.Filed.TheVariants.{Made, Broken, Untouched}
 use Rattle.mw_book.specs.declared.book.Book.{Book}
+use Rattle.mw_book.specs.declared.waiting.Waiting.{Waiting}
 use Rattle.mw_book.specs.Ends.{Ends}
 use Rattle.mw_book.specs.Permits.{MayCall}
 use Rattle.mw_book.specs.Representation.{Represents, unopened}
@@ -65,7 +66,7 @@ module _ {D : Type 0} (facts : D → Facts) where
 
   -- A book that agreed with the file token before a call agrees after it with the token after the call, by the answer.
   abbrev pub BooksFollowFileTokens : Type 0
-  BooksFollowFileTokens = (old new : Book D) (file_token : FileToken) (places slots : ℕ) (call : Call) (slot : ℕ) (entries : List Entry) (waiting : ℕ) (result : Filed)
+  BooksFollowFileTokens = (old new : Book D) (file_token : FileToken) (places slots : ℕ) (call : Call) (slot : ℕ) (entries : List Entry) (waiting : List Waiting) (result : Filed)
       → Agrees facts old file_token places slots → slot < slots → (fails_on call (file_told file_token) ≡ false → place_called call file_token places slot entries < places)
       → Ends facts call slot entries waiting (file_told file_token) old new result → new.places ≡ old.places
       → Agrees facts new (file_token_answered call file_token places slot entries result) places slots

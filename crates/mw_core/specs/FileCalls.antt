@@ -41,9 +41,9 @@ abbrev pub prepares : Op → List Entry → Option (ℕ × List Entry)
 prepares (FileOp PrepareCall slot) entries = Some (slot, entries)
 prepares op entries = None
 
--- What a call did to the book while so many changes waited, by how it ended: nothing if it didn't start; it was made; a device
+-- What a call did to the book while these changes waited, by how it ended: nothing if it didn't start; it was made; a device
 -- call failed in it, to which the world gives this number, counted from 1; or nothing, because the file had failed before.
-module _ {D : Type 0} (facts : D → Facts) (called : CallOn) (entries : List Entry) (waiting : ℕ) (file_token : FileToken) (old new : Book D) where
+module _ {D : Type 0} (facts : D → Facts) (called : CallOn) (entries : List Entry) (waiting : List Waiting) (file_token : FileToken) (old new : Book D) where
   abbrev pub EndsThere : End → Type 0
   EndsThere Skips = new ≡ old
   EndsThere GoesWell = WasMade facts called.call called.change.slot entries waiting (file_told file_token) old new
@@ -102,9 +102,9 @@ pub record HasFiled (well : Bool) (old new : View) : Type 0 where
   pub ready : Each (IsReady new.config) new.tokens
   pub same_files : new.files ≡ old.files
 
--- The worker's request is at a call. That call was made, while so many changes waited, with the file that its thread has, and ended so; it went well
+-- The worker's request is at a call. That call was made, while these changes waited, with the file that its thread has, and ended so; it went well
 -- or not. The thread knows what is true of the file after it. The run that it knows extends the one that it was told.
-pub record MakesCall {D : Type 0} (facts : D → Facts) (waiting worker : ℕ) (old new : View) (actor : ActorState) (before after : Book D) (well : Bool) : Type 0 where
+pub record MakesCall {D : Type 0} (facts : D → Facts) (waiting : List Waiting) (worker : ℕ) (old new : View) (actor : ActorState) (before after : Book D) (well : Bool) : Type 0 where
   pub called : CallOn
   pub comes_to : called_at actor.point ≡ Some called
   pub status : Status
@@ -118,9 +118,9 @@ pub record MakesCall {D : Type 0} (facts : D → Facts) (waiting worker : ℕ) (
   pub event : IsOneEvent worker end status (file_among old.files) old new
   pub follows : ExtendsKnownRun old.learned_run new.known_run
 
--- The request's call on its tenant's file was made once, while so many changes waited. It ended so, and extends a run by that event. The request was
+-- The request's call on its tenant's file was made once, while these changes waited. It ended so, and extends a run by that event. The request was
 -- told of that end, and the file token is the one after it. Book and token agreed before it, and agree after it.
-pub record FilesOnce {D : Type 0} (facts : D → Facts) (waiting : ℕ) (old new : Pass) (actor next : ActorState) (before after : Book D) (file_token kept : FileToken) : Type 0 where
+pub record FilesOnce {D : Type 0} (facts : D → Facts) (waiting : List Waiting) (old new : Pass) (actor next : ActorState) (before after : Book D) (file_token kept : FileToken) : Type 0 where
   pub called : CallOn
   pub comes_to : called_at actor.point ≡ Some called
   pub status : Status

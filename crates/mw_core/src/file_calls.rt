@@ -2,7 +2,7 @@
 //!
 //! mw_engine calls `Core::file` under the lock of the tenant's file. Change it with `specs/FileCalls` and
 //! `specs/Books`.
-ghost use Rattle.std.specs.Prelude.{◌≡◌, ◌≢◌, None, [], length};
+ghost use Rattle.std.specs.Prelude.{◌≡◌, ◌≢◌, None, []};
 ghost use Rattle.std.specs.Option.{option_map};
 ghost use Rattle.mw_actor.specs.ActorState as acting;
 ghost use Rattle.mw_actor.specs.Asks.{asks};
@@ -60,7 +60,7 @@ impl Core {
         ensures same { IsSamePass pass.old pass.new }
         ensures free { IsFree pass.new }
         ensures carried { IsCarried pass.new actor.new }
-        ensures files { FilesOnce D.facts (length waiting.now) pass.old pass.new actor.old actor.new book.old book.new (file_kept file_pass) (file_kept result) }
+        ensures files { FilesOnce D.facts waiting.now pass.old pass.new actor.old actor.new book.old book.new (file_kept file_pass) (file_kept result) }
         ensures file_pass { IsFilePassOf self.now.shared result }
         ensures whose { result.tenant ≡ file_pass.tenant }
         ensures follows { ExtendsKnownRun file_pass.seat.me.0.known_run result.seat.me.0.known_run }
@@ -92,7 +92,7 @@ impl Core {
         requires agrees { AgreesHeld D.facts book.old pass.old.seat.me.0 actor.now.tenant }
         ensures own { IsOf self.now.shared pass.new }
         ensures same { IsSamePass pass.old pass.new }
-        ensures made { MakesCall D.facts (length waiting.now) pass.old.worker pass.old.seat.me.0 pass.new.seat.me.0 actor.now book.old book.new result }
+        ensures made { MakesCall D.facts waiting.now pass.old.worker pass.old.seat.me.0 pass.new.seat.me.0 actor.now book.old book.new result }
         ensures agrees { AgreesHeld D.facts book.new pass.new.seat.me.0 actor.now.tenant }
     {
         let Op::File { call, slot } = actor.ask() else {

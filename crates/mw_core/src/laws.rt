@@ -1,8 +1,8 @@
 //! States that a book (a tenant's open file) and its file token (the ghost capability to call it) agree after each
 //! opening and call.
 //!
-//! The functions are empty: their contracts are the facts, proved in `proofs/laws`. To change a fact, begin with its
-//! definition in `specs`.
+//! Nothing calls these empty functions. Their contracts are the facts, defined in `specs/Books` and proved in
+//! `proofs/Agreement`, which proofs of mw_engine cite (`proofs/OpenedParts`): a fact changes with all three.
 ghost use Rattle.mw_core.specs.Books.{BooksFollowFileTokens, BooksTakeCalls, OpenedBooksAgree, UnopenedBooksAgree};
 
 use mw_disk::Disk;

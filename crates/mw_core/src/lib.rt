@@ -9,7 +9,7 @@
 //! `specs/Steps` says what `begin`, `step` and `advance` do, `specs/FileCalls` what `file` does, `specs/ReadRounds`
 //! and `specs/Reasons` what `try_look` does, and `specs/Books` when a book and a file token agree.
 //!
-//! Used by: mw_engine, mw_table_tests.
+//! Used by: mw_engine, mw_table_tests; mw_opening and mw_law_threads, in contracts.
 //!
 //! [`Book`]: mw_book::Book
 #![tactic(auto)]

@@ -1,8 +1,8 @@
 //! The trait of a disk. Its contracts say what each call promises, and what a crash may leave.
 //!
-//! mw_file makes its calls, on a [`FileDisk`](crate::FileDisk) in the server and on a [`MemDisk`](crate::MemDisk)
-//! elsewhere. These contracts are the disk model: a change of one changes what the server assumes (README,
-//! docs/PROMISES, docs/OPERATING).
+//! Used by: many crates from mw_file on. mw_file makes its calls, on a [`FileDisk`](crate::FileDisk) in the server
+//! and on a [`MemDisk`](crate::MemDisk) elsewhere. These contracts are the disk model: a change of one changes what
+//! the server assumes (README, docs/PROMISES, docs/OPERATING).
 ghost use Rattle.std.specs.Prelude.{◌≡◌, ◌+◌, ◌≤◌, Bool, length, slice_range, is_ok, IsTrue, OnOk, IfOk};
 ghost use Rattle.mw_disk.specs.DeviceCalls.{DeviceCall, ReadAt, WriteAt, Sync, Length};
 ghost use Rattle.mw_disk.specs.Facts.{Facts, Called, Spares, NothingNew, TearsAt, Torn, IsSynced, patched};

@@ -2,7 +2,10 @@
 //! implementations.
 //!
 //! [`Disk`] is the trait, and `device.rt` the disk model. [`MemDisk`] is a disk in memory, for tests and the
-//! simulated files of mw_world_file. [`FileDisk`] is one over a real file, for the server. mw_file makes all calls.
+//! simulated files of mw_world_file. [`FileDisk`] is one over a real file, for the server.
+//!
+//! Used by: many crates from mw_file on, which makes all calls. A change of the disk model changes what the server
+//! assumes (README, docs/PROMISES, docs/OPERATING).
 #![tactic(auto)]
 
 mod device;

@@ -5,6 +5,7 @@ use Rattle.std.proofs.Common.{refl, sym, ap, subst, ◌∙◌}
 use Rattle.mw_disk.specs.Facts.{Facts}
 use Rattle.mw_file.specs.declared.tenant_file.TenantFile.{TenantFile}
 use Rattle.mw_book.specs.declared.book.Book.{Book}
+use Rattle.mw_book.specs.declared.waiting.Waiting.{Waiting}
 use Rattle.mw_book.specs.Crashes.{LeavesEither}
 use Rattle.mw_book.specs.OpenFile.{OnDisk, disk_in}
 use Rattle.mw_actor.specs.ActorState.{ActorState}
@@ -80,12 +81,12 @@ still_on facts becomes None (Some new) on = absurd on
 still_on facts becomes (Some old) None on = absurd on
 
 -- a call leaves a book its file, if it has one
-pub still_held : {D : Type 0} (facts : D → Facts) (waiting : ℕ) (old new : Pass) (actor next : ActorState) (before after : Book D) (file_passes kept : FileToken) → FilesOnce facts waiting old new actor next before after file_passes kept
+pub still_held : {D : Type 0} (facts : D → Facts) (waiting : List Waiting) (old new : Pass) (actor next : ActorState) (before after : Book D) (file_passes kept : FileToken) → FilesOnce facts waiting old new actor next before after file_passes kept
     → is_some after.held ≡ is_some before.held
 still_held facts waiting old new actor next before after file_passes kept once = still_on facts (LeavesEither file_passes.contents (stake_by once.end once.called file_passes)) before.held after.held once.safe
 
 -- The book and the file pass that come back from a call are kept as those of before the call were.
-pub kept_over : {D : Type 0} (facts : D → Facts) (shared : Shared) (identity : Identity) (same : identity_on shared identity.lines ≡ identity) (waiting : ℕ) (old new : Pass) (actor next : ActorState) (before after : Book D) (file_pass returned : FilePass)
+pub kept_over : {D : Type 0} (facts : D → Facts) (shared : Shared) (identity : Identity) (same : identity_on shared identity.lines ≡ identity) (waiting : List Waiting) (old new : Pass) (actor next : ActorState) (before after : Book D) (file_pass returned : FilePass)
     → IsKept facts identity before file_pass → FilesOnce facts waiting old new actor next before after (file_kept file_pass) (file_kept returned) → IsFilePassOf shared returned → returned.tenant ≡ file_pass.tenant
     → AgreesThere facts shared after returned → IsKept facts identity after returned
 kept_over facts shared identity same waiting old new actor next before after file_pass returned kept once own whose agrees =

@@ -1,9 +1,10 @@
 -- Defines what a call on a tenant's file does, as an engine makes it.
 -- Used by: src/file_calls.rt, src/file_lock/one_call.rt, mw_law_threads.
-use Rattle.std.specs.Prelude.{◌≡◌, ℕ, zero, suc}
+use Rattle.std.specs.Prelude.{◌≡◌, ℕ, zero, suc, List}
 use Rattle.mw_actor.specs.ActorState.{ActorState}
 use Rattle.mw_disk.specs.Facts.{Facts}
 use Rattle.mw_book.specs.declared.book.Book.{Book}
+use Rattle.mw_book.specs.declared.waiting.Waiting.{Waiting}
 use Rattle.mw_core.specs.FromTable.{FilePass, ExtendsKnownRun, Pass, file_kept}
 use Rattle.mw_core.specs.FileCalls.{FilesOnce}
 use Rattle.mw_engine.specs.Brand.{Identity}
@@ -24,8 +25,8 @@ pub record FilesOne {D : Type 0} (facts : D → Facts) (identity : Identity) (ol
   pub its_still : returned.tenant ≡ actor.tenant
   pub follows : ExtendsKnownRun file_pass.seat.me.0.known_run returned.seat.me.0.known_run
   pub known : returned.seat.me.0.known_run ≡ new.seat.me.0.known_run
-  -- how many changes waited, whose records the call may have written too
-  pub waiting : ℕ
+  -- the changes that waited, whose records the call may have written too
+  pub waiting : List Waiting
   pub once : FilesOnce facts waiting old new actor next before after (file_kept file_pass) (file_kept returned)
 
 module _ {D : Type 0} (facts : D → Facts) (identity : Identity) where

@@ -1,7 +1,7 @@
 //! Names an engine as a type, because what a lock guards is known by its type alone.
 //!
-//! Used by: `engine` and all that works on one. mw_programs and tests are generic in it. Change it with
-//! `specs/Brand`.
+//! Used by: `engine` and all that works on one; mw_service, mw_programs and tests, which are generic in it. Change it
+//! with `specs/Brand`.
 use std::marker::Brand;
 
 /// Names one engine. Its identity is what stays the same for the engine's whole life. What is under a lock is known

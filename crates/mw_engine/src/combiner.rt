@@ -22,7 +22,9 @@
 //! until the settle of all.
 //!
 //! Used by: `one_call`, which takes the lock and sends requests here; `serving` calls `depart`, and `copies`
-//! `wake_next`. Change it with `specs/Errands`.
+//! `wake_next`. Change it with `specs/Errands`. After a change run scripts/check-wakes, which reads `LONG_SLEEP` and
+//! `SHORT_SLEEP` here, and scripts/check-waits, whose model of who wakes whom (scripts/wait_parts/model.py) changes
+//! with it.
 ghost use Rattle.std.specs.Prelude.{IfOk, IfErr};
 ghost use Rattle.mw_loan.specs.Loans.{IsReceiptFor, IsReceiptOf};
 ghost use Rattle.mw_engine.specs.declared.errand.Errand.{Errand as ErrandOf};

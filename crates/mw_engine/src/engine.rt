@@ -1,6 +1,6 @@
 //! The engine: the shared words of all tenants, and each tenant's file under a lock of its own.
 //!
-//! Used by: mw_service, tests. `start` makes it. Change it with `specs/Brand` and `specs/TenantWords`.
+//! Used by: mw_service, mw_programs, tests. `start` makes it. Change it with `specs/Brand` and `specs/TenantWords`.
 ghost use Rattle.std.specs.Prelude.{◌≡◌, length};
 ghost use Rattle.mw_engine.specs.Brand.{identity_on};
 ghost use Rattle.mw_engine.specs.TenantWords.{lines_told};

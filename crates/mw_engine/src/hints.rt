@@ -1,7 +1,8 @@
 //! What is known of a tenant's file, and of the workers around it, without a look into its room.
 //!
 //! Used by: `waiting_room`, `order`. All of it is a hint, which may be old or wrong, and then costs a sync more or a
-//! short sleep. No contract rests on it.
+//! short sleep. No contract rests on it. After a change run scripts/check-wakes and scripts/check-waits, whose model
+//! (scripts/wait_parts/model.py) changes with it.
 use std::sync::atomic::{AtomicBool, AtomicU64, AtomicUsize, Ordering};
 
 /// How many slots a word of a set has.

@@ -1,6 +1,7 @@
 //! Lets tests hold a worker at certain points of a request.
 //!
-//! `serving` tells the points. `mwserve` holds nobody ([`NoHold`]). A new point needs a call in `serving`.
+//! `serving` tells the points. mw_service is generic in it. mw_programs gives a [`NoHold`]: `mwserve` holds nobody. A
+//! new point needs a call in `serving`.
 
 /// A point of a request at which a worker can be held. No lock is taken there.
 #[derive(Clone, Copy, Debug, PartialEq, Eq)]

@@ -4,7 +4,8 @@
 //! and last a prepare whose record nobody has written yet. These two wait while a worker is expected to come with its
 //! seal soon.
 //!
-//! Used by: `waiting_room`, `combiner`, `file_lock`, `one_call`. No contract speaks of the order.
+//! Used by: `waiting_room`, `combiner`, `file_lock`, `one_call`. No contract speaks of the order. After a change run
+//! scripts/check-wakes and scripts/check-waits, whose model (scripts/wait_parts/model.py) changes with it.
 use crate::file_calls::DueCall;
 use crate::hints::Hints;
 use mw_look::Call;

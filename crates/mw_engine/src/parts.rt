@@ -1,7 +1,7 @@
 //! The parts of an engine, before it has an identity of its own.
 //!
-//! `new_parts` makes them, and `start` makes an engine of them. Change it with `specs/Brand`, `specs/GuardedFile` and
-//! `specs/TenantWords`.
+//! `new_parts` makes them for mw_opening, and `start` makes an engine of them for mw_programs. Change it with
+//! `specs/Brand`, `specs/GuardedFile` and `specs/TenantWords`.
 ghost use Rattle.std.specs.Prelude.{◌≡◌, length};
 ghost use Rattle.mw_engine.specs.Brand.{identity_on};
 ghost use Rattle.mw_engine.specs.GuardedFile.{AreKept};

@@ -2,7 +2,8 @@
 //! file writes along with its own bytes.
 //!
 //! Used by: `file_lock`, `one_call`, `guarded_file`, `start`, `combiner`. No contract says who is there. A worker
-//! that nobody serves tries the lock itself.
+//! that nobody serves tries the lock itself. After a change run scripts/check-wakes and scripts/check-waits, whose
+//! model (scripts/wait_parts/model.py) changes with it.
 use crate::brand::EngineBrand;
 use crate::errand_boxes::ErrandBox;
 use crate::hints::Hints;

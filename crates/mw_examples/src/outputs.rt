@@ -1,7 +1,8 @@
 //! What the programs write to in the tests: an output that keeps what it gets, fails if it is told to, and tells what it has
 //! seen.
 //!
-//! Used by: `player`, `stage`, `talks`.
+//! Used by: `player`, `stage`, `stories`, `talks`. It finds a port by the words `admin`, `http` and `ready`, which
+//! mwserve prints (`console.rt` of mw_programs): change them together.
 use std::fs::{File, TryLockError};
 use std::io::{self, ErrorKind, Write};
 use std::sync::atomic::{AtomicU16, Ordering};

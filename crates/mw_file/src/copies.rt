@@ -1,6 +1,6 @@
 //! Copies the bytes of a file that is in use: a backup of it at one moment, by one call for the length and one read.
 //!
-//! Used by: mw_book. `specs/Copies` says what a copy has: change both together.
+//! Used by: mw_book; mw_engine, for [`CopyFault`]. `specs/Copies` says what a copy has: change both together.
 ghost use Rattle.std.specs.Prelude.{IsTrue};
 ghost use Rattle.mw_disk.specs.Runs.{Later, Touched};
 ghost use Rattle.mw_file.specs.Copies.{FrontEnds};

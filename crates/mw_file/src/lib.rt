@@ -22,7 +22,7 @@
 //! of [`mw_disk::Disk`], the crash leaves the words with every sealed change. A change that was being sealed is there
 //! wholly or not at all.
 //!
-//! Used by: mw_book, mw_opening, mw_world_file, mw_plain. A change of a contract changes what these promise.
+//! Used by: many crates from mw_plain on. A change of a contract changes what these promise.
 #![tactic(auto)]
 
 mod calls;

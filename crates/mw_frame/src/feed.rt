@@ -1,6 +1,7 @@
 //! A feed: it takes a connection's bytes in pieces, and gives them back as lines.
 //!
-//! Each session has one. Callers see the stream of `specs/Stream`; the fields may change with `specs/FeedBytes`.
+//! Used by: mw_session, which has one in each session. Callers see the stream of `specs/Stream`; the fields may
+//! change with `specs/FeedBytes`.
 ghost use Rattle.std.specs.Prelude.{◌≡◌, ℕ, List, [], ◌++◌, IsOk, IfOk, OnOk, OnErr, IfNone, slice_get};
 ghost use Rattle.std.specs.Option.{option_to_list};
 ghost use Rattle.mw_frame.specs.Stream.{Open, Ended, IsPart, behind, fed, lines_of};

@@ -16,7 +16,8 @@
 //! feed.next();    // the text GET 1
 //! ```
 //!
-//! Used by: mw_session, which sees the stream of `specs/Stream`; how a feed keeps its bytes may change.
+//! Used by: mw_session, which sees the stream of `specs/Stream`; mw_connections, in contracts. How a feed keeps its
+//! bytes may change.
 #![tactic(auto)]
 
 mod feed;

@@ -1,7 +1,7 @@
 //! The lines of the protocol: reads what a client's line asks for, and writes each line of an answer.
 //!
-//! Used by: mw_session; mw_client, in reverse; mw_config and mw_schedule, for numbers. A change of a line is a change
-//! of the protocol: docs/PROTOCOL.
+//! Used by: many crates from mw_config on. mw_session reads and says lines; mw_client does so in reverse; mw_config
+//! and mw_schedule read numbers. A change of a line is a change of the protocol: docs/PROTOCOL.
 #![tactic(auto)]
 
 mod changes;

@@ -1,6 +1,6 @@
 //! Gives the rule of a box (`specs/Rule`) as a type that `atomic_table` takes, and names what each step tells.
 //!
-//! Used by: `loan_box`.
+//! Used by: `loan_box`; mw_engine, for [`Lasting`].
 ghost use Rattle.std.specs.Prelude.{None};
 
 use crate::views::View;

@@ -1,7 +1,7 @@
 //! Defines the marks: the events that may happen to a store alone, such as a request, its reply, or a restart.
 //!
-//! mw_world's labels enter them into a tenant's history, and mw_plain's cases name them. CONTRIBUTING lists under *A
-//! mark* what a new one needs.
+//! mw_world's labels enter them into a tenant's history, and mw_plain's cases name them. mw_table, mw_world_memory,
+//! mw_simulator and mw_world_trials have lists of them. CONTRIBUTING lists under *A mark* what a new one needs.
 
 use mw_words::Job;
 

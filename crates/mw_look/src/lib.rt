@@ -7,8 +7,8 @@
 //! `specs/Steps` (what a machine asks for) and `specs/Program` (a read). `specs/PlacePatterns` claims facts about
 //! places, `specs/Runs` about the runs of a read.
 //!
-//! Used by: mw_actor, which has a read in each request, and all crates of the core. A change of `specs/Program`
-//! changes the algorithm of a read, and its laws.
+//! Used by: many crates from mw_actor on, which has a read in each request. A change of `specs/Program` changes the
+//! algorithm of a read, and its laws.
 #![tactic(auto)]
 
 mod laws;

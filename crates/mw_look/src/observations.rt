@@ -1,7 +1,8 @@
 //! Defines what a request is told of its step: the bits that were found, or the value that they are of.
 //!
-//! mw_core, mw_simulator and mw_table say a [`Got`]; the request makes an [`Observation`] of it. A new one needs a
-//! case in `specs/Observations`, and wherever a program is told one (mw_look, mw_actor).
+//! Used by: many crates from mw_actor on. mw_core, mw_simulator and mw_table say a [`Got`]; the request makes an
+//! [`Observation`] of it. A new one needs a case in `specs/Observations`, and wherever a program is told one
+//! (mw_look, mw_actor).
 ghost use Rattle.std.specs.Prelude.{◌≡◌};
 ghost use Rattle.mw_look.specs.Observations.{IsObservationInRange, observation_of, observation_of_bits};
 

@@ -1,7 +1,10 @@
 //! The points of a read's program (its program counter), each with what the read has found so far.
 //!
-//! `look.rt` goes from point to point, and the world's definitions see the point of each request. A new point needs a
-//! case in `specs/Program`, and in the laws about reads.
+//! Used by: `look.rt`, which goes from point to point; mw_core, mw_world_memory, mw_world_trials. The world's
+//! definitions see the point of each request. A new point needs a case in `specs/Program`, and in the laws about
+//! reads. A last case for all other points takes it silently in `turns_at_gate`, `turns_at_word` and `turns_at_loss`
+//! of mw_core (`read_rounds.rt`), in `read_label` and others of mw_world_memory (`step_labels.rt`), and in laws as
+//! `specs/Knowledge/Points` and `specs/Counts/Ready` of mw_law_runs.
 ghost use Rattle.std.specs.Prelude.{◌≡◌};
 ghost use Rattle.mw_words.specs.Patterns.{IsGateInRange};
 ghost use Rattle.mw_look.specs.Program.{word_of, slot_of, seq_of, resumed, first_entry, next_entry, address_seen, pinning, answer, is_over, value_of};

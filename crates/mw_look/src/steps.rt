@@ -1,10 +1,10 @@
 //! The operations that a request's program asks for: load or change a shared word of 64 bits, or call a tenant's
 //! file.
 //!
-//! Used by: mw_table, mw_simulator. A new [`Kind`] needs a case in `Kind::shape` and perhaps `specs/Shapes`, its name
-//! in mw_schedule (`src/steps.rt`), and a case in `claims_slot` (mw_player, `specs/Printed`). A new fetch also needs
-//! a case in `way_of` (mw_rule), in `fetched` (mw_world, `specs/Definition/Changes`) and in mw_world_memory
-//! (`src/cells/steps.rt`); a catch-all in `way_of` and the latter takes it silently.
+//! Used by: many crates from mw_actor on. A new [`Kind`] needs a case in `Kind::shape` and perhaps `specs/Shapes`,
+//! its name in mw_schedule (`src/steps.rt`), and a case in `claims_slot` (mw_player, `specs/Printed`). A new fetch
+//! also needs a case in `way_of` (mw_rule), in `fetched` (mw_world, `specs/Definition/Changes`) and in
+//! mw_world_memory (`src/cells/steps.rt`); a catch-all in `way_of` and the latter takes it silently.
 ghost use Rattle.std.specs.Prelude.{◌≡◌};
 ghost use Rattle.mw_look.specs.Shapes.{shape_of};
 ghost use Rattle.mw_look.specs.Steps.{place_of};

@@ -1,7 +1,7 @@
 //! Begins every program: holds the standard streams open, reads the command line as texts, and gives the exit status.
 //! It has the version that all programs tell.
 //!
-//! Used by: the five programs; mw_config, mw_file_command, mwbench and mw_init, for the version.
+//! Used by: many crates from mw_file_command on. Each of the five programs begins by it; the others tell the version.
 #![tactic(auto)]
 
 mod program;

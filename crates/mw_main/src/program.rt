@@ -1,6 +1,7 @@
 //! Runs a program from its start to its exit status.
 //!
-//! Each program's `main` calls `run`. docs/OPERATING tells the texts and the statuses: change them together.
+//! Used by: mwbench, mwinit, mwserve, mwreplay, mwshow, whose `main` calls `run`. docs/OPERATING tells the texts and
+//! the statuses: change them together.
 ghost use Rattle.std.specs.Prelude.{◌≡◌};
 ghost use Rattle.std.specs.Process.{exit_status};
 

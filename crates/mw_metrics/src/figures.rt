@@ -1,6 +1,6 @@
 //! The figures of a server: those that are counted, and those of the moment.
 //!
-//! Used by: `meters`, `exposition`, mw_server_pages. Change it with `specs/Figures`.
+//! Used by: `meters`, `exposition`, mw_server_pages, mw_examples. Change it with `specs/Figures`.
 ghost use Rattle.std.specs.Prelude.{◌≡◌};
 ghost use Rattle.mw_metrics.specs.Figures as spec;
 

@@ -1,5 +1,9 @@
 //! What is counted apart: the kinds of requests and of replies, the calls of a device, and why a connection was closed.
 //! Each has the text of its label.
+//!
+//! Used by: `counters`, `counted`, `server_lines`, `tenant_lines`; mw_connections, for [`CloseReason`]; mw_opening,
+//! for [`DeviceCall`]. A new kind needs its text here and in `specs/Names`, its place in the lists below and in
+//! `counters`, and its name in the table of docs/HTTP.
 ghost use Rattle.std.specs.Prelude.{◌≡◌, ◌≤◌, length};
 ghost use Rattle.mw_metrics.specs.Names as spec;
 ghost use Rattle.mw_metrics.specs.declared.samples.TheConstants.{MAX_LABEL_VALUE};
@@ -44,9 +48,10 @@ pub enum CloseReason {
     PeerEnd,
     /// A line was too long.
     TooLong,
-    /// A read failed, or the client was silent or slow for too long.
+    /// A read failed, the client was silent or slow for too long (`--idle`, `--line-time`), or it sent too many lines
+    /// with a fault (`--faults`).
     ReadFault,
-    /// A write failed, or the client took no reply for too long.
+    /// A write failed, the client took no reply for too long, or the server was without its lease (`--lease`).
     WriteFault,
     /// Memory was out for what the client sent.
     Memory,

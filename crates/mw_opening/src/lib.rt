@@ -5,7 +5,8 @@
 //! [`WatchedFile`], which times its calls and counts them, and keeps in a [`FileState`] what is known of it.
 //! [`open_plain`] opens a file only if it is plain. [`Notes`] writes notes.
 //!
-//! Used by: mw_programs. docs/OPERATING lists the notes and says which files a server opens: change them together.
+//! Used by: mw_examples, mw_programs. docs/OPERATING lists the notes and says which files a server opens: change them
+//! together.
 #![tactic(auto)]
 
 mod file_fault;

@@ -14,8 +14,9 @@
 //!
 //! A move whose result doesn't fit the bits of a door or a gate is not allowed.
 //!
-//! Used by: mw_look and mw_actor, for admit, claim and pin; tests, for the others. A change of `specs/Moves` changes
-//! the algorithm, and the laws of the world.
+//! Used by: many crates from mw_look on. mw_look and mw_actor admit, claim and pin by its functions; the other crates
+//! cite its contracts, and only tests call the other functions. A change of `specs/Moves` changes the algorithm, and
+//! the laws of the world.
 #![tactic(auto)]
 
 mod doors;

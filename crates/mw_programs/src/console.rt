@@ -1,7 +1,7 @@
 //! The standard output of a server: where it listens, or what a script's session is told.
 //!
-//! Used by: `serving`, `services`, `clients`, `doors`; mwserve and tests give `serve` a [`Printed`]. docs/OPERATING tells what is
-//! printed: change both together.
+//! Used by: `serving`, `services`, `clients`, `doors`; mwserve and mw_examples, which give `serve` a [`Printed`].
+//! docs/OPERATING tells what is printed: change both together.
 ghost use Rattle.std.specs.Prelude.{List};
 ghost use Rattle.mw_session.specs.Talk.{Call};
 ghost use Rattle.mw_service.specs.EngineAnswers.{ByWorker};

@@ -1,6 +1,7 @@
 //! Finds out whether the limits of descriptors and of the stack leave room for what a server needs.
 //!
-//! `serving` asks before it serves clients. docs/OPERATING tells how much is needed: change both together.
+//! `serving` asks before it serves clients. `specs/Descriptors`, docs/OPERATING and scripts/check-limits (`NEEDED`,
+//! `WITH_ADMIN`, `STACK`) have the same numbers: change them together.
 ghost use Rattle.std.specs.Prelude.{◌≡◌, ◌≤◌};
 ghost use Rattle.mw_programs.specs.Descriptors.{needed, needed_to_wait};
 ghost use Rattle.mw_words.specs.declared.limits.TheConstants.{MAX_TENANTS};

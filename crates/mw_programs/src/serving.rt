@@ -1,6 +1,7 @@
 //! Implements `mwserve`: reads the command line, opens the files, and serves the tenants' words.
 //!
-//! `mwserve` calls `serve`. docs/OPERATING tells its options, notes and statuses: change them together.
+//! mwserve calls `serve`, and so does mw_examples. docs/OPERATING tells its options, notes and statuses: change them
+//! together.
 ghost use Rattle.std.specs.Prelude.{◌≡◌, ◌+◌, ◌<◌, ◌≤◌, All, IfOk, length, vec_len};
 ghost use Rattle.mw_config.specs.CommandLine.{ArePermittedArgs};
 ghost use Rattle.mw_config.specs.Limits.{ArePermitted};
@@ -143,11 +144,12 @@ where
 
 /// Gives what stands before the text on a wrong command line: the level of an error, if it asks for levels.
 fn front_of(args: &[String]) -> &'static str {
-    if args.iter().any(|word| word.as_str() == "--journal") {
-        "<3>"
-    } else {
-        ""
+    for word in args {
+        if word.as_str() == "--journal" {
+            return "<3>";
+        }
     }
+    ""
 }
 
 /// Writes why a command line isn't served, with this before it, or what it asks to be told. Gives the exit status.

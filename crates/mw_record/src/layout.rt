@@ -1,6 +1,6 @@
 //! Defines where each part of a file's layout is, and reads and writes its numbers.
 //!
-//! Used by: mw_file, mw_show, mw_world_file. It is the format of files that are in use: CONTRIBUTING says under
+//! Used by: many crates from mw_file_text on. It is the format of files that are in use: CONTRIBUTING says under
 //! *Limits of the file* what may change. docs/FILES tells the numbers.
 ghost use Rattle.std.specs.Prelude.{◌≡◌, ◌+◌, ◌≤◌, ◌<◌, ◌^◌, length};
 ghost use Rattle.mw_record.specs.Layout as spec;

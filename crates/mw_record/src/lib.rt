@@ -27,8 +27,8 @@
 //! entries are its record, which is put over the home words. The other bytes of a closed place are not looked
 //! at.
 //!
-//! mw_file reads and writes files by it, mw_init makes new ones, and mw_show prints them. CONTRIBUTING says under
-//! *Limits of the file* which of it may change without a new layout.
+//! Used by: many crates from mw_file_text on. mw_file reads and writes files by it, mw_init makes new ones, and
+//! mw_show prints them. CONTRIBUTING says under *Limits of the file* which of it may change without a new layout.
 #![tactic(auto)]
 
 mod damages;

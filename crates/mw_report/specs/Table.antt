@@ -1,5 +1,6 @@
 -- Defines the text of the administrator's report: a table of the tenants, and how many slots of the pool are free.
--- Used by: many crates from mw_plain on, table.rt. A change here changes the REPORT: docs/PROTOCOL and mw_client.
+-- Used by: many crates from mw_plain on, table.rt. A change here changes the REPORT: docs/PROTOCOL, mw_client, and
+-- the reader of a report in each language of clients/ (C, Go, Java, Node, Python, Rust).
 use Rattle.std.specs.Prelude.{ℕ, ◌-◌, ◌≤◌, ◌++◌, All, Bool, List, length, replicate, flat_map, codes, decimal, if◌then◌else◌}
 use Rattle.mw_words.specs.declared.limits.TheConstants.{MAX_NAME, MAX_PLACES, MAX_POOL, MAX_QUOTA, MAX_TENANTS, MAX_WORDS}
 use Rattle.mw_report.specs.declared.figures.TenantFigures.{TenantFigures}

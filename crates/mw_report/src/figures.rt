@@ -1,7 +1,7 @@
 //! The figures of an administrator's report: those of each tenant, and how many slots of the pool are free.
 //!
-//! Used by: mw_engine, mw_session, mw_client. A new figure needs a column in `specs/Table` and `table.rt`, its value
-//! in mw_engine, and its reader in mw_client.
+//! Used by: many crates from mw_metrics on. A new figure needs a column in `specs/Table` and `table.rt`, its value in
+//! mw_engine and mw_plain, and its reader in mw_client and in each language of clients/.
 
 use arrayvec::ArrayVec;
 use mw_words::{MAX_TENANTS, Name};

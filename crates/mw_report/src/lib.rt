@@ -7,8 +7,9 @@
 //! free 30
 //! ```
 //!
-//! mw_engine gathers the figures, mw_session writes the report for `REPORT`, and mw_client reads it back. A new
-//! figure needs a column in `specs/Table` and `table.rt`, and all three crates change.
+//! Used by: many crates from mw_metrics on. mw_engine gathers the figures, mw_session writes the report for `REPORT`,
+//! and mw_client reads it back. A new figure needs a column in `specs/Table` and `table.rt`, and all three crates
+//! change, as do the readers of a report in clients/.
 #![tactic(auto)]
 
 mod figures;

@@ -14,8 +14,9 @@ ghost use Rattle.mw_service.specs.SessionOrder.{AreInOrder, seen_in};
 /// that is no earlier than what the session had seen before it. The change of each YES is its own. That history is what
 /// the session has seen at last.
 ///
-/// - `replies`: so it is of answers as a session's notes tell them.
-/// - `notes`: the answers that a [`Borrower`](crate::Borrower) gives are such, beside the tokens of its requests.
+/// - `replies`: this holds of all answers that keep to the session's note of what it has seen (`AnswersWith`).
+/// - `notes`: the answers of a [`Borrower`](crate::Borrower) keep to its note. They also have tokens of requests
+///   (`AnswersOwn`).
 pub fn replies_are_in_order()
     ensures replies { (identity : Identity) (calls : List Call) (old new : Option Note) → GoesThrough (AnswersWith identity) old calls new → AreInOrder identity (seen_in new) (seen_in old) calls }
     ensures notes { (identity : Identity) (calls : List Call) (old new : Kept) → GoesThrough (AnswersOwn identity) old calls new → GoesThrough (AnswersWith identity) old.note calls new.note }

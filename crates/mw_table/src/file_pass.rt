@@ -1,6 +1,7 @@
 //! The file pass: the capability to call one tenant's file, as it is kept between calls.
 //!
-//! mw_engine keeps one for each tenant, under the lock of the tenant's file. Change it with `specs/HeldFiles`.
+//! mw_core makes calls with it. mw_engine keeps one for each tenant, under the lock of the tenant's file. Change it
+//! with `specs/HeldFiles`.
 ghost use Rattle.std.specs.Prelude.{◌≡◌, true, false, [], ◌∷◌, length, map};
 ghost use Rattle.mw_table.specs.HeldFiles.{is_idle, tenants_held};
 

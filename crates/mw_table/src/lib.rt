@@ -23,7 +23,8 @@
 //! `specs/Runs` what a table begins with; `specs/NewFilePasses` and `specs/FileCalls` what a file pass is, and what a
 //! call on the file requires.
 //!
-//! Used by: mw_core, mw_table_tests. A new kind of step comes with its case in mw_look (`specs/Steps`) and mw_rule.
+//! Used by: mw_core, mw_table_tests; mw_law_threads, in contracts. A new kind of step comes with its case in mw_look
+//! (`specs/Steps`) and mw_rule.
 #![tactic(auto)]
 
 mod after_run;

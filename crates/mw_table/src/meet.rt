@@ -1,6 +1,6 @@
 //! Lets two passes meet: afterwards each has seen the sealed changes that either had seen.
 //!
-//! Used by: mw_engine. Change it with `specs/FileCalls`, `specs/Meet` and `specs/Passes`.
+//! Used by: mw_engine, mw_table_tests. Change it with `specs/FileCalls`, `specs/Meet` and `specs/Passes`.
 ghost use Rattle.std.specs.Prelude.{◌≡◌, ℕ, []};
 ghost use Rattle.mw_rule.specs.Steps.{LearnsPlainLoad, LearnsMeeting, IsPrefix};
 ghost use Rattle.mw_rule.specs.Splits.{dealt, merges, learns, left_over, note as said_by};

@@ -1,7 +1,7 @@
 //! A note of what a pass has seen. It lasts while others use the pass.
 //!
-//! Used by: `notes`, which makes and reads notes; mw_engine. Its ghost field says that a note has no token: change it
-//! with `notes`.
+//! Used by: `notes`, which makes and reads notes; mw_core, which passes the type on to mw_engine. Its ghost field
+//! says that a note has no token: change it with `notes`.
 ghost use Rattle.std.specs.Prelude.{◌≡◌, []};
 ghost use Rattle.mw_rule.specs.Splits.{note};
 

@@ -1,9 +1,9 @@
 //! A tenant's door (its admission counter), in 64 bits: how many slots the tenant uses, and whether its file has
 //! failed.
 //!
-//! Used by: mw_actor, mw_look, mw_pool, mw_table, mw_world_memory. Another pattern of bits needs a change in
-//! `specs/Patterns`, and in the crates that have one of its bits as a number: mw_rule (`ways.rt`) and mw_table
-//! (`call_steps.rt`). No file has these bits.
+//! Used by: many crates from mw_pool on. Another pattern of bits needs a change in `specs/Patterns`, and in the
+//! crates that have one of its bits as a number: mw_rule (`ways.rt`) and mw_table (`call_steps.rt`). No file has
+//! these bits.
 ghost use Rattle.std.specs.Prelude.{◌≡◌, ◌≢◌, IfSome, None};
 ghost use Rattle.mw_words.specs.declared.doors.Door.{Door as DoorModel};
 ghost use Rattle.mw_words.specs.Patterns.{IsDoorInRange, IsDoorOf, packed_door, unpacked_door};

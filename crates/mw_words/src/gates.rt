@@ -1,9 +1,8 @@
 //! A slot's gate (its reference count with a version), in 64 bits: whether the slot is taken, how many pins
 //! (references) it has, and its sequence number.
 //!
-//! Used by: mw_actor, mw_look, mw_pool, mw_table, mw_world_memory. Another pattern of bits needs a change in
-//! `specs/Patterns`, and in the crates that have a pin's bit as a number: mw_rule (`ways.rt`) and mw_table
-//! (`calls.rt`). No file has these bits.
+//! Used by: many crates from mw_pool on. Another pattern of bits needs a change in `specs/Patterns`, and in the
+//! crates that have a pin's bit as a number: mw_rule (`ways.rt`) and mw_table (`calls.rt`). No file has these bits.
 ghost use Rattle.std.specs.Prelude.{◌≡◌, ◌≢◌, ◌↔◌, IsTrue, IfSome, None};
 ghost use Rattle.mw_words.specs.declared.gates.Gate.{Gate as GateModel};
 ghost use Rattle.mw_words.specs.Patterns.{IsGateInRange, IsGateOf, packed_gate, unpacked_gate};

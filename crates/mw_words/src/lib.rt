@@ -1,8 +1,8 @@
 //! Defines the types that every layer of the server uses: limits, entries, jobs, replies, and the shared words of 64
 //! bits.
 //!
-//! Nearly every crate uses these types. Their bounds and bits are in `specs/`: `Change` (jobs), `Name`, and
-//! `Patterns` (the shared words).
+//! Every layer uses these types. Their bounds and bits are in `specs/`: `Change` (jobs), `Name`, and `Patterns` (the
+//! shared words).
 #![tactic(auto)]
 
 mod doors;

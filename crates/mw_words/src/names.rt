@@ -1,7 +1,7 @@
 //! A tenant's name: its type, and the test whether some bytes are a name.
 //!
-//! Used by: the readers of lines, tenants files and schedules, mw_client, mw_engine, mw_plain. A change of
-//! [`is_name`] changes `specs/Name`, docs/PROTOCOL, docs/OPERATING, docs/SCHEDULES and clients/python.
+//! Used by: many crates from mw_line on. A change of [`is_name`] changes `specs/Name`, docs/PROTOCOL, docs/OPERATING,
+//! docs/SCHEDULES and the clients (clients/).
 ghost use Rattle.std.specs.Prelude.{◌≡◌};
 ghost use Rattle.std.specs.List.{list_all};
 ghost use Rattle.mw_words.specs.Name as spec;

@@ -1,9 +1,9 @@
 //! Names each place of 64 bits that workers share: a tenant's door or word, a worker's row, a slot's gate, status or
 //! change.
 //!
-//! Used by: the programs of requests; mw_rule, for its index in the table (`index_of`). A new place needs its values
-//! in `specs/Places` of mw_look, that index, and a case in mw_look (`observations.rt`), mw_table (`places.rt`,
-//! `at_start.rt`), mw_world_memory (`cells.rt`) and mw_player (`player.rt`).
+//! Used by: many crates from mw_look on. A new place needs its values in `specs/Places` of mw_look, its index in the
+//! table (`index_of` of mw_rule), and a case in mw_look (`observations.rt`), mw_table (`places.rt`, `at_start.rt`),
+//! mw_world_memory (`cells.rt`) and mw_player (`player.rt`).
 
 /// The place of a shared word: its owner, and which of the owner's words it is.
 #[derive(Clone, Copy, Debug, PartialEq, Eq)]

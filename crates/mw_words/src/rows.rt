@@ -1,6 +1,7 @@
 //! A worker's row (its announcement), in 64 bits: which entry of which slot's change its present attempt is for.
 //!
-//! Used by: mw_actor, mw_look. Another pattern of bits needs a change in `specs/Patterns`. No file has these bits.
+//! Used by: mw_look, mw_actor, mw_table, mw_world_trials. Another pattern of bits needs a change in `specs/Patterns`.
+//! No file has these bits.
 ghost use Rattle.std.specs.Prelude.{◌≡◌, ◌≢◌, ◌↔◌, IsTrue, IfSome, None};
 ghost use Rattle.mw_words.specs.declared.rows.Row.{Row as RowModel};
 ghost use Rattle.mw_words.specs.Patterns.{IsRowInRange, IsRowOf, packed_row, unpacked_row};

@@ -1,7 +1,9 @@
 //! The status of a slot's change, in 64 bits: being written, open, decided (yes or no), or done.
 //!
-//! Used by: mw_actor, mw_look, mw_table, mw_core. Another pattern of bits needs a change in `specs/Patterns`; a new
-//! status needs a case wherever a status is matched, in these programs and in the laws. No file has these bits.
+//! Used by: many crates from mw_look on. Another pattern of bits needs a change in `specs/Patterns`; a new status
+//! needs a case wherever a status is matched, in programs and in laws. Some take it silently: `is_in_range` here,
+//! `starts_from` and `status_after` of mw_world, `Trail::value` of mw_look, `gave_up` of mw_actor (`moves.rt`). No
+//! file has these bits.
 ghost use Rattle.std.specs.Prelude.{◌≡◌, ◌≢◌, ◌↔◌, IsTrue, IfSome, None};
 ghost use Rattle.mw_words.specs.declared.statuses.Status.{Status as StatusModel};
 ghost use Rattle.mw_words.specs.Patterns.{IsStatusInRange, IsStatusOf, packed_status, unpacked_status};

@@ -1,7 +1,7 @@
 //! A tenant's word as workers share it, in 64 bits: its value, or the attempt or the change that has it at present.
 //!
-//! Used by: mw_actor, mw_look, mw_table. Another pattern of bits needs a change in `specs/Patterns`. A file has
-//! values alone.
+//! Used by: mw_look, mw_actor, mw_table, mw_core, mw_world_trials. Another pattern of bits needs a change in
+//! `specs/Patterns`. A file has values alone.
 ghost use Rattle.std.specs.Prelude.{◌≡◌, ◌≢◌, ◌↔◌, IsTrue, IfSome, None};
 ghost use Rattle.mw_words.specs.declared.words.Word.{Word as WordModel};
 ghost use Rattle.mw_words.specs.Patterns.{IsWordInRange, IsWordOf, packed_word, unpacked_word};

@@ -1,7 +1,7 @@
 //! The configuration of a world: its workers, its tenants and its pool of slots.
 //!
-//! Used by: mw_schedule, mw_engine, mw_simulator, tests. `IsConfig`, in `specs/Definition/State`, says which are
-//! valid. A new field needs a clause there, and a value wherever a `Config` is made.
+//! Used by: many crates from mw_rule on. `IsConfig`, in `specs/Definition/State`, says which are valid. A new field
+//! needs a clause there, and a value wherever a `Config` is made.
 
 use arrayvec::ArrayVec;
 use mw_words::{Entries, MAX_TENANTS, Name};

@@ -1,8 +1,9 @@
 //! The events of a world: a request comes, a worker makes a step or a call on a file, a reply is handed out, a
 //! restart.
 //!
-//! Used by: mw_schedule, mw_player, mw_simulator, tests. `specs/Definition/Events` has the same events for proofs: a
-//! new kind needs a case there, in `specs/Definition/World`, and in `World::step` of mw_simulator.
+//! Used by: mw_simulator, mw_schedule, mw_world_trials, mw_player, tests. `specs/Definition/Events` has the same
+//! events for proofs: a new kind needs a case there, in `specs/Definition/World`, and in `World::step` of
+//! mw_simulator.
 
 use mw_words::Job;
 pub use mw_world_file::Outcome;

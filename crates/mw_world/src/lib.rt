@@ -9,7 +9,7 @@
 //! Then read `specs/Claim`. `Headline` is what must hold of every run. `Invariant` and `Obligations` are the
 //! invariant. `BitExactness` is what running threads need of every run. `Examples` has runs that are computed.
 //!
-//! Used by: mw_law_runs, other crates above. The theorem is about these definitions (docs/THEOREM.md): a change of
+//! Used by: many crates from mw_law_runs on. The theorem is about these definitions (docs/THEOREM.md): a change of
 //! them is a change of what is proved.
 #![tactic(auto)]
 

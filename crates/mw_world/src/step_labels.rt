@@ -1,8 +1,8 @@
 //! The labels of steps. A label says what a request's step means for the history (a ghost record of what has happened
 //! to each change) and for its tenant's marks (events of the reference model).
 //!
-//! Used by: mw_world_memory, mw_simulator. A new label needs a case in `specs/Definition/StepLabels`, in
-//! `specs/Definition/LabelEffects`, and in `label_of` of mw_world_memory.
+//! Used by: mw_world_memory, mw_simulator, mw_world_trials. A new label needs a case in
+//! `specs/Definition/StepLabels`, in `specs/Definition/LabelEffects`, and in `label_of` of mw_world_memory.
 
 use mw_actor::Slot;
 use mw_words::Status;

@@ -4,8 +4,8 @@
 //! A call on a book makes a new book and leaves the old one. The caller says which device call fails, if one does.
 //! `restart` makes the book after all stopped, also in the middle of a call, and started again.
 //!
-//! `specs/Files`, `specs/Calls` and `specs/Restarts` define a tenant's file in a world, whatever disk it is on.
-//! mw_book, mw_world, the laws and the shared words use them: a change of them is a change of what is proved.
+//! Used by: many crates from mw_book on. `specs/Files`, `specs/Calls` and `specs/Restarts` define a tenant's file in a
+//! world, whatever disk it is on: a change of these three is a change of what is proved.
 #![tactic(auto)]
 
 mod book;

@@ -1,4 +1,5 @@
-//! Keeps the marks of a tenant, and the places that are reserved among them.
+//! Keeps a tenant's marks (`Mark` of mw_lone: the events of its store, such as a request, its reply, a restart), and
+//! the places that are reserved among them.
 //!
 //! Each tenant in memory has such lines (`tenants`), and mw_simulator adds the marks of events to them. Change it
 //! with `specs/Claims`, `specs/Lines` and `specs/Workers`.

@@ -1,5 +1,7 @@
 -- An induction step for proofs about a change's request. If a fact holds at every stage (point) that may follow its stage, it
 -- holds after the step.
+-- Used by: RunLaws, RequestRanges, Counts/Balance, among others. A new point or stage (points.rt and specs/Stages of mw_actor)
+-- needs a case in goes_leads.
 use Rattle.std.specs.Prelude.{ℕ, ◌≡◌, ◌+◌, ◌≤◌, ◌==◌, ◌&&◌, ◌||◌, ◌++◌, not, Bool, true, false, cond, nat_lt, nat_le, Some, None, IfSome, List, [], ◌∷◌, length}
 use Rattle.std.specs.declared.option.Option.{Option}
 use Rattle.mw_words.specs.declared.limits.TheConstants.{MAX_ENTRIES, MAX_VALUE, MAX_WORDS, WORN_NUMBER, MAX_PINS}

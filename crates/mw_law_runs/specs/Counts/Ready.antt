@@ -1,5 +1,6 @@
 -- When a request is ready for its next exchange of a gate or door, by its point: what it saw before allows the exchange.
--- Used by: mw_law_store.
+-- Used by: mw_law_store. A new point of a read (points.rt of mw_look) or stage of a change (specs/Stages of mw_actor) that
+-- exchanges a gate or door needs a case here: else it is in the last case, and always ready.
 use Rattle.std.specs.Prelude.{ℕ, ◌≡◌, false}
 use Rattle.mw_pool.specs.Moves.{Admits, Claims, Pins}
 use Rattle.mw_look.specs.Program.{seq_of}

@@ -1,5 +1,6 @@
 -- Lists what a request knows at each point of its program, as far as the invariant of the shared words needs it.
--- Used by: mw_law_store.
+-- Used by: mw_law_store. A new point (points.rt of mw_look and mw_actor) needs a case here: else it is in the last
+-- case, and nothing is known there.
 use Rattle.std.specs.Prelude.{ℕ, ◌≡◌, ◌≢◌, ◌≤◌, false, length}
 use Rattle.mw_words.specs.declared.statuses.Status.TheVariants.{Draft}
 use Rattle.mw_look.specs.declared.points.Point.{Point as ReadPoint}

@@ -42,6 +42,7 @@ use Rattle.mw_rule.proofs.WholeCallLaws.{keeps_on, keeps_so}
 use Rattle.mw_rule.proofs.WorkerStretches.{no_starts_on}
 use Rattle.mw_table.specs.HeldFiles.{file_among, tenant_held}
 use Rattle.mw_book.specs.declared.book.Book.{Book}
+use Rattle.mw_book.specs.declared.waiting.Waiting.{Waiting}
 use Rattle.mw_book.specs.Crashes.{LeavesEither}
 use Rattle.mw_book.specs.OpenFile.{FileRecoversTo, OnDisk, disk_in}
 use Rattle.mw_book.proofs.RepresentedFiles.{untouched}
@@ -287,7 +288,7 @@ module _ {D : Type 0} (facts : D → Facts) where
     )
 
     -- with the one of a call
-    in_a_call : (tenant : ℕ) → token.tenant ≡ tenant → (before after : Book D) (old new : Pass) (actor next : ActorState) (kept : FileToken) (waiting : ℕ) (once : FilesOnce facts waiting old new actor next before after token kept)
+    in_a_call : (tenant : ℕ) → token.tenant ≡ tenant → (before after : Book D) (old new : Pass) (actor next : ActorState) (kept : FileToken) (waiting : List Waiting) (once : FilesOnce facts waiting old new actor next before after token kept)
         → WholeAt tenant (stake_by once.end once.called token) (disk_in before.held) (disk_in after.held)
     in_a_call tenant its before after old new actor next kept waiting once = (
       whole_at tenant its (stake_by once.end once.called token) (disk_in before.held) (disk_in after.held)

@@ -12,6 +12,7 @@ use Rattle.mw_rule.specs.Rule.{IsLive}
 use Rattle.mw_rule.specs.declared.views.FoundStatus.{FoundStatus}
 use Rattle.mw_rule.specs.declared.views.View.{View}
 use Rattle.mw_book.specs.declared.book.Book.{Book}
+use Rattle.mw_book.specs.declared.waiting.Waiting.{Waiting}
 use Rattle.mw_book.specs.OpenFile.{disk_in}
 use Rattle.mw_core.specs.FileCalls.{FilesOnce, held_as, stake_by}
 use Rattle.mw_core.specs.FromTable.{FilePass, FileToken, Pass, file_kept}
@@ -49,7 +50,7 @@ module _ {D : Type 0} (facts : D → Facts) where
     pub after : Book D
     pub token : FileToken
     pub kept : FileToken
-    pub waiting : ℕ
+    pub waiting : List Waiting
     pub once : FilesOnce facts waiting old new actor next before after token kept
     pub its : actor.tenant ≡ tenant
 

@@ -34,7 +34,10 @@ returns-then-is_err g c entries =
     seal_broken g.D.Disk.facts old _ file c.seal_with.new.self c.in-Some.is c.seal_with.ensures.later c.args.slot (omega (arith, c.ranges.slot.fits))
     (busy_in old file c.args.slot Prepared c.in-Some.is (c.requires.may c.if-self.false).sealable.prepared refl) (c.requires.may c.if-self.false).own c.if-self.false c.seal_with.result
     (subst (λ n. ChangeIsSealed g.D.Disk.facts file c.seal_with.new.self (writes_of_place (states_of file) n) c.seal_with.result) c.file_place-number.ensures c.seal_with.ensures.safe) entries
-    (length c.choose.new.self.changes.items) c.args.waiting.now c.choose.ensures.waiting (sym c.is_err.ensures.value ∙ c.if-is_err.true)
+    c.args.waiting.now c.choose.new.self.table c.choose.new.self.changes.items
+    (subst (λ states. AreAhead old.table c.choose.new.self.table old.places c.choose.new.self.changes.items (first_ready old.words states old.table old.places c.args.slot (free_within states old.table 0 old.places) c.args.waiting.now)) c.states.ensures
+    c.choose.ensures.ahead)
+    (sym c.is_err.ensures.value ∙ c.if-is_err.true)
     (subst (λ cs. Ends g.D.Disk.facts (length cs + 2) file c.seal_with.new.self c.seal_with.result) c.as_slice.ensures.value c.seal_with.ensures.ends)
     (record { is_held = refl; is_words = refl; is_places = refl; is_place_of = refl; is_table = refl; is_failed = refl })
 
@@ -48,7 +51,6 @@ returns g c entries =
     (subst (λ n. ChangeIsSealed g.D.Disk.facts file c.seal_with.new.self (writes_of_place (states_of file) n) c.seal_with.result) c.file_place-number.ensures c.seal_with.ensures.safe) entries
     c.args.waiting.now c.choose.new.self.table c.choose.new.self.changes.items c.choose.new.self.top
     (subst (λ states. AreChosen old.words states old.table old.places 0 c.choose.new.self.table c.choose.new.self.changes.items c.choose.new.self.top) c.states.ensures c.choose.ensures.chosen)
-    c.choose.ensures.waiting
     (subst (λ states. AreAhead old.table c.choose.new.self.table old.places c.choose.new.self.changes.items (first_ready old.words states old.table old.places c.args.slot (free_within states old.table 0 old.places) c.args.waiting.now)) c.states.ensures
     c.choose.ensures.ahead)
     well

@@ -49,7 +49,9 @@ returns-then-is_err g c entries =
     let bad = sym c.is_err.ensures.value ∙ c.if-is_err.true in
     settle_broken g.D.Disk.facts old _ file c.settle_all.new.self c.in-Some.is c.settle_all.ensures.later c.settle_all.ensures.safe c.args.slot (omega (arith, c.ranges.slot.fits))
     (subst (λ held. stage_in_file (states_in held) old.table (place_at old c.args.slot) ≡ Sealed) c.in-Some.is (c.requires.may c.if-self.false c.if-self-place.false)) c.if-self-place.false c.if-self.false entries
-    (length c.choose.new.self.changes.items) c.args.waiting.now c.choose.ensures.waiting
+    c.args.waiting.now c.choose.new.self.table c.choose.new.self.changes.items
+    (subst (λ states. AreAhead old.table c.choose.new.self.table old.places c.choose.new.self.changes.items (first_ready old.words states old.table old.places c.args.slot (free_within states old.table 0 old.places) c.args.waiting.now)) c.states-2.ensures
+    c.choose.ensures.ahead)
     (record { is_held = refl; is_words = refl; is_places = refl; is_place_of = refl; is_table = refl; is_failed = refl })
     (subst (λ cs. MetFault g.D.Disk.facts (length cs + roll_calls (states_of file)) file c.settle_all.new.self) c.as_slice.ensures.value
     (met_fault g.D.Disk.facts (length c.as_slice.result.now + roll_calls (states_of file)) file c.settle_all.new.self c.settle_all.result bad (failed_as g.D.Disk.facts old file c.in-Some.is ∙ c.if-self.false) c.settle_all.ensures.ends))
@@ -66,7 +68,6 @@ returns g c entries =
     (subst (λ held. stage_in_file (states_in held) old.table place ≡ Sealed) c.in-Some.is (c.requires.may c.if-self.false c.if-self-place.false)) c.if-self-place.false c.if-self.false entries
     c.args.waiting.now (slice_set more place false) c.choose.new.self.table c.choose.new.self.changes.items c.choose.new.self.top
     (subst (λ states. AreChosen old.words states old.table old.places 0 c.choose.new.self.table c.choose.new.self.changes.items c.choose.new.self.top) c.states-2.ensures c.choose.ensures.chosen)
-    c.choose.ensures.waiting
     (subst (λ states. AreAhead old.table c.choose.new.self.table old.places c.choose.new.self.changes.items (first_ready old.words states old.table old.places c.args.slot (free_within states old.table 0 old.places) c.args.waiting.now)) c.states-2.ensures
     c.choose.ensures.ahead)
     (record { is_held = refl; is_words = refl; is_places = refl; is_place_of = refl; is_table = refl; is_failed = refl })

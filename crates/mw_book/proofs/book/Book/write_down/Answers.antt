@@ -12,7 +12,6 @@ use Rattle.mw_words.specs.Change.{is_change}
 use Rattle.mw_book.proofs.PlacedAhead.{may_with_own}
 use Rattle.mw_book.proofs.FoundPlaces.{vacant_free}
 use Rattle.mw_book.specs.RecordsAhead.{first_ready}
-use Rattle.mw_book.proofs.RecordsAhead.{some_vacant}
 use Rattle.mw_book.proofs.RepresentedFiles.{failed_as, there_held, words_held}
 use Rattle.mw_book.proofs.book.Book.write_down.Goals as goal
 
@@ -33,9 +32,13 @@ pub returns-then-is_err-clause-filed : goal.returns-then-is_err-clause-filed
 returns-then-is_err-clause-filed g c =
     let old = c.args.self.now in
     let bad = sym c.is_err.ensures.value ∙ c.if-is_err.true in
-    prepare_broken g.D.Disk.facts old _ c.in-Some.file c.prepare_all.new.self c.in-Some.is c.prepare_all.ensures.later c.prepare_all.ensures.safe c.args.slot c.args.entries.now.items
-    (length c.choose.new.self.changes.items) c.args.waiting.now c.choose.ensures.waiting (some_vacant (states_in old.held) old.table old.places c.args.place c.requires.lowest c.requires.room.room c.requires.none_ahead)
-    (record { is_held = refl; is_words = refl; is_places = refl; is_place_of = refl; is_table = refl; is_failed = refl }) c.requires.sound c.requires.none_written
+    prepare_broken g.D.Disk.facts old _ c.in-Some.file c.prepare_all.new.self c.in-Some.is c.prepare_all.ensures.later c.prepare_all.ensures.safe c.args.slot c.args.place c.args.entries.now.items
+    c.args.waiting.now c.choose.new.self.table c.choose.new.self.changes.items
+    (c.requires.lowest ∙ ap (λ held. vacant_place (states_in held) old.table old.places) c.in-Some.is) c.requires.none_ahead
+    (subst (λ held. HasPlace (states_in held) old.table old.places) c.in-Some.is c.requires.room.room) c.requires.none_written
+    (subst (λ states. AreAhead old.table c.choose.new.self.table old.places c.choose.new.self.changes.items (first_ready old.words states old.table old.places c.args.slot (free_within states old.table (c.args.place + 1) old.places) c.args.waiting.now)) c.states.ensures
+    c.choose.ensures.ahead)
+    (record { is_held = refl; is_words = refl; is_places = refl; is_place_of = refl; is_table = refl; is_failed = refl }) c.requires.sound
     (subst (λ n. MetFault g.D.Disk.facts n c.in-Some.file c.prepare_all.new.self) (one_longer c.choose.new.self.changes.items c.as_slice.result.now _ (c.as_slice.ensures.value ∙ c.push.ensures.items))
     (met_fault g.D.Disk.facts (length c.as_slice.result.now + 1) c.in-Some.file c.prepare_all.new.self c.prepare_all.result bad (failed_as g.D.Disk.facts old c.in-Some.file c.in-Some.is ∙ c.requires.sound) c.prepare_all.ensures.ends))
 
@@ -48,7 +51,6 @@ returns-clause-filed g c =
     c.args.waiting.now c.choose.new.self.table c.choose.new.self.changes.items c.as_slice.result.now c.choose.new.self.top _ (c.as_slice.ensures.value ∙ c.push.ensures.items)
     (c.requires.lowest ∙ ap (λ held. vacant_place (states_in held) old.table old.places) c.in-Some.is) c.requires.none_ahead c.requires.none_written
     (subst (λ states. AreChosen old.words states old.table old.places (c.args.place + 1) c.choose.new.self.table c.choose.new.self.changes.items c.choose.new.self.top) c.states.ensures c.choose.ensures.chosen)
-    c.choose.ensures.waiting
     (subst (λ states. AreAhead old.table c.choose.new.self.table old.places c.choose.new.self.changes.items (first_ready old.words states old.table old.places c.args.slot (free_within states old.table (c.args.place + 1) old.places) c.args.waiting.now)) c.states.ensures
     c.choose.ensures.ahead)
     c.file_place-number.ensures (ap (λ es. es.items) c.copy_of.ensures)

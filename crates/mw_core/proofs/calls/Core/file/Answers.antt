@@ -1,5 +1,5 @@
 -- Goals of `Core::file` (src/file_calls.rt).
-use Rattle.std.specs.Prelude.{Option, length}
+use Rattle.std.specs.Prelude.{Option}
 use Rattle.std.proofs.Common.{ℕ, ap, subst, sym, ◌∙◌}
 use Rattle.mw_table.specs.declared.shared.Shared.{Shared}
 use Rattle.mw_table.specs.FromRule.{KnownRun, ExtendsKnownRun, View}
@@ -28,13 +28,13 @@ give_back-requires-clause-has g c =
     subst (λ (tenant : ℕ). HasFile c.make_call-went_well.new.pass.seat.me.0 tenant) (sym c.tenant-tenant.ensures)
     (may_give_back g.D.Disk.facts c.args.self.now.shared c.args.pass.now c.take.new.pass c.args.actor.now c.args.file_pass c.requires.free c.take.ensures.same
     (subst (λ (shared : Shared). IsOf shared c.take.new.pass) c.shared.ensures c.take.ensures.own) c.take.ensures.took c.take.ensures.has c.requires.whose
-    (length c.args.waiting.now) c.make_call-went_well.new.pass c.args.book.now c.make_call-went_well.new.book c.make_call-went_well.result c.make_call-went_well.ensures.same c.make_call-went_well.ensures.made)
+    c.args.waiting.now c.make_call-went_well.new.pass c.args.book.now c.make_call-went_well.new.book c.make_call-went_well.result c.make_call-went_well.ensures.same c.make_call-went_well.ensures.made)
 
 pub returns-clause-carried : goal.returns-clause-carried
 returns-clause-carried g c =
     carried_back g.D.Disk.facts c.args.self.now.shared c.args.pass.now c.take.new.pass c.args.actor.now c.args.file_pass c.requires.free c.take.ensures.same
     (subst (λ (shared : Shared). IsOf shared c.take.new.pass) c.shared.ensures c.take.ensures.own) c.take.ensures.took c.take.ensures.has c.requires.whose
-    (length c.args.waiting.now) c.make_call-went_well.new.pass c.args.book.now c.make_call-went_well.new.book c.make_call-went_well.result c.make_call-went_well.ensures.same c.make_call-went_well.ensures.made
+    c.args.waiting.now c.make_call-went_well.new.pass c.args.book.now c.make_call-went_well.new.book c.make_call-went_well.result c.make_call-went_well.ensures.same c.make_call-went_well.ensures.made
     c.give_back.new.pass c.tell.new.self c.give_back.result c.attempt.result c.give_back.ensures.same c.give_back.ensures.left c.give_back.ensures.file c.attempt.ensures c.tell.ensures
     c.requires.carried
 
@@ -42,7 +42,7 @@ pub returns-clause-files : goal.returns-clause-files
 returns-clause-files g c =
     files_once g.D.Disk.facts c.args.self.now.shared c.args.pass.now c.take.new.pass c.args.actor.now c.args.file_pass c.requires.free c.take.ensures.same
     (subst (λ (shared : Shared). IsOf shared c.take.new.pass) c.shared.ensures c.take.ensures.own) c.take.ensures.took c.take.ensures.has c.requires.whose
-    (length c.args.waiting.now) c.make_call-went_well.new.pass c.args.book.now c.make_call-went_well.new.book c.make_call-went_well.result c.make_call-went_well.ensures.same c.make_call-went_well.ensures.made
+    c.args.waiting.now c.make_call-went_well.new.pass c.args.book.now c.make_call-went_well.new.book c.make_call-went_well.result c.make_call-went_well.ensures.same c.make_call-went_well.ensures.made
     c.give_back.new.pass c.tell.new.self c.give_back.result c.attempt.result c.give_back.ensures.same c.give_back.ensures.left c.give_back.ensures.file c.attempt.ensures c.tell.ensures
     c.requires.agrees c.make_call-went_well.ensures.agrees
 
@@ -50,7 +50,7 @@ pub returns-clause-agrees : goal.returns-clause-agrees
 returns-clause-agrees g c =
     agrees_back g.D.Disk.facts c.args.self.now.shared c.args.pass.now c.take.new.pass c.args.actor.now c.args.file_pass c.requires.free c.take.ensures.same
     (subst (λ (shared : Shared). IsOf shared c.take.new.pass) c.shared.ensures c.take.ensures.own) c.take.ensures.took c.take.ensures.has c.requires.whose
-    (length c.args.waiting.now) c.make_call-went_well.new.pass c.args.book.now c.make_call-went_well.new.book c.make_call-went_well.result c.make_call-went_well.ensures.same c.make_call-went_well.ensures.made
+    c.args.waiting.now c.make_call-went_well.new.pass c.args.book.now c.make_call-went_well.new.book c.make_call-went_well.result c.make_call-went_well.ensures.same c.make_call-went_well.ensures.made
     c.give_back.new.pass c.tell.new.self c.give_back.result c.attempt.result c.give_back.ensures.same c.give_back.ensures.left c.give_back.ensures.file c.attempt.ensures c.tell.ensures
     c.make_call-went_well.ensures.own (c.give_back.ensures.whose ∙ c.tenant-tenant.ensures) c.make_call-went_well.ensures.agrees
 

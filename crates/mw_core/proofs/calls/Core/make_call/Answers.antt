@@ -1,5 +1,5 @@
 -- Goals of `Core::make_call` (src/file_calls.rt).
-use Rattle.std.proofs.Common.{◌≤◌, length, sym, subst, ◌∙◌}
+use Rattle.std.proofs.Common.{◌≤◌, sym, subst, ◌∙◌}
 use Rattle.mw_words.specs.declared.limits.TheConstants.{MAX_POOL}
 use Rattle.mw_table.specs.declared.shared.Shared.{Shared}
 use Rattle.mw_table.specs.Passes.{IsOf}
@@ -20,7 +20,7 @@ pub returns-then-not-starts_from-clause-made : goal.returns-then-not-starts_from
 returns-then-not-starts_from-clause-made g c =
     skipped g.D.Disk.facts c.args.pass.now c.find_status-bits.new.pass c.args.actor.now c.args.book.now c.in-File.call c.in-File.slot c.requires.call c.requires.carried c.requires.has c.requires.agrees
     (sym c.ask.ensures.is ∙ c.in-File.is) c.find_status-bits.result c.find_status-bits.ensures.found c.in-Some.status (sym c.unpack.ensures.is ∙ c.in-Some.is)
-    (length c.args.waiting.now) (sym c.starts_from.ensures ∙ c.if-not-starts_from.true) c.find_status-bits.ensures.event
+    c.args.waiting.now (sym c.starts_from.ensures ∙ c.if-not-starts_from.true) c.find_status-bits.ensures.event
 
 pub returns-then-not-starts_from-clause-agrees : goal.returns-then-not-starts_from-clause-agrees
 returns-then-not-starts_from-clause-agrees g c =
@@ -41,7 +41,7 @@ pub end_call-requires-clause-may : goal.end_call-requires-clause-may
 end_call-requires-clause-may g c =
     may_end g.D.Disk.facts c.args.pass.now c.find_status-bits.new.pass c.args.actor.now c.args.book.now c.in-File.call c.in-File.slot c.requires.call c.requires.carried c.requires.has c.requires.agrees
     (sym c.ask.ensures.is ∙ c.in-File.is) c.find_status-bits.result c.find_status-bits.ensures.found c.in-Some.status (sym c.unpack.ensures.is ∙ c.in-Some.is)
-    c.find_status-bits.ensures.same (sym c.starts_from.ensures ∙ c.if-not-starts_from.false) (length c.args.waiting.now) c.call.new.self c.entries_for.result.now.items c.entries_for.ensures c.call.result c.call.ensures.places
+    c.find_status-bits.ensures.same (sym c.starts_from.ensures ∙ c.if-not-starts_from.false) c.args.waiting.now c.call.new.self c.entries_for.result.now.items c.entries_for.ensures c.call.result c.call.ensures.places
     c.call.ensures.ends c.call.ensures.moments c.in-Made.is
 
 pub fault-requires : goal.fault-requires
@@ -50,7 +50,7 @@ fault-requires g c = record {
   may =
       may_fault g.D.Disk.facts c.args.pass.now c.find_status-bits.new.pass c.args.actor.now c.args.book.now c.in-File.call c.in-File.slot c.requires.call c.requires.carried c.requires.has c.requires.agrees
       (sym c.ask.ensures.is ∙ c.in-File.is) c.find_status-bits.result c.find_status-bits.ensures.found c.in-Some.status (sym c.unpack.ensures.is ∙ c.in-Some.is)
-      c.find_status-bits.ensures.same (sym c.starts_from.ensures ∙ c.if-not-starts_from.false) (length c.args.waiting.now) c.call.new.self c.entries_for.result.now.items c.entries_for.ensures c.call.result c.call.ensures.places
+      c.find_status-bits.ensures.same (sym c.starts_from.ensures ∙ c.if-not-starts_from.false) c.args.waiting.now c.call.new.self c.entries_for.result.now.items c.entries_for.ensures c.call.result c.call.ensures.places
       c.call.ensures.ends c.call.ensures.moments c.tenant.result c.tenant.ensures (not_made c.call.result c.in-Broken.is);
 }
 
@@ -58,14 +58,14 @@ pub returns-in-Made-clause-made : goal.returns-in-Made-clause-made
 returns-in-Made-clause-made g c =
     (ended_well g.D.Disk.facts c.args.pass.now c.find_status-bits.new.pass c.args.actor.now c.args.book.now c.in-File.call c.in-File.slot c.requires.call c.requires.carried c.requires.has c.requires.agrees
     (sym c.ask.ensures.is ∙ c.in-File.is) c.find_status-bits.result c.find_status-bits.ensures.found c.in-Some.status (sym c.unpack.ensures.is ∙ c.in-Some.is)
-    c.find_status-bits.ensures.same (sym c.starts_from.ensures ∙ c.if-not-starts_from.false) (length c.args.waiting.now) c.call.new.self c.entries_for.result.now.items c.entries_for.ensures c.call.result c.call.ensures.places
+    c.find_status-bits.ensures.same (sym c.starts_from.ensures ∙ c.if-not-starts_from.false) c.args.waiting.now c.call.new.self c.entries_for.result.now.items c.entries_for.ensures c.call.result c.call.ensures.places
     c.call.ensures.ends c.call.ensures.moments c.end_call.new.pass c.in-Made.is c.end_call.ensures.went c.end_call.ensures.event).0
 
 pub returns-in-Made-clause-agrees : goal.returns-in-Made-clause-agrees
 returns-in-Made-clause-agrees g c =
     (ended_well g.D.Disk.facts c.args.pass.now c.find_status-bits.new.pass c.args.actor.now c.args.book.now c.in-File.call c.in-File.slot c.requires.call c.requires.carried c.requires.has c.requires.agrees
     (sym c.ask.ensures.is ∙ c.in-File.is) c.find_status-bits.result c.find_status-bits.ensures.found c.in-Some.status (sym c.unpack.ensures.is ∙ c.in-Some.is)
-    c.find_status-bits.ensures.same (sym c.starts_from.ensures ∙ c.if-not-starts_from.false) (length c.args.waiting.now) c.call.new.self c.entries_for.result.now.items c.entries_for.ensures c.call.result c.call.ensures.places
+    c.find_status-bits.ensures.same (sym c.starts_from.ensures ∙ c.if-not-starts_from.false) c.args.waiting.now c.call.new.self c.entries_for.result.now.items c.entries_for.ensures c.call.result c.call.ensures.places
     c.call.ensures.ends c.call.ensures.moments c.end_call.new.pass c.in-Made.is c.end_call.ensures.went c.end_call.ensures.event).1
 
 pub returns-in-Broken : goal.returns-in-Broken
@@ -79,11 +79,11 @@ returns-in-Broken g c = record {
   made =
       (ended_badly g.D.Disk.facts c.args.pass.now c.find_status-bits.new.pass c.args.actor.now c.args.book.now c.in-File.call c.in-File.slot c.requires.call c.requires.carried c.requires.has c.requires.agrees
       (sym c.ask.ensures.is ∙ c.in-File.is) c.find_status-bits.result c.find_status-bits.ensures.found c.in-Some.status (sym c.unpack.ensures.is ∙ c.in-Some.is)
-      c.find_status-bits.ensures.same (sym c.starts_from.ensures ∙ c.if-not-starts_from.false) (length c.args.waiting.now) c.call.new.self c.entries_for.result.now.items c.entries_for.ensures c.call.result c.call.ensures.places
+      c.find_status-bits.ensures.same (sym c.starts_from.ensures ∙ c.if-not-starts_from.false) c.args.waiting.now c.call.new.self c.entries_for.result.now.items c.entries_for.ensures c.call.result c.call.ensures.places
       c.call.ensures.ends c.call.ensures.moments c.fault.new.pass (not_made c.call.result c.in-Broken.is) c.fault.ensures.went c.fault.ensures.event).0;
   agrees =
       (ended_badly g.D.Disk.facts c.args.pass.now c.find_status-bits.new.pass c.args.actor.now c.args.book.now c.in-File.call c.in-File.slot c.requires.call c.requires.carried c.requires.has c.requires.agrees
       (sym c.ask.ensures.is ∙ c.in-File.is) c.find_status-bits.result c.find_status-bits.ensures.found c.in-Some.status (sym c.unpack.ensures.is ∙ c.in-Some.is)
-      c.find_status-bits.ensures.same (sym c.starts_from.ensures ∙ c.if-not-starts_from.false) (length c.args.waiting.now) c.call.new.self c.entries_for.result.now.items c.entries_for.ensures c.call.result c.call.ensures.places
+      c.find_status-bits.ensures.same (sym c.starts_from.ensures ∙ c.if-not-starts_from.false) c.args.waiting.now c.call.new.self c.entries_for.result.now.items c.entries_for.ensures c.call.result c.call.ensures.places
       c.call.ensures.ends c.call.ensures.moments c.fault.new.pass (not_made c.call.result c.in-Broken.is) c.fault.ensures.went c.fault.ensures.event).1;
 }
