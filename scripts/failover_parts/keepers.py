@@ -66,9 +66,10 @@ class Keeper:
         if self.host.begun:
             for part in ("/run/keeper", "mondlexi-ha", "mwserve"):
                 self.host.signal(signal.SIGKILL, part)
-        # (nsenter stops itself with the process that it began.)
-        self.process.send_signal(signal.SIGCONT)
-        self.process.wait()
+        # (nsenter stops itself with the process that it began, maybe only after it was told to go on.)
+        while self.process.poll() is None:
+            self.process.send_signal(signal.SIGCONT)
+            time.sleep(0.05)
 
 
 class Keepers:
