@@ -21,7 +21,7 @@ for kind in (mondlexi.Client, mondlexi.Administrator):
 
 
 @contextlib.contextmanager
-def impatient(client, seconds=0.2):
+def impatient(client, seconds=1):
     """Lets a client that was greeted, however long that took, wait so long for its next reply."""
     session, before = client._session, client._session.options
     session.options = before._replace(timeout=seconds)
