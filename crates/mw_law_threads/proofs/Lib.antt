@@ -4,3 +4,4 @@ pub mod History
 pub mod Durable
 pub mod Sessions
 pub mod NextRuns
+pub mod AfterReplyLaws

@@ -1,4 +1,3 @@
 -- What the laws of all passes say of sessions. This page only lists its modules.
 pub mod SessionChanges
-pub mod SessionMoments
 pub mod OwnRequests

@@ -25,16 +25,9 @@
 //! - [`starts_find_changes`]: a start that opens what such a crash left finds these changes. `specs/Durable/Starts` defines that.
 //! - [`engines_start_with_changes`]: an engine that is made of what was opened so starts with these changes.
 //!
-//! Of sessions: one with `--clients` is told that some pass of the engine gave each reply, and not which one (mw_service). It has
-//! its note, which tells the run that the pass knew. What follows:
-//!
-//! - [`answers_are_in_one_run`]: each reply is in the one run behind all passes, and a refused request makes no change.
-//! - [`replies_are_to_own_requests`]: two replies are to two requests, if two workers served them, or if the later one's pass knew the
-//!   other reply when its request came.
-//! - [`sessions_have_own_requests`]: no two borrowers are told the reply to one request, while some thread knows what both notes tell.
-//! - [`replies_have_moments_in_order`]: each reply but WORN was true at a moment of its own call, and each call comes in the run
-//!   after the reply before it.
-//! - [`sessions_keep_changes`]: whichever passes it borrows later, the change of a YES stays in the tenant's file.
+//! Of sessions, with `--clients` or without, `specs/AfterReplies` says what holds after each reply. mwserve promises it (its
+//! `specs/Promised`), and `proofs/AfterReplyLaws` proves it. One that borrows its passes has a note, which tells the run that the pass
+//! knew. [`sessions_keep_changes`]: whichever passes it borrows later, the change of a YES stays in the tenant's file.
 //!
 //! Not said:
 //!
@@ -46,7 +39,7 @@
 //! - The change that a call seals fits the words before it. This is said of the change in doubt between calls (`Whole`), and
 //!   of each sealed change.
 //!
-//! Nothing uses it: its laws are theorems about mw_rule, mw_engine and mw_service.
+//! Used by: mwserve, for its promise. Its laws are theorems about mw_rule, mw_engine and mw_service, which nothing uses.
 //!
 //! [`Engine::serve`]: mw_engine::Engine::serve
 #![tactic(auto)]
@@ -61,16 +54,11 @@ mod whole_laws;
 pub use durable_laws::{
     calls_keep_changes, engines_start_with_changes, every_moment_keeps_changes, starts_find_changes,
 };
-pub use history_laws::{
-    answers_are_in_one_run, answers_have_moments, every_moment_has_one_history,
-};
+pub use history_laws::every_moment_has_one_history;
 pub use moment_laws::replies_have_moments;
 pub use next_run_laws::{
     crashes_leave_next_runs, next_runs_are_of_one_store, next_tables_are_of_one_store,
     servers_in_turn_are_of_one_store, stores_go_on,
 };
-pub use session_laws::{
-    replies_are_to_own_requests, replies_have_moments_in_order, sessions_have_own_requests,
-    sessions_keep_changes,
-};
+pub use session_laws::sessions_keep_changes;
 pub use whole_laws::{changes_are_whole, refused_requests_make_no_change};

@@ -3,3 +3,4 @@ pub mod Descriptors
 pub mod Replaced
 pub mod WorkerCount
 pub mod Promised
+pub mod FromBelow

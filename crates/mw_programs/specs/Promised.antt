@@ -1,6 +1,6 @@
 -- Defines what the clients of a server are promised: an engine answers them that was made of the files which a start opened.
--- Used by: src/promise.rt, src/services.rt, src/serving.rt. A change here changes what mwserve may serve its clients with.
-use Rattle.std.specs.Prelude.{◌≡◌, ℕ, ◌⊎◌, Bool, List, Option, Vec}
+-- Used by: src/services.rt, src/serving.rt, mwserve. A change here changes what mwserve may serve its clients with.
+use Rattle.std.specs.Prelude.{◌≡◌, ℕ, Bool, List, Option, Vec}
 use Rattle.std.specs.declared.alloc.Global.{Global}
 use Rattle.mw_config.specs.declared.lines.TenantLine.{TenantLine}
 use Rattle.mw_disk.specs.Facts.{Facts}
@@ -28,13 +28,7 @@ module _ {D : Type 0} (facts : D → Facts) (makes : DeviceCall → Bool → D �
     pub opened : AreOfLines facts makes is_over is_refused lines files
     pub begins : identity.openings ≡ openings_read lines files
 
-  -- The calls of a session, in order, were answered by an engine that begins with the files which a start opened.
-  pub record AreAnswered (calls : List Call) : Type 0 where
-    pub identity : Identity
-    pub start : IsOfStart identity
-    pub answered : ByWorker identity calls ⊎ ByBorrower identity calls
-
-  -- So were the calls of the pages, in order, with one pass of this engine.
+  -- The calls of the pages, in order, were answered with one pass of an engine that begins with the files which a start opened.
   pub record AreShown (calls : List page.Call) : Type 0 where
     pub identity : Identity
     pub start : IsOfStart identity

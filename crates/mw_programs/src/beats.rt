@@ -1,7 +1,8 @@
 //! Beats a server's lease, and writes a note when it is lost, and when it is good again.
 //!
-//! `serving` takes the lease, and `clients` has it beaten by a thread of its own, and looked at once a second. docs/OPERATING
-//! tells the notes, and what a server without its lease still tells: change them together.
+//! `serving` takes the lease, and `clients` has it beaten by a thread of its own, and looked at once a second.
+//! docs/OPERATING tells the notes, and what a server without its lease still tells: change them together.
+//! scripts/check-locks reads the notes.
 
 use crate::replaced::{FileLook, Stop};
 use crate::serving::ServeFault;

@@ -1,7 +1,7 @@
 //! Implements `mwserve`: reads the command line, opens the files, and serves the tenants' words.
 //!
 //! mwserve calls `serve`, and so does mw_examples. docs/OPERATING tells its options, notes and statuses: change them
-//! together.
+//! together. mw_examples and scripts expect notes (`git grep`).
 ghost use Rattle.std.specs.Prelude.{◌≡◌, ◌+◌, ◌<◌, ◌≤◌, All, IfOk, length, vec_len};
 ghost use Rattle.mw_config.specs.CommandLine.{ArePermittedArgs};
 ghost use Rattle.mw_config.specs.Limits.{ArePermitted};
@@ -101,7 +101,7 @@ impl From<AllocError> for ServeFault {
 /// - 2 if the command line or the tenants file is wrong.
 ///
 /// `network` is where it listens. `promise`: what its clients were promised is kept if an engine serves them that begins with files
-/// which a start opened ([`EngineServes`](crate::EngineServes)). Of other services nothing is known, so no other can serve them.
+/// which a start opened. Of other services nothing is known, so no other can serve them.
 ///
 /// Writes to `err` what went wrong before the first session, and why. It also writes a note on each tenant whose
 /// file doesn't open, is in use or fails, and a note when there is no room for connections. With `--listen` it tells before
@@ -237,7 +237,7 @@ where
         return Err(ServeFault::Failed);
     }
     let setup = Setup::read(rt, network, args, notes, end)?;
-    let (states, meters) = (FileStates::new(), Meters::new(rt));
+    let (states, meters) = (FileStates::new(setup.args.strict), Meters::new(rt));
     let disks = LockedFiles::new(rt, &states, counted_in(&setup.args.mode, &meters));
     let opened = open_parts(
         rt.alloc(),

@@ -1,7 +1,7 @@
 //! Writes a note, once, on each tenant whose file fails while it is served, and on each whose file is replaced.
 //!
 //! `serving` makes the notes, mw_service tells of each FAULT, and `clients` has the files looked at. Change it with
-//! docs/OPERATING.
+//! docs/OPERATING; scripts/check-locks and check-prometheus read the notes.
 ghost use Rattle.std.specs.Prelude.{◌<◌};
 ghost use Rattle.mw_words.specs.declared.limits.TheConstants.{MAX_TENANTS};
 
@@ -80,14 +80,11 @@ impl<L: Log, R: Wait> TenantNotes<'_, '_, '_, '_, L, R> {
         }
     }
 
-    /// Keeps that the file of the tenant of this number was replaced, and gives it up if this is strict.
+    /// Keeps that the file of the tenant of this number was replaced. Its state gives it up if this is strict.
     fn keep_replaced(&self, tenant: usize, state: &FileState)
         requires { tenant < MAX_TENANTS }
     {
         state.keep_replaced();
-        if self.strict {
-            state.give_up();
-        }
         self.meters.tenant(tenant).record_replaced(self.strict);
     }
 

@@ -1,14 +1,18 @@
 //! `mwserve --tenants FILE` serves tenants' words: to the clients that connect with `--listen ADDR`, or to
 //! one session that it reads from a file with `--script FILE`.
 //!
-//! mw_programs does the work (`serve`), and documents the command line. Here are only the program's name,
-//! what it says if it can't begin, and the thread that serves with `--end-on-failure`.
+//! mw_programs does the work (`serve`), and documents the command line. Here are only the program's name, what it says
+//! if it can't begin, and the thread that serves with `--end-on-failure`. docs/OPERATING and
+//! scripts/fail-each-allocation have the text `memory`: change them together.
 #![tactic(auto)]
+
+mod promise;
 
 use mw_main::{Program, run};
 use mw_programs::{
-    EngineServes, Network, Printed, PromptErrors, ServedApart, ServerEnd, ends_on_failure, serve,
+    Network, Printed, PromptErrors, ServedApart, ServerEnd, ends_on_failure, serve,
 };
+use promise::EngineServes;
 use std::process::ExitCode;
 use std::thread;
 

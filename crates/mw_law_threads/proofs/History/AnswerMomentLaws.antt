@@ -1,6 +1,6 @@
 -- A request that was answered has its moment in each run that goes on from the one that its thread knew and hands its reply
 -- out.
--- Used by: answers_have_moments.
+-- For `after_reply`.
 use Rattle.std.specs.Prelude.{ℕ, zero, suc, ◌≡◌, ◌++◌, List, [], ◌∷◌, slice_get, Option, Some}
 use Rattle.std.proofs.Common.{refl, sym, ap, subst, ◌∙◌, inl, inr, arith, append_assoc}
 use Rattle.std.proofs.lemmas.List.{append_cancel_left}
@@ -20,16 +20,16 @@ use Rattle.mw_law_store.proofs.Beginnings.{run_last}
 use Rattle.mw_law_threads.specs.Moments.Moments.{HasMoment}
 use Rattle.mw_law_threads.proofs.Moments.MomentLaws.{replies_have_moments}
 use Rattle.mw_rule.specs.KnownRuns.{KnownRun, ExtendsKnownRun, known_run_of}
-use Rattle.mw_rule.specs.Rule.{Each, Holds, IsHandedOut, events_of_worker, worker_event_if, worker_event_of}
+use Rattle.mw_rule.specs.Rule.{Each, IsHandedOut, events_of_worker, worker_event_if, worker_event_of}
 use Rattle.mw_rule.specs.RunBehind.{Arrives}
 use Rattle.mw_rule.specs.Steps.{finished_as}
 use Rattle.mw_rule.specs.declared.views.View.{View}
 use Rattle.mw_rule.specs.declared.views.WorkerEvent.TheVariants.{Came}
 use Rattle.mw_rule.specs.declared.views.WorkerToken.{WorkerToken}
 use Rattle.mw_rule.proofs.HandedReplies.{itself}
-use Rattle.mw_rule.proofs.KnownRunLaws.{on_again, stays}
+use Rattle.mw_rule.proofs.KnownRunLaws.{stays}
 use Rattle.mw_rule.proofs.RequestsInRuns.{same_did}
-use Rattle.mw_law_threads.specs.History.AnswerMoments.{AnswersHaveMoments, AnswersHaveMomentsInOneRun, AnswersKeepTheOrderOfTime, ComesAfter, HasMomentInRun}
+use Rattle.mw_law_threads.specs.History.AnswerMoments.{AnswersHaveMoments, ComesAfter, HasMomentInRun}
 use Rattle.mw_law_threads.proofs.History.ArrivalsInRuns.{ArrivesInRun, arrives_in_run, none_after, none_before}
 use Rattle.mw_law_threads.proofs.History.OwnHandOuts.{hand_of, has_request, lack_after, lack_at_once, number_is_given}
 use Rattle.mw_law_threads.proofs.History.HandOuts.{HandsOutIn, in_parts, in_run, none_before as none_earlier, replies_first}
@@ -186,27 +186,3 @@ answers_have_moments first now token tenant job reply answered whole =
     let handed = each_last (IsHandedOut now.config (world_at now.config behind.openings) (behind.before ++ behind.events)) first.mine (finished_as token tenant job reply answered.place)
     (subst (Each (IsHandedOut now.config (world_at now.config behind.openings) (behind.before ++ behind.events))) answered.noted behind.handed) in
     has_moment now.config behind.openings behind.before behind.events behind.state behind.played behind.no_starts first now known token.worker tenant token.request job reply its.arrival handed.0 handed.1
-
-pub answers_have_moments_in_one_run : (config : Config) (begun : (ℕ → TenantStart) → List WorldEvent → Type 0) → AnswersHaveMomentsInOneRun config begun
-answers_have_moments_in_one_run config begun s tied id index first now view token tenant job reply at answered whole goes mine =
-    let past = tied.past in
-    let is_run = tied.known id view at in
-    let known = on_again now.known_run view.known_run (Some (known_run_of config past.openings past.before tied.events)) goes is_run.known in
-    let handed = each_at (IsHandedOut config (world_at config past.openings) (past.before ++ tied.events)) view.mine index (finished_as token tenant job reply answered.place) is_run.handed mine in
-    has_moment config past.openings past.before tied.events tied.state past.played past.no_starts first now known token.worker tenant token.request job reply (answered.run whole).arrival handed.0 handed.1
-
-pub answers_keep_the_order_of_time : (config : Config) (begun : (ℕ → TenantStart) → List WorldEvent → Type 0) → AnswersKeepTheOrderOfTime config begun
-answers_keep_the_order_of_time config begun s next tied more on id other index first now view was token tenant job reply here only own at answered whole goes mine =
-    let after = on.after in
-    let past = after.past in
-    let is_run = after.known other view at in
-    let known = on_again now.known_run view.known_run (Some (known_run_of config past.openings past.before after.events)) goes is_run.known in
-    let handed = each_at (IsHandedOut config (world_at config past.openings) (past.before ++ after.events)) view.mine index (finished_as token tenant job reply answered.place) is_run.handed mine in
-    comes_after config past.openings past.before after.events after.state past.played past.no_starts first now known token.worker tenant token.request job reply (answered.run whole).arrival handed.0 handed.1
-    tied.events more was only on.events did
-  where
-    did : events_of_worker token.worker tied.events ≡ was.made
-    did = elim (tied.fits id first here) [
-      | inl spent ↦ absurd (let none = spent.no_tokens in cc)
-      | inr fits ↦ subst (λ (n : ℕ). events_of_worker n tied.events ≡ was.made) own (subst (Each (Holds config tied.past.openings tied.state tied.events)) only fits.token).0.made
-    ]

@@ -1,5 +1,5 @@
 -- A reply that a pass gave is handed out in every run that goes on from the one that the pass knew with it.
--- Used by: answers_are_in_one_run.
+-- For `after_reply`.
 use Rattle.std.specs.Prelude.{ℕ, ◌≡◌, ◌<◌, ◌++◌, List, [], ◌∷◌, map, slice_get, Option, Some}
 use Rattle.std.proofs.Common.{refl, sym, ap, subst, ◌∙◌, inl, inr}
 use Rattle.atomic_table.specs.Table.{State as Table}

@@ -1,6 +1,6 @@
 -- Two replies are to two requests. Two requests of a tenant with one number are one arrival in one run, so one worker served
 -- both, and its pass had not known the reply when the request came.
--- Used by: replies_are_to_own_requests.
+-- For specs/AfterReplies.
 use Rattle.std.specs.Prelude.{ℕ, ◌+◌, ◌≡◌, ◌≢◌, ◌≤◌, ◌<◌, ◌==◌, ◌&&◌, Bool, true, false, ◌++◌, ◌⊎◌, List, [], ◌∷◌, map, slice_get, Option, Some}
 use Rattle.std.proofs.Common.{refl, sym, ap, subst, ◌∙◌, inl, inr, arith}
 use Rattle.std.proofs.lemmas.Option.{same_Some}
@@ -32,12 +32,10 @@ use Rattle.mw_service.specs.OwnReplies.{AnswersOwn, Kept, came_in, token_for}
 use Rattle.mw_service.specs.RequestTokens.{is_token_of, times_had, times_in, token_of}
 use Rattle.mw_service.proofs.TokenMoves.{times_both, total_two}
 use Rattle.mw_law_threads.proofs.Durable.DurableLaws.{got_on, prefix_on, tenant_of}
-use Rattle.mw_law_threads.proofs.History.AnswersInOneRunLaws.{in_one_run as one_run}
 use Rattle.mw_law_threads.proofs.History.ArrivalsInRuns.{ArrivesInRun, arrives_in_run}
 use Rattle.mw_law_threads.proofs.History.OneHistoryLaws.{fits_live}
-use Rattle.mw_law_threads.proofs.Sessions.SessionMomentLaws.{own_run}
 use Rattle.mw_law_threads.specs.History.AnswersInOneRun.{IsKnownAt}
-use Rattle.mw_law_threads.specs.Sessions.OwnRequests.{BorrowersHaveOwnRequests, RepliesAreToOwnRequests, SessionsAreInOneRun, SessionsHaveOwnRequests, WasAnswered}
+use Rattle.mw_law_threads.specs.Sessions.OwnRequests.{RepliesAreToOwnRequests, SessionsHaveOwnRequests, WasAnswered}
 
 -- an arrival counts for its tenant
 own_arrival : (worker tenant : ℕ) (job : Job) → arrives tenant (Come worker tenant job) ≡ 1
@@ -192,14 +190,6 @@ own_requests config begun s tied first now begins ends tenant job asked reply sa
     let distinct = numbers config begun s tied first now begins ends tenant job asked reply said one that known also apart in
     record { numbers = distinct; changes = changes config begun s tied first now begins ends tenant job asked reply said one that known also distinct }
 
-pub borrowers : (config : Config) (begun : (ℕ → TenantStart) → List WorldEvent → Type 0) → BorrowersHaveOwnRequests config begun
-borrowers config begun s tied identity old new before after tenant job asked reply said its that known also apart =
-    own_requests config begun s tied its.2.borrows.learned.seat.me.0 its.1.seat.me.0 that.2.borrows.learned.seat.me.0 that.1.seat.me.0 tenant job asked reply said its.2.answered that.2.answered known also (elim apart [
-      | inl workers ↦ inl workers
-      | inr knew ↦ inr (on_again its.1.seat.me.0.known_run that.0.seat.me.0.known_run that.2.borrows.learned.seat.me.0.known_run knew
-          (own_run that.0.seat.me.0 that.2.borrows.learned.seat.me.0 before that.2.borrows.learns))
-    ])
-
 -- A session keeps the tokens that it has.
 keeps_tokens : (identity : Identity) (calls : List Call) (old new : Kept) → GoesThrough (AnswersOwn identity) old calls new → (worker number : ℕ) → times_in worker number old.tokens ≤ times_in worker number new.tokens
 keeps_tokens identity [] old new same worker number = let is = ap (λ (kept : Kept). times_in worker number kept.tokens) same in omega (arith, is)
@@ -245,6 +235,3 @@ sessions config begun s tied tokens own identity id other tenant job asked reply
     let once = own.once token.worker token.number in absurd (omega (arith, here, there, two, once)) in
     let numbers = tokens_apart config begun s tied first one.its.0.1.seat.me.0 begins that.its.0.1.seat.me.0 tenant job asked reply said one.its.0.2.answered that.its.0.2.answered known also distinct in
     record { numbers = numbers; changes = changes config begun s tied first one.its.0.1.seat.me.0 begins that.its.0.1.seat.me.0 tenant job asked reply said one.its.0.2.answered that.its.0.2.answered known also numbers }
-
-pub in_one_run : (config : Config) (begun : (ℕ → TenantStart) → List WorldEvent → Type 0) → SessionsAreInOneRun config begun
-in_one_run config begun s tied identity old new tenant job reply its at_start known = one_run config begun s tied its.0.2.borrows.learned.seat.me.0 its.0.1.seat.me.0 tenant job reply its.0.2.answered at_start known

@@ -65,7 +65,7 @@ module _ (identity : Identity) (now : View) (own_config : now.config ≡ identit
   over_calls (Counts figures ∷ later) old new goes on = over_calls later goes.0 new goes.2 (over_one goes.1.0 goes.1.1 old goes.0 goes.1.2.borrows goes.1.2.keeps on)
 
 -- the note that a session has come to goes on from what the pass knew that answered it
-since_answer : (identity : Identity) (before after : Pass) (old new : Option Note) (borrows : Borrows identity before after old new) → ExtendsView borrows.learned.seat.me.0 after.seat.me.0 → (calls : List Call) (kept : Note)
+pub since_answer : (identity : Identity) (before after : Pass) (old new : Option Note) (borrows : Borrows identity before after old new) → ExtendsView borrows.learned.seat.me.0 after.seat.me.0 → (calls : List Call) (kept : Note)
     → GoesThrough (AnswersWith identity) new calls (Some kept) → ExtendsView after.seat.me.0 (said_in kept)
 since_answer identity before after old new borrows keeps calls kept goes =
     let first : View = borrows.learned.seat.me.0 in

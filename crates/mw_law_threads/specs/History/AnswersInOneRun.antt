@@ -1,7 +1,7 @@
 -- Defines that a reply is in the one run that ties the shared words to the model, whichever session was told it. It is enough
 -- that a thread knows what the pass knew with the reply: the pass itself, the session by its note, or a pass that has learned
 -- the note.
--- Used by: answers_are_in_one_run (src/history_laws.rt).
+-- Used by the clauses of specs/AfterReplies.
 use Rattle.std.specs.Prelude.{ℕ, ◌≡◌, List, [], ◌∷◌}
 use mathlib.Core.Option.{some}
 use lib.ListN.{get_elem?}

@@ -1,7 +1,7 @@
 -- Defines that two replies are to two requests, whichever sessions were told them, and that each YES then has a change of its
 -- own. A session has a worker with a pass (a handle to the engine), or borrows a pass for each request.
--- Used by: replies_are_to_own_requests (src/session_laws.rt).
-use Rattle.std.specs.Prelude.{ℕ, ◌≡◌, ◌≢◌, ◌⊎◌, List, [], Option}
+-- Used by the clauses of specs/AfterReplies.
+use Rattle.std.specs.Prelude.{ℕ, ◌≡◌, ◌≢◌, ◌⊎◌, List}
 use mathlib.Core.Option.{some}
 use lib.ListN.{get_elem?}
 use Rattle.atomic_table.specs.Table.{State as Table}
@@ -18,14 +18,12 @@ use Rattle.mw_rule.specs.declared.views.View.{View}
 use Rattle.mw_session.specs.Talk.{Call, Asks}
 use Rattle.mw_session.specs.Transitions.{GoesThrough}
 use Rattle.mw_engine.specs.Brand.{Identity}
-use Rattle.mw_engine.specs.FromBelow.{Note}
 use Rattle.mw_engine.specs.History.{IsAnswered}
 use Rattle.mw_service.specs.declared.token_views.RequestToken.{RequestToken}
 use Rattle.mw_service.specs.declared.token_views.TokenView.{TokenView}
-use Rattle.mw_service.specs.Borrowed.{IsAnsweredWith}
 use Rattle.mw_service.specs.OwnReplies.{AnswersOwn, Kept}
 use Rattle.mw_service.specs.RequestTokens.{AreOwn}
-use Rattle.mw_law_threads.specs.History.AnswersInOneRun.{IsInOneRun, IsKnownAt}
+use Rattle.mw_law_threads.specs.History.AnswersInOneRun.{IsKnownAt}
 
 -- Two requests of one tenant were answered. They have two numbers. If both were answered YES, they have two changes.
 pub record AreTwoRequests {first now begins ends : View} {tenant : ℕ} {job asked : Job} {reply said : Reply} (one : IsAnswered first now tenant job reply) (that : IsAnswered begins ends tenant asked said) : Type 0 where
@@ -59,14 +57,6 @@ module _ (config : Config) (begun : (ℕ → TenantStart) → List WorldEvent �
       → (one.token.worker ≢ that.token.worker) ⊎ ExtendsKnownRun now.known_run begins.known_run
       → AreTwoRequests one that
 
-  -- The same of two sessions that borrow their passes. Either they borrowed the passes of two workers; or, when the second session borrowed
-  -- its pass, this knew all of the run that the first one's pass knew when it was given back. So it is if it is that very pass again.
-  abbrev pub BorrowersHaveOwnRequests : Type 0
-  BorrowersHaveOwnRequests = (s : Table ActorState View) (tied : TableInvariant config begun s) (identity : Identity) (old new before after : Option Note) (tenant : ℕ) (job asked : Job) (reply said : Reply)
-      (its : IsAnsweredWith identity old tenant job reply new) (that : IsAnsweredWith identity before tenant asked said after) → IsKnownAt s its.1.seat.me.0 → IsKnownAt s that.1.seat.me.0
-      → (its.2.answered.token.worker ≢ that.2.answered.token.worker) ⊎ ExtendsKnownRun its.1.seat.me.0.known_run that.0.seat.me.0.known_run
-      → AreTwoRequests its.2.answered that.2.answered
-
   -- At each moment at which both tables are under their rules: two sessions were answered, each a request of one tenant, whichever passes
   -- they borrowed. Some thread knows what each pass knew with its reply. Then these are two requests, and two YES have two changes.
   abbrev pub SessionsHaveOwnRequests : Type 0
@@ -74,10 +64,3 @@ module _ (config : Config) (begun : (ℕ → TenantStart) → List WorldEvent �
       (one : WasAnswered identity tokens id tenant job reply) (that : WasAnswered identity tokens other tenant asked said) → id ≢ other
       → IsKnownAt s one.its.0.1.seat.me.0 → IsKnownAt s that.its.0.1.seat.me.0
       → AreTwoRequests one.its.0.2.answered that.its.0.2.answered
-
-  -- The table of shared words was made at a start, as an engine's is. Then each reply to a session is in the one run behind all passes: it is
-  -- right there, and was true at a moment of its call. So BUSY and FAULT had their cause at such a moment. If it is VAL, NO or BUSY, its
-  -- request makes no change (`IsInOneRun`).
-  abbrev pub SessionsAreInOneRun : Type 0
-  SessionsAreInOneRun = (s : Table ActorState View) (tied : TableInvariant config begun s) (identity : Identity) (old new : Kept) (tenant : ℕ) (job : Job) (reply : Reply) (its : AnswersOwn identity old (Asks tenant job reply) new)
-      → tied.past.before ≡ [] → IsKnownAt s its.0.1.seat.me.0 → IsInOneRun config tied.past.openings tied.past.before tied.events tied.state its.0.2.answered

@@ -1,5 +1,5 @@
 -- Goals of the closure of `main` (src/main.rt).
-use Rattle.mw_programs.proofs.PromisedCalls.{engine_keeps}
+use Rattle.mwserve.proofs.ServedClients.{engine_keeps}
 use Rattle.mwserve.proofs.fn.main.run.Goals as goal
 
 -- what is promised is kept by an engine of opened files

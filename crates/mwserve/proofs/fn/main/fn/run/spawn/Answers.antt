@@ -1,5 +1,5 @@
 -- Goals of the thread that serves beside `main` (src/main.rt).
-use Rattle.mw_programs.proofs.PromisedCalls.{engine_keeps}
+use Rattle.mwserve.proofs.ServedClients.{engine_keeps}
 use Rattle.mwserve.proofs.fn.main.fn.run.spawn.Goals as goal
 
 -- what is promised is kept by an engine of opened files
