@@ -1,7 +1,7 @@
 //! Computes where a request goes next from what it knows of its own change and of the change that it works on.
 //!
-//! `actor.rt` and its two parts call it. Each function follows `specs/Program`, or a part of it: change both
-//! together.
+//! `actor.rt` and its two parts call it. Each function follows `specs/Program`, or a part of it (`specs/Help`,
+//! `specs/Inspection`, `specs/ReleasePhase`, `specs/RequestEnds`): change both together.
 ghost use Rattle.std.specs.Prelude.{◌≡◌};
 ghost use Rattle.mw_words.specs.Patterns.{IsGateInRange};
 ghost use Rattle.mw_words.specs.declared.words.Word.TheVariants.{Dirty};

@@ -1,5 +1,5 @@
 -- A table that permutes the first places stays one: a place of the file is the place of just one place that the world knows.
--- Used by: calls.rt.
+-- Used by: Book::new, Book::unopened.
 use Rattle.std.proofs.Common.{◌≡◌, ℕ, zero, suc, ◌==◌, ◌<◌, ◌≤◌, true, false, List, length, sym, ap, ◌∙◌, inl, inr, arith}
 use Rattle.std.proofs.lemmas.Bool.{cases_eq, cases_lt, or_cases, or_left, or_right, eqb-true, eq-eqb}
 use Rattle.std.proofs.lemmas.List.{get_or_past}

@@ -1,6 +1,6 @@
--- What is prepared ahead after a call, by the changes that were chosen, by the places whose writes stay, and by the place
--- that is lost.
--- Used by: make_room.
+-- After a call on a book just these changes are prepared ahead (`PreparesAhead`): those before it, but for the one in a
+-- place that is lost, and those whose records it wrote.
+-- Used by: FiledCalls (for all calls of Book), Book::make_room.
 use Rattle.std.proofs.Common.{◌≡◌, ℕ, zero, suc, ◌+◌, ◌-◌, ◌==◌, ◌<◌, ◌≤◌, ◌&&◌, ◌||◌, not, Bool, true, false, List, [], length, take, min, Option, Some, None, get_or, nat_lt, nat_le, All, refl, sym, ap, ◌∙◌, inl, inr, arith}
 use Rattle.std.specs.Cmp.{both_ways}
 use Rattle.std.specs.List.{filter}

@@ -1,7 +1,7 @@
 //! How a call on a tenant's file ended: it was made, a device call failed in it, or the file had failed before.
 //!
-//! mw_core tells the request by it how the call went. A new way to end needs a case in `specs/Answers`, `specs/Ends`
-//! and `specs/Crashes`, and in mw_core.
+//! mw_core tells the request by it how the call went. A new way to end needs a case in `specs/Answers`, `specs/Ends`,
+//! `specs/Crashes` and `specs/RecordsAhead`, and in mw_core (`file_calls.rt`, `specs/Books`).
 
 /// How a call on a tenant's file ended.
 #[derive(Clone, Copy, Debug, PartialEq, Eq)]

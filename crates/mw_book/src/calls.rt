@@ -1,7 +1,8 @@
 //! Makes the calls on a tenant's book: prepare, seal, settle and cancel the change of a slot.
 //!
-//! Used by: mw_core (`file_calls.rt`). Change it with `specs/Permits` (when one may be made) and `specs/CallOutcome`
-//! (what it leaves). docs/PROMISES cites `call` and its record.
+//! Used by: mw_core (`file_calls.rt`). Change it with `specs/Permits` (when one may be made), `specs/CallOutcome`
+//! (what it leaves), `specs/OpenFile`, `specs/PreparedAhead`, `specs/Representation` and `specs/SameFiles`.
+//! docs/PROMISES cites `call` and its record.
 ghost use Rattle.std.specs.Prelude.{◌≡◌, ◌≢◌, List, [], true, false};
 ghost use Rattle.mw_words.specs.declared.jobs.Entry.{Entry as EntryAt};
 ghost use Rattle.mw_book.specs.declared.waiting.Waiting.{Waiting as WaitingAt};

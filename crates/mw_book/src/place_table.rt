@@ -2,7 +2,7 @@
 //! their own slots settle or prepare them.
 //!
 //! `calls.rt`, `waiting.rt` and `queries.rt` call these. Change it with `specs/Representation`, `specs/Permits`,
-//! `specs/PreparedAhead`, `specs/RecordsAhead` and `specs/SettledAhead`.
+//! `specs/PreparedAhead`, `specs/RecordsAhead`, `specs/SettledAhead`, `specs/FilePlaces` and `specs/TakenPlaces`.
 ghost use Rattle.std.specs.Prelude.{◌≡◌, ◌≤◌, ◌<◌, ◌||◌, ℕ, None, true, false, length, IfSome};
 ghost use Rattle.mw_words.specs.declared.limits.TheConstants.{MAX_PLACES};
 ghost use Rattle.mw_file.specs.PlaceStates as spec;

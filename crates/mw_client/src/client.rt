@@ -1,6 +1,7 @@
 //! A client's session for one tenant: it reads words, changes them, and repeats a change that was answered `BUSY`.
 //!
-//! Used by: `wire.rt`, mwbench. Change it with `specs/Exchanges` and docs/CLIENTS.md. docs/PROMISES cites `try_cas`.
+//! Used by: `wire.rt`, mwbench. Change it with `specs/Exchanges`, `specs/RequestLines` and docs/CLIENTS.md.
+//! docs/PROMISES cites `try_cas`.
 ghost use Rattle.std.specs.Prelude.{◌≡◌, true, false, Ok, Err, IfOk, IfSome, IsTrue};
 ghost use Rattle.std.specs.List.{list_all};
 ghost use Rattle.mw_words.specs.declared.jobs.Job.TheVariants.{Get, Cas};

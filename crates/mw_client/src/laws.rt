@@ -1,7 +1,8 @@
 //! The law that the server reads each request as it was sent: the contract of an empty function, proved in
 //! `proofs/laws`.
 //!
-//! To change it, begin with its definition in `specs`.
+//! Nothing calls it, and no other crate cites it. To change it, begin with `specs/RequestLines`, which must match
+//! `specs/Grammar` of mw_line.
 ghost use Rattle.mw_client.specs.RequestLines.{WhatIsSentIsRead};
 
 /// States that whoever reads the line of a request as the server does ([`mw_line::read_line`]) gets that

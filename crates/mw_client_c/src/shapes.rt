@@ -1,6 +1,7 @@
 //! What crosses to C: an entry of a change, and which reply a line is.
 //!
-//! clients/c/proved.h has the same structs: change both together.
+//! clients/c/proved.h has the same structs, and clients/c/codec.h, `specs/Crossing` and `lib.rt` the numbers of
+//! `kind`: change them together.
 /// One word's part in a change.
 #[repr(C)]
 #[derive(Clone, Copy, Drop)]

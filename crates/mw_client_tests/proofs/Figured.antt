@@ -1,4 +1,4 @@
--- The figures of one tenant keep the limits of a report.
+-- The figures of one tenant keep the limits of a report. Used by: src/test_server.rt.
 use Rattle.std.proofs.Common.{◌≡◌, ℕ, ◌≤◌, List, [], ◌∷◌, lit≤, subst, sym}
 use Rattle.std.proofs.lemmas.List.Elements.{All-nil, All-cons}
 use Rattle.mw_report.specs.declared.figures.TenantFigures.{TenantFigures}

@@ -1,4 +1,5 @@
-//! Tests how long a client asks again, by a clock that goes on only while somebody waits.
+//! Tests how long a client asks again, by a clock that goes on only while somebody waits. Change
+//! `LONGEST_PAUSE` with that of `pauses.rt` of mw_client.
 use arrayvec::ArrayVec;
 use mw_client::{Client, Failure, Outcome};
 use mw_words::{Entries, Entry, Name};

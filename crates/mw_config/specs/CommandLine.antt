@@ -1,5 +1,5 @@
 -- Defines what the command line of `mwserve` may ask for: connections, clients, limits of time, file modes, pool and workers.
--- Used by: mw_programs, command_line.rt. Change it with the program's help and docs/OPERATING.
+-- Used by: mw_programs, command_line.rt, lease_terms.rt. Change it with the program's help and docs/OPERATING.
 use Rattle.std.specs.Prelude.{ℕ, ◌≤◌, ◌<◌, IfSome, vec_len}
 use Rattle.mw_words.specs.declared.limits.TheConstants.{MAX_POOL, MAX_WORKERS, MAX_CONNECTIONS}
 use Rattle.mw_config.specs.declared.command_line.TheConstants.{MAX_CLIENTS, MAX_FAULTS, MAX_HTTP_NAMES, MAX_IDLE, MAX_SOCKET_MODE}

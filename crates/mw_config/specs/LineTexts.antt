@@ -1,5 +1,5 @@
 -- Defines the grammar of a tenants file: its lines and the text of each, before any limit is checked.
--- Used by: laws.rt, lines.rt, tenants.rt. Change it with docs/OPERATING.
+-- Used by: forms.rt, laws.rt, lines.rt, tenants.rt. Change it with docs/OPERATING.
 use Rattle.std.specs.Prelude.{ℕ, ◌≡◌, ◌&&◌, Bool, List, ◌++◌, length, codes, nat_le, IsTrue, map}
 use Rattle.std.specs.List.{list_all}
 use Rattle.mw_words.specs.declared.limits.TheConstants.{MAX_PATH}

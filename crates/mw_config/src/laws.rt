@@ -1,7 +1,7 @@
 //! The law that `specs/Refusals` leaves `read_tenants` one answer for a tenants file: the contract of an empty
 //! function.
 //!
-//! Nothing calls it. Change it with `specs/Refusals`.
+//! Nothing calls it. Change it with `specs/Refusals`, `specs/Limits` and `specs/LineTexts`.
 ghost use Rattle.std.specs.Prelude.{◌≡◌, ◌↔◌, ℕ, List, Result, Ok};
 ghost use Rattle.mw_config.specs.declared.refusals.Refusal.{Refusal};
 ghost use Rattle.mw_config.specs.LineTexts.{Line};

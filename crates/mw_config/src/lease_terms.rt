@@ -1,7 +1,7 @@
 //! The lease that a command line asks for.
 //!
-//! Used by: `command_line`; mw_programs, which takes the lease (`beats.rt`). docs/OPERATING has the options: change
-//! both together.
+//! Used by: `command_line`; mw_programs, which takes the lease (`beats.rt`). The options' names are in `command_line`
+//! and docs/OPERATING too, and contrib/ha/mondlexi-ha gives the options: change them together.
 ghost use Rattle.std.specs.Prelude.{IfOk, IfSome};
 ghost use Rattle.mw_config.specs.CommandLine.{IsUpTo};
 ghost use Rattle.mw_config.specs.declared.command_line.TheConstants.{MAX_IDLE};

@@ -1,7 +1,7 @@
 //! Reads the tenants file: which tenants are served, and from which files.
 //!
-//! mw_opening calls [`read_tenants`] at a start. Change it with `specs/Limits`, `specs/Refusals` and docs/OPERATING.
-//! docs/PROMISES cites `read_tenants`.
+//! mw_opening calls [`read_tenants`] at a start. Change it with `specs/Limits`, `specs/Refusals`, `specs/LineReader`,
+//! `specs/LineTexts` and docs/OPERATING. docs/PROMISES cites `read_tenants`.
 ghost use Rattle.std.specs.Prelude.{◌≡◌, ◌≤◌, ◌↔◌, [], length, sum_by, IfOk, IfErr};
 ghost use Rattle.std.specs.List.{list_all};
 ghost use Rattle.mw_words.specs.declared.limits.TheConstants.{MAX_TENANTS as most_tenants, MAX_TENANTS_FILE as longest};

@@ -1,5 +1,5 @@
 -- Defines which bytes a crash of a disk in memory leaves if a test chooses the bytes of unsynced writes.
--- Used by: mw_file, mw_world_file, memory.rt, spans.rt. A change here changes MemDisk, and no real disk.
+-- Used by: mw_file, mw_world_file, laws.rt, memory.rt, spans.rt. A change here changes MemDisk, and no real disk.
 use Rattle.std.specs.Prelude.{min, Option, Some, None, ◌≡◌, ◌<◌, ◌≤◌, ℕ, ◌+◌, zero, suc, Bool, ◌&&◌, List, [], ◌∷◌, ◌++◌, length, nat_lt, nat_le, slice_index, IsTrue, if◌then◌else◌}
 use Rattle.std.specs.List.{list_any}
 use Rattle.mw_disk.specs.Memory.{bytes_of}

@@ -1,6 +1,6 @@
 -- Defines a disk in memory for contracts: its facts, which follow from the calls that it remembers, and how each call ends.
--- Used by: mw_file, mw_world_file, mw_simulator, mw_engine_tests, edits.rt, event.rt, memory.rt, spans.rt. A change here
--- changes MemDisk, and no real disk.
+-- Used by: mw_file, mw_world_file, mw_simulator, mw_engine_tests, edits.rt, event.rt, laws.rt, memory.rt, spans.rt. A
+-- change here changes MemDisk, and no real disk.
 use Rattle.std.specs.Prelude.{◌⊎◌, ◌==◌, ◌&&◌, nat_lt, nat_le, Some, None, ◌≡◌, ◌<◌, ℕ, ◌+◌, ◌-◌, Bool, true, false, List, [], ◌∷◌, ◌++◌, length, take, min, replicate, if◌then◌else◌, Option}
 use Rattle.std.specs.List.{flat_map, list_any}
 use Rattle.mw_disk.specs.DeviceCalls.{DeviceCall, ReadAt, WriteAt, Sync, Length}

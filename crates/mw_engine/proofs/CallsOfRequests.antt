@@ -1,4 +1,4 @@
--- Calls made one after another on a request's file are calls alone. Used by: src/file_lock/one_call.rt.
+-- Calls made one after another on a request's file are calls alone. Used by: RequestsGoOn.
 use Rattle.std.specs.Prelude.{ℕ, zero, suc}
 use Rattle.std.proofs.Common.{refl, subst}
 use Rattle.mw_actor.specs.ActorState.{ActorState}

@@ -1,5 +1,6 @@
 -- Defines the identity of an engine: what stays the same for its whole life.
--- Used by: src/brand.rt, src/end.rt, src/engine.rt, other code of this crate, mw_service, mw_law_threads, mw_programs.
+-- Used by: src/brand.rt, src/end.rt, src/engine.rt, src/file_calls.rt, src/parts.rt, mw_service, mw_law_threads,
+-- mw_programs.
 use Rattle.std.specs.Prelude.{List, []}
 use Rattle.atomic_table.specs.Seated.{TableId}
 use Rattle.mw_world.specs.declared.config.Config.{Config}

@@ -1,5 +1,5 @@
 -- Defines what a copy of a tenant's file is, as an engine makes it while it serves.
--- Used by: src/copies.rt, mw_programs. A change here changes what a backup of a served file is.
+-- Used by: src/copies.rt, src/file_lock.rt, mw_programs. A change here changes what a backup of a served file is.
 use Rattle.std.specs.Prelude.{◌≡◌, ℕ, List, length, Some, Vec, Result, Ok, IsTrue}
 use Rattle.std.specs.declared.alloc.Global.{Global}
 use Rattle.mw_disk.specs.Facts.{Facts}

@@ -1,5 +1,5 @@
 -- Defines what is known of a request that is under way or answered, from what its thread knew when it came.
--- Used by: src/reads.rt, src/serving.rt, src/steps.rt, mw_service, mw_law_threads.
+-- Used by: src/file_lock/one_call.rt, src/reads.rt, src/serving.rt, src/steps.rt, mw_service, mw_law_threads.
 use Rattle.std.specs.Prelude.{ℕ, ◌≡◌, Bool, true, false, Option, Some, None, Result, Ok, Err}
 use Rattle.mw_words.specs.declared.jobs.Job.{Job}
 use Rattle.mw_words.specs.declared.replies.Reply.{Reply}

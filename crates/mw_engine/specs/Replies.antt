@@ -1,5 +1,5 @@
 -- Defines which replies a job can have, whatever a tenant's words are.
--- Used by: src/reads.rt, src/serving.rt, src/steps.rt, mw_service.
+-- Used by: src/file_lock/one_call.rt, src/reads.rt, src/serving.rt, src/steps.rt, mw_service.
 use Rattle.std.specs.Prelude.{◌≡◌, ◌≢◌, ℕ, Any, IfSome}
 use Rattle.mw_words.specs.declared.jobs.Entry.{Entry}
 use Rattle.mw_words.specs.declared.jobs.Job.{Job}

@@ -1,4 +1,5 @@
--- Defines the effect of a call of the engine that makes one step of a request. Used by: src/serving.rt, src/steps.rt.
+-- Defines the effect of a call of the engine that makes one step of a request.
+-- Used by: src/file_lock/one_call.rt, src/serving.rt, src/steps.rt.
 use Rattle.std.specs.Prelude.{◌≡◌, ◌≢◌, Bool, true, false, Option, Some, None}
 use Rattle.mw_words.specs.declared.replies.Reply.{Reply}
 use Rattle.mw_actor.specs.ActorState.{ActorState}

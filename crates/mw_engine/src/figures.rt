@@ -1,7 +1,7 @@
 //! Gives the figures of the tenants and the pool, for a report.
 //!
-//! mw_programs reports them when the administrator asks. Change it with `specs/Figures`, `specs/Identity` and
-//! `specs/LinesOfWorld`.
+//! mw_programs reports them when the administrator asks. Change it with `specs/Figures`, `specs/Identity`,
+//! `specs/LinesOfWorld`, `specs/Passes` and `specs/TenantWords`.
 ghost use Rattle.std.specs.Prelude.{◌≡◌, ◌≤◌, ◌<◌, All, true, length, map};
 ghost use Rattle.mw_report.specs.Table.{AreWithinLimits, IsWithinLimits};
 ghost use Rattle.mw_words.specs.declared.limits.TheConstants.{MAX_QUOTA};

@@ -1,6 +1,7 @@
 //! Makes an engine's parts of the tenants' lines and their opened files: `EngineParts::new`.
 //!
-//! mw_opening calls it for `mwserve`. Change it with `specs/Lines`, `specs/OpenedFiles` and `specs/Passes`.
+//! mw_opening calls it for `mwserve`. Change it with `specs/Lines`, `specs/OpenedFiles`, `specs/Passes` and
+//! `specs/Parts`.
 ghost use Rattle.std.specs.Prelude.{◌≡◌, ◌≤◌, All, length, map, IfOk};
 ghost use Rattle.mw_config.specs.Limits.{ArePermitted};
 ghost use Rattle.mw_core.specs.FromTable.{AreInOrder};

@@ -1,7 +1,7 @@
 //! Reads a tenant's word without a lock, one round at a time or until it has its value.
 //!
-//! Only tests call these; `mwserve` reads by `Engine::serve`. Change it with `specs/History`, `specs/Identity` and
-//! `specs/Passes`.
+//! Only tests call these; `mwserve` reads by `Engine::serve`. Change it with `specs/History`, `specs/Identity`,
+//! `specs/Passes`, `specs/Replies` and `specs/Requests`.
 ghost use Rattle.std.specs.Prelude.{◌≡◌, true, false, IfOk};
 ghost use Rattle.mw_words.specs.declared.jobs.Job.TheVariants.{Get};
 ghost use Rattle.mw_actor.specs.ActorState.{ActorState};

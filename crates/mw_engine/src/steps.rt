@@ -1,7 +1,7 @@
 //! Serves a request one atomic step at a time.
 //!
 //! Only tests call it; `Engine::serve` makes all steps of a request by itself. Change it with `specs/History`,
-//! `specs/Passes` and `specs/Replies`.
+//! `specs/Passes`, `specs/Replies`, `specs/Requests` and `specs/Steps`.
 ghost use Rattle.std.specs.Prelude.{◌≡◌, true, false, is_some, IfSome, None};
 ghost use Rattle.mw_actor.specs.Program.{replied};
 ghost use Rattle.mw_core.specs.declared.calls.Advance.TheVariants.{NeedsFile};

@@ -63,7 +63,7 @@ impl Bench {
         Bench {
             file: FakeFile::new(BYTES, failing),
             counters: TenantCounters::new(),
-            state: FileState::new(),
+            state: FileState::new(false),
         }
     }
 

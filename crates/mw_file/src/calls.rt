@@ -2,9 +2,9 @@
 //! the calls that also prepare changes ahead.
 //!
 //! What they say of crashes holds on a disk that keeps the model of [`mw_disk::Disk`]. Used by: mw_book, mw_plain,
-//! mw_world_file. Change it with `specs/PlaceStates` (which calls may be made), `specs/File` and
-//! `specs/RecoveryInvariant` (how they end), and docs/FILES (the order of the device calls). docs/PROMISES cites
-//! `prepare_all`, `seal_with` and `settle_all`.
+//! mw_world_file. Change it with `specs/PlaceStates` and `specs/NewChanges` (which calls may be made), `specs/File`,
+//! `specs/RecoveryInvariant`, `specs/RollForward` and `specs/Run` (how they end), `specs/DeviceCalls` and docs/FILES
+//! (the order of the device calls). docs/PROMISES cites `prepare_all`, `seal_with` and `settle_all`.
 ghost use Rattle.std.specs.Prelude.{◌≡◌, ◌+◌, ◌≤◌, ◌<◌, ◌^◌, Some, length, IsTrue, IsSome, IfSome, is_some, is_ok, ℕ, [], ◌∷◌, ◌++◌, IfOk, OnOk, OnErr};
 ghost use Rattle.mw_disk.specs.DeviceCalls.{WriteAt, Sync, Makes};
 ghost use Rattle.mw_disk.specs.Facts.{IsSynced, patched};

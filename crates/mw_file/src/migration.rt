@@ -1,6 +1,7 @@
 //! Adds the second layout to a file that has its first layout alone.
 //!
-//! Only `opening.rt` calls it. Change it with `specs/Migration`; docs/FILES has the bytes.
+//! Only `opening.rt` calls it. Change it with `specs/Migration`, `specs/OpeningCalls`, `specs/RecoveryInvariant`,
+//! `specs/RollForward` and `specs/Run`; docs/FILES has the bytes.
 ghost use Rattle.std.specs.Prelude.{◌≡◌, ◌+◌, ◌*◌, ◌≤◌, ℕ, List, length, is_ok, IsTrue, OnOk};
 ghost use Rattle.mw_disk.specs.DeviceCalls.{Makes};
 ghost use Rattle.mw_disk.specs.Facts.{IsSynced, patched};

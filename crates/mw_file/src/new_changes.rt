@@ -1,7 +1,7 @@
 //! Prepares several changes by the sync of one call: writes their records, and sets the states of their places.
 //!
-//! `prepare_all`, `seal_with` and `settle_all` of `calls.rt` use it; mw_book makes the [`NewChange`]s. docs/FILES
-//! tells the order of the device calls: change them together.
+//! `prepare_all`, `seal_with` and `settle_all` of `calls.rt` use it; mw_book makes the [`NewChange`]s.
+//! `specs/NewChanges`, `specs/DeviceCalls` and docs/FILES tell the device calls and their order: change them together.
 ghost use Rattle.std.specs.Prelude.{◌≢◌, ◌+◌, ◌≤◌, ◌<◌, ◌^◌, ℕ, List, length, drop, is_ok, [], ◌∷◌, ◌++◌, OnOk, All};
 ghost use Rattle.std.specs.List.{AllPairs};
 ghost use Rattle.mw_disk.specs.DeviceCalls.{Sync, Makes};

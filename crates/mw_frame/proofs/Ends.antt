@@ -1,5 +1,5 @@
 -- A feed may search for the next line feed from where its last search ended, and what it finds tells the first line.
--- Used by: Feed::feed, Feed::next.
+-- Used by: Feed::feed, Feed::next, src/lines.rt.
 use Rattle.std.proofs.Common.{◌≡◌, ℕ, zero, suc, ◌+◌, ◌-◌, ◌<◌, ◌≤◌, ◌++◌, Bool, true, false, List, [], ◌∷◌, length, drop, take, Option, Some, None, slice_get, refl, sym, ap, ◌∙◌, arith}
 use Rattle.std.proofs.lemmas.List.{length-take-le, take_rest}
 use Rattle.std.proofs.lemmas.List.Folds.{prefix_len-append}

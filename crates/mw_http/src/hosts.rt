@@ -1,7 +1,7 @@
 //! Tests whether the value of a `Host` field is a host and maybe a port, and whether the server is called by that
 //! host.
 //!
-//! Used by: `hearing`. Change it with `specs/Hosts`.
+//! Used by: `hearing`. Change it with `specs/Hosts` and docs/HTTP.
 ghost use Rattle.std.specs.Prelude.{◌≡◌, ◌≤◌, length, map, All};
 ghost use Rattle.std.specs.List.{list_all, list_any, prefix_len};
 ghost use Rattle.std.specs.Char.{is_ascii_digit};

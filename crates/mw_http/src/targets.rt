@@ -1,6 +1,7 @@
 //! What a request's method and target ask for.
 //!
-//! Used by: `hearing`, mw_server_pages. Change it with `specs/Targets`.
+//! Used by: `hearing`, mw_server_pages. Change it with `specs/Targets` and docs/HTTP. Pages link to the targets
+//! (mw_server_pages), and contrib/mondlexi-backup and scripts ask for them.
 ghost use Rattle.std.specs.Prelude.{◌≡◌, ◌≤◌, length, IsTrue};
 ghost use Rattle.std.specs.Option.{option_map};
 ghost use Rattle.mw_http.specs.Targets as spec;

@@ -1,7 +1,7 @@
 //! Implements `mwinit`: makes a tenant's file with words that are 0, or with those of a dump, and syncs it.
 //!
-//! mwinit calls `init`, and so does mw_examples. docs/OPERATING tells its form, its notes and its statuses: change
-//! both together.
+//! mwinit calls `init`, and so does mw_examples. docs/OPERATING tells its form, its notes and its statuses;
+//! scripts/check-refusals, scripts/check-new-file and others expect the notes: change them together.
 ghost use Rattle.std.specs.Prelude.{◌≤◌, IfOk, IfSome};
 ghost use Rattle.mw_words.specs.declared.limits.TheConstants.{MAX_WORDS};
 ghost use Rattle.mw_record.specs.declared.layout.TheConstants.{FIRST_PLACES};

@@ -1,4 +1,5 @@
--- If the status that a read has loaded says that a change is made and finished, then it is so; every event keeps this.
+-- If the status that a read has loaded says that its change is made and finished, the history says so too (`EndsAreRead`). Every event
+-- keeps this. For the law `reads_turn_back_for_three_reasons`.
 use Rattle.std.specs.Prelude.{ℕ, ◌≡◌, ◌≢◌, ◌⊎◌, ◌-◌, ◌==◌, true, false, nat_lt, Option, Some, None}
 use Rattle.std.proofs.Common.{refl, sym, ap, subst, ◌∙◌, inl, inr}
 use Rattle.mw_words.specs.declared.gates.Gate.{Gate}

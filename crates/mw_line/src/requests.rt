@@ -1,8 +1,9 @@
 //! Reads a client's line as a request, or finds its first fault.
 //!
 //! Used by: many crates from mw_session on. mw_session reads lines by it, and mw_schedule the jobs of a schedule;
-//! clients write a [`Request`]. Change it with `specs/Limits` and `specs/LineReader`, which say which fault comes
-//! first. CONTRIBUTING lists under *A command* what a new request needs. docs/PROMISES cites `read_line`.
+//! clients write a [`Request`]. Change it with `specs/Grammar`, and with `specs/Limits` and `specs/LineReader`, which
+//! say which fault comes first. CONTRIBUTING lists under *A command* what a new request needs. docs/PROMISES cites
+//! `read_line`.
 ghost use Rattle.std.specs.Prelude.{◌≡◌, ◌↔◌, IfOk};
 ghost use Rattle.mw_line.specs.Grammar.{Command, Spells};
 ghost use Rattle.mw_line.specs.Limits.{first_fault, command_of, Answers, FitsLargestTenant};

@@ -1,6 +1,6 @@
 //! The box.
 //!
-//! Used by: mw_engine. Change it with `specs/Rule`.
+//! Used by: mw_engine. Change it with `specs/Rule`, `specs/Loans` and `specs/Plays`.
 ghost use Rattle.std.specs.Prelude.{◌≡◌, true, IfOk, IfErr};
 ghost use Rattle.std.specs.Fn.{FnOnceReturnsAtMut, FnOnceTakesAtMut};
 ghost use Rattle.mw_loan.specs.Rule.{IsOneBox, is_home, stage_of};

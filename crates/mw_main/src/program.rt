@@ -1,7 +1,7 @@
 //! Runs a program from its start to its exit status.
 //!
-//! Used by: mwbench, mwinit, mwserve, mwreplay, mwshow, whose `main` calls `run`. docs/OPERATING tells the texts and
-//! the statuses: change them together.
+//! Used by: mwbench, mwinit, mwserve, mwreplay, mwshow, whose `main` calls `run`. docs/OPERATING and docs/SCHEDULES
+//! tell the texts and the statuses, and scripts/closed-streams expects one: change them together.
 ghost use Rattle.std.specs.Prelude.{◌≡◌};
 ghost use Rattle.std.specs.Process.{exit_status};
 

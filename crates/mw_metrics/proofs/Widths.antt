@@ -1,5 +1,5 @@
 -- Numbers are printed in so many digits: nine below a second's nanoseconds, twenty in 64 bits.
--- Used by: samples.rt, families.rt.
+-- Used by: histogram_lines.rt, samples.rt, server_lines.rt.
 use Rattle.std.proofs.Common.{ℕ, ◌≤◌, ◌<◌, ◌^◌, length, decimal, arith}
 use Rattle.std.proofs.lemmas.Fmt.{length-decimal-le}
 

@@ -1,6 +1,6 @@
 -- Defines the text format of Prometheus, version 0.0.4, as far as figures need it: a family's header, a sample's line with
 -- its labels, and a number of seconds. Source: "Exposition formats" of the Prometheus documentation.
--- Used by: samples.rt. A change here changes what a scraper reads.
+-- Used by: histogram_lines.rt, samples.rt. A change here changes what a scraper reads.
 use Rattle.std.specs.Prelude.{ℕ, ◌-◌, ◌/◌, ◌%◌, ◌==◌, ◌++◌, List, [], ◌∷◌, length, replicate, flat_map, codes, decimal, if◌then◌else◌}
 
 -- a byte of a label's value: a backslash, a double quote and a line feed are written with a backslash before them

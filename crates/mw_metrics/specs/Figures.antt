@@ -1,5 +1,6 @@
 -- Defines the text of all figures: the families of metrics in their order, and the samples of each.
--- Used by: exposition.rt, mw_server_pages. A change here changes what a scraper reads, and docs/OPERATING with it.
+-- Used by: exposition.rt, figures.rt, histogram_lines.rt, server_lines.rt, tenant_lines.rt, mw_server_pages. Scrapers read
+-- it: change docs/HTTP, docs/OPERATING and contrib with it.
 use Rattle.std.specs.Prelude.{ℕ, Bool, true, false, ◌+◌, ◌-◌, ◌^◌, ◌++◌, List, [], ◌∷◌, min, sum, take, flat_map, codes, decimal, Option, Some, None, if◌then◌else◌}
 use Rattle.mw_report.specs.declared.figures.TenantFigures.{TenantFigures}
 use Rattle.mw_metrics.specs.declared.histogram.HistogramFigures.{HistogramFigures}

@@ -1,5 +1,6 @@
 -- Defines what metrics and their labels are called, and what each metric tells.
--- Used by: kinds.rt, families.rt. A change here changes what a scraper reads, and docs/OPERATING with it.
+-- Used by: families.rt, histogram_lines.rt, kinds.rt, samples.rt. Scrapers read them: change docs/HTTP,
+-- docs/OPERATING and contrib with it.
 use Rattle.std.specs.Prelude.{ℕ, List, codes}
 use Rattle.mw_metrics.specs.declared.kinds.RequestKind.{RequestKind}
 use Rattle.mw_metrics.specs.declared.kinds.RequestKind.TheVariants.{Get, Cas, Other}

@@ -1,6 +1,7 @@
 //! Writes the samples of a histogram: its buckets, the sum of its durations and their number.
 //!
-//! Used by: `tenant_lines`. Change it with `specs/Figures`.
+//! Used by: `tenant_lines`. Change it with `specs/Figures`, `specs/Exposition` and `specs/Names`. `MAX_HISTOGRAM` is
+//! the room for its lines.
 ghost use Rattle.std.specs.Prelude.{◌≡◌, ◌+◌, ◌*◌, ◌<◌, ◌≤◌, [], ◌∷◌, ◌++◌, length, codes, decimal};
 ghost use Rattle.mw_metrics.specs.Exposition.{label, sample, seconds};
 ghost use Rattle.mw_metrics.specs.Figures as spec;

@@ -1,6 +1,7 @@
 //! Writes one sample of a metric: its name, its labels and its value, in a line.
 //!
-//! Used by: what writes lines. Change it with `specs/Exposition`.
+//! Used by: what writes lines. Change it with `specs/Exposition` and `specs/Names`. A longer sample (`MAX_SAMPLE`)
+//! needs more room in `histogram_lines`, `server_lines`, `tenant_lines` and `text`.
 ghost use Rattle.std.specs.Prelude.{◌≡◌, ◌+◌, ◌*◌, ◌≤◌, [], ◌∷◌, ◌++◌, length, codes, ◌<◌, replicate, decimal};
 ghost use Rattle.mw_metrics.specs.Exposition.{escape, escaped, label, label_text};
 ghost use Rattle.mw_metrics.specs.Exposition as spec;

@@ -1,6 +1,7 @@
 //! Writes the header of a family of metrics, and the families of the whole server.
 //!
-//! Used by: `exposition`, `tenant_lines`. Change it with `specs/Figures`.
+//! Used by: `exposition`, `tenant_lines`. Change it with `specs/Figures`. A new family needs more room: `MAX_SERVER`
+//! here, and `MAX_METRICS` in `text`.
 ghost use Rattle.std.specs.Prelude.{◌≡◌, ◌+◌, ◌*◌, ◌≤◌, [], ◌∷◌, ◌++◌, length};
 ghost use Rattle.mw_metrics.specs.Figures as spec;
 

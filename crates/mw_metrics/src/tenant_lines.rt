@@ -1,6 +1,7 @@
 //! Writes the families of metrics that have a sample of each tenant.
 //!
-//! Used by: `exposition`. Change it with `specs/TenantLines`.
+//! Used by: `exposition`. Change it with `specs/TenantLines` and `specs/Figures`. A new family or sample needs more
+//! room: `MAX_TENANT_FAMILIES` here, and `MAX_METRICS` in `text`.
 ghost use Rattle.std.specs.Prelude.{◌≡◌, ◌+◌, ◌*◌, ◌≤◌, [], ◌∷◌, ◌++◌, length, codes, flat_map};
 ghost use Rattle.mw_words.specs.declared.limits.TheConstants.{MAX_TENANTS};
 ghost use Rattle.mw_metrics.specs.Figures as spec;

@@ -1,4 +1,7 @@
 //! A text under way, with room for all figures: memory is asked for once, before the first byte.
+//!
+//! `MAX_METRICS` is the sum of `MAX_SERVER` (`server_lines`) and `MAX_TENANT_FAMILIES` (`tenant_lines`): change them
+//! together.
 ghost use Rattle.std.specs.Prelude.{◌≡◌, ◌+◌, ◌≤◌, [], ◌++◌, length, IfOk};
 ghost use Rattle.std.specs.Vec.{vec_capacity};
 ghost use Rattle.mw_metrics.specs.declared.text.TheConstants.{MAX_METRICS};

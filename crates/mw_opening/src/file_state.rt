@@ -97,12 +97,17 @@ pub struct FileState {
     front: Front,
     was_replaced: AtomicBool,
     is_given_up: AtomicBool,
+    /// Whether it is given up once it is known that others have replaced, cut or overwritten it.
+    is_strict: bool,
+    /// Whether the system was asked since the last sync how long it is.
+    was_asked: AtomicBool,
     last: LastError,
 }
 
 impl FileState {
-    /// Makes the state of a file of which nothing is known.
-    pub fn new() -> Self {
+    /// Makes the state of a file of which nothing is known. If it is strict, the file is given up once it is known that others
+    /// have replaced, cut or overwritten it.
+    pub fn new(is_strict: bool) -> Self {
         FileState {
             device: AtomicU64::new(0),
             inode: AtomicU64::new(0),
@@ -110,6 +115,8 @@ impl FileState {
             front: Front::new(),
             was_replaced: AtomicBool::new(false),
             is_given_up: AtomicBool::new(false),
+            is_strict,
+            was_asked: AtomicBool::new(false),
             last: LastError::new(),
         }
     }
@@ -140,9 +147,13 @@ impl FileState {
         self.was_replaced.load(Ordering::SeqCst)
     }
 
-    /// Keeps that others have replaced, cut or overwritten the file. No copy of it is made any more.
+    /// Keeps that others have replaced, cut or overwritten the file. No copy of it is made any more. If the state is strict, the
+    /// file is given up.
     pub fn keep_replaced(&self) {
         self.was_replaced.store(true, Ordering::SeqCst);
+        if self.is_strict {
+            self.give_up();
+        }
     }
 
     /// Gives the file up, because others have replaced, cut or overwritten it: each later call on it fails.
@@ -166,12 +177,24 @@ impl FileState {
     ///
     /// The file is shorter than it must be, or it is known that others have replaced, cut or overwritten it.
     pub(crate) fn keep_seen(&self, seen: SeenFile) -> io::Result<()> {
+        self.was_asked.store(true, Ordering::SeqCst);
         self.device.store(seen.device, Ordering::SeqCst);
         self.inode.store(seen.inode, Ordering::SeqCst);
         if seen.size < self.size.fetch_max(seen.size, Ordering::SeqCst) {
             self.keep_replaced();
         }
         self.last.keep(none_if(self.was_replaced()))
+    }
+
+    /// Asks whether the system must be asked how long the file is before more is written to it: if the state is strict, before the
+    /// first write after each sync. Else a write past the end of a file that was cut would hide that.
+    pub(crate) fn must_be_asked(&self) -> bool {
+        self.is_strict && !self.was_asked.load(Ordering::SeqCst)
+    }
+
+    /// Keeps that the file was synced, or a sync failed.
+    pub(crate) fn keep_synced(&self) {
+        self.was_asked.store(false, Ordering::SeqCst);
     }
 
     /// Keeps that these bytes were read at this offset.
@@ -217,9 +240,9 @@ fn none_if(is_replaced: bool) -> io::Result<()>
 pub struct FileStates([FileState; MAX_TENANTS]);
 
 impl FileStates {
-    /// Makes the states of files of which nothing is known.
-    pub fn new() -> Self {
-        FileStates([(); MAX_TENANTS].map(|_| FileState::new()))
+    /// Makes the states of files of which nothing is known, all of them strict or none.
+    pub fn new(are_strict: bool) -> Self {
+        FileStates([(); MAX_TENANTS].map(|_| FileState::new(are_strict)))
     }
 
     /// Gives the state of the file of the tenant of this number.

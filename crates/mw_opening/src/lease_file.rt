@@ -1,7 +1,7 @@
 //! The file of a server's lease: opened under a lock, and beaten by writes that are synced.
 //!
-//! Used by: mw_programs. docs/OPERATING tells the notes and the file's text: change them together. It has no
-//! contracts.
+//! Used by: mw_programs. docs/OPERATING tells the notes and the file's text: change them together. mw_examples,
+//! scripts/check-refusals and check-locks expect notes. It has no contracts.
 use arrayvec::ArrayVec;
 use std::fmt::{self, Display, Formatter};
 use std::fs::{File, OpenOptions, TryLockError};

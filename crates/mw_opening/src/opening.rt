@@ -1,7 +1,8 @@
 //! Opens the tenants file and each tenant's own file, under a lock.
 //!
-//! Used by: `opened_parts`; mw_programs, which reads the tenants. Change it with docs/OPERATING.md, which has the
-//! notes. A new [`Cause`] needs a case in `Cause::tell`. docs/PROMISES cites `open_files`.
+//! Used by: `opened_parts`; mw_programs, which reads the tenants. Change it with docs/OPERATING, which has the notes;
+//! mw_examples and scripts/check-refusals expect some. A new [`Cause`] needs a case in `Cause::tell`. docs/PROMISES
+//! cites `open_files`.
 ghost use Rattle.std.specs.Prelude.{◌<◌, ◌≤◌, ◌≢◌, length, IfErr, IfOk, Some};
 ghost use Rattle.mw_config.specs.Limits.{ArePermitted};
 ghost use Rattle.mw_words.specs.declared.limits.TheConstants.{MAX_TENANTS};

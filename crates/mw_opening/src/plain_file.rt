@@ -1,6 +1,7 @@
 //! Opens a file only if it is a plain one: the tenants file and the script.
 //!
-//! Used by: `opening`; mw_programs. It has no contracts.
+//! Used by: `opening`; mw_programs. docs/OPERATING has the text; mw_examples and scripts/check-refusals expect it. It
+//! has no contracts.
 use std::fs::{self, File};
 use std::io;
 use std::rt::Files;

@@ -17,7 +17,7 @@ use std::time::Clock;
 ///
 /// If the file was given up, the call fails, and none is made below. A call that asks for the length fails too if the file is
 /// shorter than it must be, or others have replaced, cut or overwritten it. So does a read at the front that gives other bytes
-/// than the server last read or wrote there.
+/// than the server last read or wrote there. If the state is strict, the first write after a sync asks for the length before.
 ///
 /// If there are counters, reads, writes and syncs are timed and counted. Else no clock is read.
 #[derive(Drop)]
@@ -70,6 +70,15 @@ impl<'a, F, K: Clock> WatchedFile<'a, F, K> {
     }
 }
 
+impl<F: OpenFile, K: Clock> WatchedFile<'_, F, K> {
+    /// Asks the file below for what the system tells of it, and keeps that.
+    fn ask(&self) -> io::Result<Metadata> {
+        let told = self.state.last_error().keep(self.file.metadata())?;
+        self.state.keep_seen(SeenFile::of(&told))?;
+        Ok(told)
+    }
+}
+
 /// Tells whether a call failed, and was not only interrupted.
 fn has_failed<T>(outcome: &io::Result<T>) -> bool {
     match outcome {
@@ -78,7 +87,7 @@ fn has_failed<T>(outcome: &io::Result<T>) -> bool {
     }
 }
 
-impl<F: FileExt, K: Clock> FileExt for WatchedFile<'_, F, K> {
+impl<F: FileExt + OpenFile, K: Clock> FileExt for WatchedFile<'_, F, K> {
     fn read_at(&self, buf: &mut [u8], offset: u64) -> io::Result<usize> {
         self.state.may_be_called()?;
         let started = self.start();
@@ -90,6 +99,9 @@ impl<F: FileExt, K: Clock> FileExt for WatchedFile<'_, F, K> {
 
     fn write_at(&self, buf: &[u8], offset: u64) -> io::Result<usize> {
         self.state.may_be_called()?;
+        if self.state.must_be_asked() {
+            self.ask()?;
+        }
         let started = self.start();
         let written = self.file.write_at(buf, offset);
         let written = self.ended(DeviceCall::Write, started, written)?;
@@ -102,9 +114,7 @@ impl<F: FileExt, K: Clock> FileExt for WatchedFile<'_, F, K> {
 impl<F: OpenFile, K: Clock> OpenFile for WatchedFile<'_, F, K> {
     fn metadata(&self) -> io::Result<Metadata> {
         self.state.may_be_called()?;
-        let told = self.state.last_error().keep(self.file.metadata())?;
-        self.state.keep_seen(SeenFile::of(&told))?;
-        Ok(told)
+        self.ask()
     }
 
     fn set_len(&self, size: u64) -> io::Result<()> {
@@ -118,6 +128,7 @@ impl<F: OpenFile, K: Clock> OpenFile for WatchedFile<'_, F, K> {
         self.state.may_be_called()?;
         let started = self.start();
         let synced = self.file.sync_all();
+        self.state.keep_synced();
         self.ended(DeviceCall::Sync, started, synced)
     }
 
@@ -125,6 +136,7 @@ impl<F: OpenFile, K: Clock> OpenFile for WatchedFile<'_, F, K> {
         self.state.may_be_called()?;
         let started = self.start();
         let synced = self.file.sync_data();
+        self.state.keep_synced();
         self.ended(DeviceCall::Sync, started, synced)
     }
 }

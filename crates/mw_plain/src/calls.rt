@@ -1,6 +1,7 @@
 //! Starts and finishes a change of one tenant whose file has opened, and answers its reads.
 //!
-//! Used by: `serving.rt`, `tenants.rt`. Change it with `specs/CallEnds`.
+//! Used by: `serving.rt`, `tenants.rt`. Change it with `specs/CallEnds`, `specs/Books`, `specs/Cases` and
+//! `specs/Misses`.
 ghost use Rattle.std.specs.Prelude.{◌≡◌, ◌≤◌, false, Some, length, IsTrue};
 ghost use Rattle.mw_words.specs.Change.{is_change, is_well_formed, fits};
 ghost use Rattle.mw_plain.specs.Misses.{IsFirstMiss};

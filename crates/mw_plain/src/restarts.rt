@@ -1,6 +1,7 @@
 //! The law that a tenant's store alone may start again from what a crash left: the contract of an empty function.
 //!
-//! Nothing calls it. Change it with `specs/Restarts`. docs/PROMISES cites it.
+//! Nothing calls it. Change it with `specs/Restarts`, `specs/Answers`, `specs/Cases` and `specs/Parts`. docs/PROMISES
+//! cites it.
 ghost use Rattle.std.specs.Prelude.{◌≡◌, ℕ, Some, None, length, Result, Vec, IsTrue};
 ghost use Rattle.std.specs.declared.alloc.Global.{Global};
 ghost use Rattle.mw_disk.specs.Facts.{IsSynced, MayLeave};

@@ -1,6 +1,7 @@
 //! Serves one tenant of the plain store: its calls, and its figures for the report, also if its file didn't open.
 //!
-//! Used by: `tenants.rt`. Change it with `specs/CallEnds`.
+//! Used by: `tenants.rt`. Change it with `specs/CallEnds`, `specs/Books`, `specs/Cases`, `specs/Parts` and
+//! `specs/Report`.
 ghost use Rattle.std.specs.Prelude.{◌≡◌, not, IsTrue};
 ghost use Rattle.mw_words.specs.Change.{is_change, is_well_formed};
 ghost use Rattle.mw_plain.specs.Books.{used_in, faulted_in, places_in, IsPrepared};

@@ -1,8 +1,8 @@
 //! The calls on the plain store: start, finish, ask, run, and the report's figures, each for the tenant that it
 //! names, and the search for a tenant by its name.
 //!
-//! Used by: mw_store_tests, mw_engine_tests. Change it with `specs/Answers` and `specs/Tasks`. docs/PROMISES cites
-//! `ask`.
+//! Used by: mw_store_tests, mw_engine_tests. Change it with `specs/Answers`, `specs/Tasks`, `specs/Cases`,
+//! `specs/Parts`, `specs/Quotas`, `specs/Report`, `specs/Search` and `specs/Tickets`. docs/PROMISES cites `ask`.
 ghost use Rattle.std.specs.Prelude.{◌≡◌, ◌<◌, ◌≤◌, ◌-◌, map, IsTrue, IfOk, MatchOption, OnErr};
 ghost use Rattle.mw_report.specs.Table.{AreWithinLimits};
 ghost use Rattle.mw_words.specs.Change.{is_well_formed};

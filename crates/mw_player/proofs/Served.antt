@@ -61,7 +61,8 @@ keeps_same (Some xs) = refl
 
 -- no fault has the status 0
 pub no_good_fault : (one : ReplayFault) → status_of one ≢ 0
-no_good_fault fault.CannotRead is = omega (arith, is)
+no_good_fault (fault.CannotRead error) is = omega (arith, is)
+no_good_fault fault.NotPlain is = omega (arith, is)
 no_good_fault fault.Memory is = omega (arith, is)
 no_good_fault (fault.Wrong number reason) is = omega (arith, is)
 no_good_fault (fault.NotEnabled number reason) is = omega (arith, is)

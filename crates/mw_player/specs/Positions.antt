@@ -1,4 +1,4 @@
--- Defines where a worker of a world is. Used by: src/reasons.rt.
+-- Defines where a worker of a world is: absent, idle, at a step, or with a reply. Used by: src/reasons.rt.
 use Rattle.std.specs.Prelude.{ℕ, nat_lt, if◌then◌else◌, Option, Some, None}
 use Rattle.mw_words.specs.declared.replies.Reply.{Reply}
 use Rattle.mw_look.specs.Steps.{op_of}

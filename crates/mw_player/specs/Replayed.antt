@@ -16,13 +16,14 @@ use Rattle.mw_player.specs.declared.player.PlayFault.TheVariants as halt
 use Rattle.mw_player.specs.declared.player.Player.{Player}
 use Rattle.mw_player.specs.declared.reasons.Reason.{Reason}
 use Rattle.mw_player.specs.declared.program.ReplayFault.{ReplayFault}
-use Rattle.mw_player.specs.declared.program.ReplayFault.TheVariants.{CannotRead, Memory, Wrong, NotEnabled, LastNumber, DidNotArrive, Output}
+use Rattle.mw_player.specs.declared.program.ReplayFault.TheVariants.{CannotRead, NotPlain, Memory, Wrong, NotEnabled, LastNumber, DidNotArrive, Output}
 use Rattle.mw_player.specs.PlayerSteps.{ObeysAll}
 use Rattle.mw_player.specs.Printed.{replies_among, text_of, told_in}
 
 -- the exit status of a fault
 abbrev pub status_of : ReplayFault → ℕ
-status_of CannotRead = 1
+status_of (CannotRead error) = 1
+status_of NotPlain = 1
 status_of Memory = 1
 status_of (Wrong number reason) = 2
 status_of (NotEnabled number reason) = 3

@@ -1,7 +1,7 @@
 //! Plays the lines of a schedule on a simulated world.
 //!
-//! Used by: `replay`. A new command of mw_schedule needs a case in `Player::obey`, and a new [`PlayFault`]
-//! one in `replay`.
+//! Used by: `replay`. A new command of mw_schedule needs a case in `Player::obey`, and a new [`PlayFault`] one in
+//! `replay`. Change `MOST_STEPS` with the text in `reasons`, with docs/SCHEDULES, and with mw_player_tests.
 ghost use Rattle.std.specs.Prelude.{◌≡◌, ◌∷◌, [], IfOk, OnErr, Some, None};
 ghost use Rattle.mw_world.specs.Definition.State.{IsConfig, State};
 ghost use Rattle.mw_world.specs.declared.events.Event.{Event as EventModel};

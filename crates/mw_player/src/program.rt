@@ -1,6 +1,8 @@
 //! The program `mwreplay`: plays a schedule on a simulated world and prints the replies.
 //!
-//! `mwreplay` calls `replay_args`. The exit statuses are in `specs/Replayed` too: change both together.
+//! `mwreplay` calls `replay_args`. The exit statuses are in `specs/Replayed` too, statuses and texts in
+//! docs/SCHEDULES; mw_player_tests, scripts/check-refusals and scripts/program_parts/schedules.py expect the texts:
+//! change them together.
 ghost use Rattle.std.specs.Prelude.{◌≡◌, IfErr, IfOk};
 ghost use Rattle.std.specs.Io.KnownBytes.{Keeps};
 ghost use Rattle.mw_schedule.specs.Playable.{IsSchedule};
@@ -21,9 +23,12 @@ use thiserror::Error;
 /// Why a schedule was not played to its end.
 #[derive(Debug, Drop, Error)]
 enum ReplayFault {
-    /// The schedule can't be read.
-    #[error("mwreplay: cannot read")]
-    CannotRead,
+    /// The schedule doesn't exist, may not be read, or a call of the system on it failed, which is told on a second line.
+    #[error("mwreplay: cannot read\nmwreplay: {0}")]
+    CannotRead(io::Error),
+    /// It is a folder, a pipe, a device or a socket.
+    #[error("mwreplay: cannot read\nmwreplay: not a plain file")]
+    NotPlain,
     /// Memory is out.
     #[error("mwreplay: memory")]
     Memory,
@@ -63,7 +68,10 @@ impl ReplayFault {
         ensures { result ≡ status_of self.now }
     {
         match self {
-            ReplayFault::CannotRead | ReplayFault::Memory | ReplayFault::Output => 1,
+            ReplayFault::CannotRead(_)
+            | ReplayFault::NotPlain
+            | ReplayFault::Memory
+            | ReplayFault::Output => 1,
             ReplayFault::Wrong(_, _) => 2,
             ReplayFault::NotEnabled(_, _) => 3,
             ReplayFault::DidNotArrive(_, _) => 4,
@@ -82,7 +90,7 @@ impl From<FileFault> for ReplayFault {
     fn from(fault: FileFault) -> Self {
         match fault {
             FileFault::System(error) => ReplayFault::from(error),
-            FileFault::NotPlain => ReplayFault::CannotRead,
+            FileFault::NotPlain => ReplayFault::NotPlain,
         }
     }
 }
@@ -91,7 +99,7 @@ impl From<io::Error> for ReplayFault {
     fn from(fault: io::Error) -> Self {
         match fault.kind() {
             io::ErrorKind::OutOfMemory => ReplayFault::Memory,
-            _ => ReplayFault::CannotRead,
+            _ => ReplayFault::CannotRead(fault),
         }
     }
 }

@@ -95,18 +95,29 @@ pub fn play<R: Abort + AllocGlobal>(
     played.is(rt, what, wanted);
 }
 
-/// What is given if a schedule can't be read.
-const UNREADABLE: Wanted<'static> = (1, "", "mwreplay: cannot read\n");
+/// What is given for a schedule that is no plain file.
+const NOT_PLAIN: Wanted<'static> = (1, "", "mwreplay: cannot read\nmwreplay: not a plain file\n");
 
-/// A schedule that can't be read. A device may have no end: the second one is empty, and would be a wrong schedule
-/// if it was read.
-static UNREAD: [&str; 3] = ["no-such-schedule", "/dev/null", "."];
+/// Schedules that can't be read, and what is given for each. A device may have no end: the second one is empty, and would be a
+/// wrong schedule if it was read.
+static UNREAD: [(&str, Wanted<'static>); 3] = [
+    (
+        "no-such-schedule",
+        (
+            1,
+            "",
+            "mwreplay: cannot read\nmwreplay: No such file or directory (os error 2)\n",
+        ),
+    ),
+    ("/dev/null", NOT_PLAIN),
+    (".", NOT_PLAIN),
+];
 
 #[test]
 fn schedules_that_are_not_read(rt: HostRuntime) {
-    for path in &UNREAD {
+    for (path, wanted) in &UNREAD {
         let refused = Played::of_arg(&rt, path);
-        refused.is(&rt, path, UNREADABLE);
+        refused.is(&rt, path, *wanted);
     }
 }
 
@@ -300,7 +311,8 @@ fn a_reader_that_fails(rt: HostRuntime) {
         rest: SLOT_RECYCLED.as_bytes(),
     };
     let played = Played::of(&rt, &mut input, false);
-    played.is(&rt, "a reader that fails", UNREADABLE);
+    let wanted = (1, "", "mwreplay: cannot read\nmwreplay: timed out\n");
+    played.is(&rt, "a reader that fails", wanted);
 }
 
 #[test]

@@ -1,4 +1,5 @@
--- What is read as a number, an entry or a record depends only on the bytes that it covers. Used by: mw_file, mw_world_file.
+-- What is read as a number, an entry or a record depends only on the bytes that it covers.
+-- Used by: src/records.rt, mw_file, mw_world_file.
 use Rattle.std.proofs.Common.{◌≡◌, ℕ, zero, suc, ◌+◌, ◌*◌, ◌^◌, ◌-◌, ◌<◌, ◌≤◌, List, ◌++◌, length, get_or, Some, None, true, false, ◌==◌, if◌then◌else◌, slice_index, refl, sym, ap, ◌∙◌, arith, add-zero, zero-add, take, drop, inl, inr}
 use Rattle.std.proofs.lemmas.List.{get_or-take, get_or-drop, get_or-append-add, get_or_append_left, length-append, length-take-le, length-drop}
 use Rattle.std.proofs.lemmas.Bool.{eq-eqb, ne_eqb, cases_eq}

@@ -1,7 +1,7 @@
 //! Reads the bytes of a whole file: finds their first damage, or gives the file's sizes, words and records.
 //!
-//! Used by: many crates from mw_file_text on. Change it with `specs/Damages` and docs/FILES. docs/PROMISES cites
-//! `decode`.
+//! Used by: many crates from mw_file_text on. Change it with `specs/Damages`, `specs/Layout`, `specs/LayoutBytes` and
+//! docs/FILES. docs/PROMISES cites `decode`.
 ghost use Rattle.std.specs.Prelude.{◌≡◌, ◌<◌, ◌≤◌, ℕ, true, false, None, Some, length, drop, slice_get, MatchOption, MatchResult};
 ghost use Rattle.mw_words.specs.declared.limits.TheConstants.{MAX_WORDS, MAX_ENTRIES};
 ghost use Rattle.mw_record.specs.declared.layout.Layout.TheVariants.{Second};

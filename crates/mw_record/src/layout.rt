@@ -1,7 +1,8 @@
 //! Defines where each part of a file's layout is, and reads and writes its numbers.
 //!
 //! Used by: many crates from mw_file_text on. It is the format of files that are in use: CONTRIBUTING says under
-//! *Limits of the file* what may change. docs/FILES tells the numbers.
+//! *Limits of the file* what may change. docs/FILES tells the numbers, and scripts that read and write files have them
+//! (soak_parts/layout.py, files_parts/reader.py).
 ghost use Rattle.std.specs.Prelude.{◌≡◌, ◌+◌, ◌≤◌, ◌<◌, ◌^◌, length};
 ghost use Rattle.mw_record.specs.Layout as spec;
 ghost use Rattle.mw_record.specs.declared.layout.Layout.TheVariants.{First, Second};

@@ -1,4 +1,5 @@
 -- A request goes on to BUSY, FAULT or WORN only with evidence for that reply (`specs/Evidence`): one case for each point.
+-- Used by: EvidenceSteps.
 use Rattle.std.specs.Prelude.{ℕ, ◌+◌, ◌≡◌, ◌≤◌, ◌==◌, ◌&&◌, ◌||◌, not, Bool, true, false, cond, nat_lt, nat_le, length, List, Option, Some, None}
 use Rattle.std.proofs.Common.{refl, inl, inr, arith}
 use Rattle.std.proofs.lemmas.Bool.Decides.{nat_tests}

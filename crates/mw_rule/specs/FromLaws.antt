@@ -1,5 +1,5 @@
 -- Definitions of mw_law_runs and mw_law_store that mw_rule needs too, passed on so that it names this crate alone.
--- Used by: mw_table, mw_service, mw_law_threads. Add and take out names as these crates need them.
+-- Used by: src/views.rt, mw_table, mw_service, mw_law_threads. Add and take out names as these crates need them.
 pub use Rattle.mw_law_runs.specs.RunInvariant.{IsSound}
 pub use Rattle.mw_law_store.specs.Simulation.{start_of}
 pub use Rattle.mw_law_store.specs.History.{AreNoStarts, IsBeginning, SealsHaveGoneOn, put_sealed}

@@ -1,6 +1,7 @@
 //! Reads the first lines of a schedule: the configuration of its world.
 //!
-//! Used by: `reader`. Change it with `specs/Playable`.
+//! Used by: `reader`. `specs/Playable` has the limits. Another form of a line also changes `forms`, `first_words`,
+//! `specs/Forms` and docs/SCHEDULES.
 ghost use Rattle.std.specs.Prelude.{◌≡◌, ◌≤◌, IsTrue, bytes_eq, IfOk, IfSome};
 ghost use Rattle.std.specs.List.{list_any};
 ghost use Rattle.mw_words.specs.Name as name_spec;

@@ -1,6 +1,7 @@
-//! Reads the lines of a schedule that describe old files (made, but not opened by a start yet).
+//! Reads the lines `old NAME A:V ..` of a schedule: tenants' old files, which no start has opened yet.
 //!
-//! Used by: `config`. Change it with `specs/Playable`.
+//! Used by: `config`. `specs/Playable` has the limits. Another form of the line also changes `forms`, `first_words`,
+//! `specs/Forms` and docs/SCHEDULES.
 ghost use Rattle.std.specs.Prelude.{◌≡◌, ◌<◌, ◌≤◌, get_or, length, IfSome, IsTrue, Some};
 ghost use Rattle.mw_words.specs.declared.limits.TheConstants.{MAX_VALUE, MAX_WORDS};
 ghost use Rattle.mw_world.specs.Definition.State.{is_old, may_be_old, no_tenant};

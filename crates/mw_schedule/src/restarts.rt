@@ -1,6 +1,7 @@
 //! Reads how a schedule says that each tenant's file is stopped and opened again.
 //!
-//! Used by: `commands`. Change it with `specs/Playable`.
+//! Used by: `commands`. `specs/Playable` has the limits. Another form of an item also changes `forms` and
+//! docs/SCHEDULES.
 ghost use Rattle.std.specs.Prelude.{◌≡◌, ◌==◌, ◌<◌, length, IfOk, IfSome};
 ghost use Rattle.std.specs.List.{list_any};
 ghost use Rattle.mw_world.specs.Definition.State.{tenants_of};

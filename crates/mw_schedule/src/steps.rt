@@ -1,6 +1,7 @@
 //! The kinds of step that a schedule can name, and which kind a step is.
 //!
-//! Used by: `commands`, mw_player. A new kind needs a case here, in `specs/Steps`, and in docs/SCHEDULES.md.
+//! Used by: `commands`, mw_player. A new kind needs a case here, in `specs/Steps`, and in docs/SCHEDULES. docs/STEPS,
+//! mw_player_tests and mw_world_trials have the names too.
 ghost use Rattle.std.specs.Prelude.{◌≡◌};
 ghost use Rattle.mw_schedule.specs.Steps as spec;
 

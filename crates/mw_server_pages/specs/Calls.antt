@@ -1,5 +1,6 @@
 -- Defines what an exchange may ask of the pages, with the answer.
--- Used by: pages.rt, mw_programs. A new call of the trait Pages needs a case here.
+-- Used by: exchanges.rt, pages.rt, promise.rt, server_pages.rt, mw_programs. A new call of the trait Pages needs a case
+-- here.
 use Rattle.std.specs.Prelude.{ℕ, List}
 use Rattle.mw_session.specs.Transitions.{GoesThrough}
 use Rattle.mw_http.specs.Targets.{Place}

@@ -1,5 +1,6 @@
 -- Defines what a server shows at each place, by the figures that its service gives then, or by a copy of a tenant's file.
--- Used by: server_pages.rt, mw_programs. A change here changes what operators see: docs/HTTP changes with it.
+-- Used by: bodies.rt, file_pages.rt, server_pages.rt, mw_programs. A change here changes what operators see: docs/HTTP
+-- changes with it.
 use Rattle.std.specs.Prelude.{◌≡◌, ℕ, ◌⊎◌, true, List, [], map, Vec, Option, None, Result, Ok, Err, if◌then◌else◌}
 use Rattle.std.specs.declared.alloc.Global.{Global}
 use Rattle.std.specs.declared.alloc.AllocError.{AllocError}

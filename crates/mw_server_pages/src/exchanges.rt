@@ -1,6 +1,7 @@
 //! One exchange with a client: its request, and the answer.
 //!
-//! `server.rt` calls it for each client. `specs/Exchanges` says what it promises: change both together.
+//! `server.rt` calls it for each client. `specs/Exchanges` says what it promises, `specs/Calls` what it may ask of the
+//! pages: change them together.
 ghost use Rattle.std.specs.Prelude.{◌≡◌, map, string_bytes};
 ghost use Rattle.mw_session.specs.KnownStreams.{reads_of, writes_of};
 ghost use Rattle.mw_http.specs.Targets.{place_of};

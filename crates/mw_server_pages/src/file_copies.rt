@@ -1,6 +1,7 @@
 //! The trait of copies: a tenant's file, byte for byte, while the server uses it.
 //!
-//! mw_programs implements it by mw_engine, and tests do. `specs/Shown` says which answer each fault gives: change both together.
+//! mw_programs implements it by mw_engine, and tests do. `specs/Copies` says how a copy is answered, `specs/Shown`
+//! which answer each fault gives: change them together.
 ghost use Rattle.std.specs.Prelude.{ℕ, List};
 ghost use Rattle.mw_server_pages.specs.Copies.{Copy};
 

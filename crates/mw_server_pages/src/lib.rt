@@ -2,8 +2,8 @@
 //! HTTP clients that ask for them, one at a time, each with one request.
 //!
 //! [`ServerPages`] has all that is shown, by the service of a session and the server's counters, and a program
-//! implements [`FileCopies`] for it. `specs/Shown` says what is shown. The page is one file of HTML and SVG, without
-//! a script; it and the text that says whether all tenants are up are pure functions of the tenants' figures
+//! implements [`FileCopies`] for it. `specs/Shown` says what is shown. The page is one file of HTML and SVG, beside
+//! a script (`look.rt`); it and the text that says whether all tenants are up are pure functions of the tenants' figures
 //! (`specs/StatusPage`, `specs/Health`). mw_metrics writes the text of the figures.
 //!
 //! [`exchange`] receives a request from a client's stream, asks [`Pages`] for what it asks for, and writes the

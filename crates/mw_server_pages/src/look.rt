@@ -2,7 +2,8 @@
 //! Content-Security-Policy forbids.
 //!
 //! `server_pages.rt` shows them. The script asks for the page and the figures every five seconds; scripts/check-http
-//! tests it.
+//! tests it. They name classes and ids of the page (`status.rt`, `tenant_rows.rt`, `limits.rt`, `recents.rt`) and
+//! families of mw_metrics: change them together.
 
 /// How the status page looks, in CSS.
 pub const STYLE: &str = r#"body { font-family: sans-serif; margin: 1em; max-width: 75em }

@@ -1,6 +1,7 @@
-//! What the pages of a server keep to, as a type, and listeners whose clients are shown no others.
+//! Types that name what a server's pages promise their clients: `PagesPromise`, and the listeners that carry one.
 //!
-//! Used by: `server.rt`; mw_programs has the promise of a server. Change it with docs/PROMISES.
+//! Used by: `server.rt`; mw_programs, which passes it on to mwserve. `specs/PagesPromises` says when pages keep it: change both, and
+//! docs/PROMISES.
 ghost use Rattle.std.specs.Prelude.{List};
 ghost use Rattle.mw_server_pages.specs.Calls.{Call};
 

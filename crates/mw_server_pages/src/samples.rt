@@ -1,6 +1,7 @@
 //! Samples of what is counted, and the curves of the status page that they give.
 //!
 //! `server_pages` takes a sample when it is asked for figures. No contract says what the curves show: it is tested.
+//! docs/HTTP and the text of `recents` tell how many samples are kept, and for how long.
 
 use crate::near::Uses;
 use crate::recents::{CURVE_HEIGHT, CURVE_WIDTH, Curve, MAX_POINTS, Point, Recent};

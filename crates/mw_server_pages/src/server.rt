@@ -1,7 +1,7 @@
 //! Serves the clients that a listener gives, one after the other.
 //!
-//! mw_programs runs it on a thread of its own. `specs/Clients` says what it promises: change both together. [`PAUSE`] may
-//! have another number.
+//! mw_programs runs it on a thread of its own. `specs/Clients` and `specs/PagesPromises` say what it promises: change
+//! them together. [`PAUSE`] may have another number.
 ghost use Rattle.std.specs.Prelude.{map, string_bytes};
 ghost use Rattle.mw_server_pages.specs.Clients.{AreServed, IsServed, IsTurn};
 ghost use Rattle.mw_server_pages.specs.PagesPromises.{PagesKeep};

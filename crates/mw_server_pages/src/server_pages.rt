@@ -1,6 +1,7 @@
 //! Implements the pages of a server.
 //!
-//! mw_programs makes them. `specs/Shown` says what is shown: change both together, and docs/HTTP.
+//! mw_programs makes them. `specs/Shown` says what is shown, `specs/Calls` which calls are answered: change them
+//! together, with docs/HTTP.
 ghost use Rattle.std.specs.Prelude.{◌≡◌, ◌≤◌, length, IfOk};
 ghost use Rattle.mw_server_pages.specs.declared.limits.TheConstants.{MAX_LIMITS};
 ghost use Rattle.mw_words.specs.declared.limits.TheConstants.{MAX_TENANTS};

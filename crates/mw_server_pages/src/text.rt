@@ -1,4 +1,7 @@
 //! A page under way, with room for all of it: memory is asked for once, before the first byte.
+//!
+//! All that writes a part of a page is proved to have room: a longer part, or more of them, may need a greater
+//! `MAX_PAGE`.
 ghost use Rattle.std.specs.Prelude.{◌≡◌, ◌+◌, ◌*◌, ◌≤◌, [], ◌++◌, length, decimal, IfOk};
 ghost use Rattle.std.specs.Vec.{vec_capacity};
 ghost use Rattle.mw_server_pages.specs.declared.text.TheConstants.{MAX_PAGE};

@@ -1,7 +1,7 @@
 -- Defines what is answered to a session that borrows a pass (a handle to the engine) for each request, by its notes: what it
 -- had seen before, and what it has seen then.
--- Used by: idle_pass.rt, locked_passes.rt, pass_pool.rt, read_pool.rt, borrower.rt, mw_law_threads. A change here changes
--- what such a client is promised.
+-- Used by: idle_pass.rt, locked_passes.rt, pass_pool.rt, read_pool.rt, borrower.rt, laws.rt, mw_law_threads. A change here
+-- changes what such a client is promised.
 use Rattle.std.specs.Prelude.{◌≡◌, ℕ, true, length, map, Option, Some, None, MatchOption}
 use Rattle.mw_words.specs.declared.jobs.Job.{Job}
 use Rattle.mw_words.specs.declared.replies.Reply.{Reply}

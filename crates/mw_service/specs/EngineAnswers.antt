@@ -1,6 +1,6 @@
 -- Defines that an engine answered the calls of a session: with one pass (a handle to the engine), or with one that was borrowed for each
 -- request.
--- Used by: mw_programs. A change here changes what a server's clients are promised.
+-- Used by: mw_law_threads, mw_programs. A change here changes what a server's clients are promised.
 use Rattle.std.specs.Prelude.{List}
 use Rattle.mw_session.specs.Talk.{Call}
 use Rattle.mw_session.specs.Transitions.{GoesThrough}

@@ -1,7 +1,8 @@
 -- Defines that each reply to a session that borrows its passes (handles to the engine) comes with the token of its own
 -- request. No two borrowers have one token (specs/RequestTokens), so no two are told the reply to one request.
--- Used by: src/idle_pass.rt, src/locked_passes.rt, src/pass_pool.rt, src/read_pool.rt, src/borrower.rt, src/laws.rt,
--- mw_law_threads. A change here changes what a client is promised that shares the workers with others.
+-- Used by: src/idle_pass.rt, src/locked_passes.rt, src/pass_pool.rt, src/read_pool.rt, src/borrower.rt,
+-- src/request_tokens.rt, src/laws.rt, mw_law_threads. A change here changes what a client is promised that shares the
+-- workers with others.
 use Rattle.std.specs.Prelude.{ℕ, ◌+◌, ◌≡◌, List, [], ◌∷◌, ◌++◌, Option}
 use Rattle.mw_words.specs.declared.jobs.Job.{Job}
 use Rattle.mw_words.specs.declared.replies.Reply.{Reply}

@@ -1,5 +1,5 @@
 -- Defines that what a pass (a handle to the engine) knows of the run of the shared words goes back to the engine's start.
--- Used by: src/idle_pass.rt, mw_law_threads. A change here changes what a client is promised that borrows passes.
+-- Used by: src/idle_pass.rt. A change here changes what a client is promised that borrows passes.
 use Rattle.std.specs.Prelude.{◌≡◌, true, is_some, [], Option, Some}
 use Rattle.mw_world.specs.Definition.State.{tenants_of}
 use Rattle.mw_rule.specs.KnownRuns.{KnownRun, given_to}

@@ -1,6 +1,7 @@
 //! A pass between two requests, which may be borrowed for the next one.
 //!
-//! `locked_passes` keeps it in a lock. Change it with `specs/Borrowed` and `specs/OwnReplies`.
+//! `locked_passes` keeps it in a lock. Change it with `specs/Borrowed`, `specs/OwnReplies`, `specs/RequestTokens` and
+//! `specs/SinceStart`.
 ghost use Rattle.std.specs.Prelude.{◌≡◌, true, Some};
 ghost use Rattle.mw_engine.specs.FromBelow.{IsSamePass};
 ghost use Rattle.mw_engine.specs.Identity.{IsFor};

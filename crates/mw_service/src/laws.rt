@@ -1,6 +1,6 @@
 //! The law that the replies of a session which borrows its passes come in order: the contract of an empty function.
 //!
-//! Nothing calls it. Change it with `specs/SessionOrder`.
+//! Nothing calls it. Change it with `specs/SessionOrder`, `specs/Borrowed` and `specs/OwnReplies`.
 ghost use Rattle.std.specs.Prelude.{List, Option};
 ghost use Rattle.mw_session.specs.Talk.{Call};
 ghost use Rattle.mw_session.specs.Transitions.{GoesThrough};

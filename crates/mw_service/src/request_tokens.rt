@@ -4,7 +4,8 @@
 //! for each request that the pass serves, and a session collects those of its replies. `specs/RequestTokens` says that no two
 //! threads have one token, and `specs/OwnReplies` which one goes with a reply: change them together.
 //!
-//! Used by: `idle_pass`, `locked_passes`, `pass_pool`, `read_pool`, `borrower`; mw_programs makes the table.
+//! Used by: `idle_pass`, `locked_passes`, `pass_pool`, `read_pool`, `borrower`; mw_programs makes the table. `WORKERS`
+//! is 256 because a worker's number is a `u8`.
 ghost use Rattle.std.specs.Prelude.{ℕ, ◌≡◌, ◌+◌, ◌++◌, [], ◌∷◌, IfSome};
 ghost use Rattle.mw_service.specs.declared.request_tokens.TheConstants.{WORKERS};
 ghost use Rattle.atomic_table.specs.Seated.{TableId};

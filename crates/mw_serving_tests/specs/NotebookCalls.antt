@@ -1,5 +1,5 @@
--- Defines what a test's service (`Notebook`) writes down: each job that it is asked for. Only the contract in
--- src/notebook.rt uses it: change both together.
+-- Defines what a test's service (`Notebook`) writes down: each job that it is asked for.
+-- Used by: src/notebook.rt. Change both together.
 use Rattle.std.specs.Prelude.{◌≡◌, Bool, List, [], ◌∷◌, ◌++◌, Some, IsTrue}
 use Rattle.mw_session.specs.Talk.{Call, Finds, Asks, Counts}
 

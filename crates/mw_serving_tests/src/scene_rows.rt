@@ -1,6 +1,6 @@
 //! Scenes of clients over sockets: what they do, and what the server must tell them.
 //!
-//! Used by: `socket_tests`. It may change with what it tests.
+//! Used by: `socket_tests`. It may change with what it tests, `LINE` with `SLOW` of `scenes`.
 use crate::doors::NO_LIMITS;
 use crate::scenes::{Act, Event, Step};
 use crate::serving::Shop;

@@ -1,6 +1,7 @@
-//! Scenes: what clients over sockets do and are told, a step at a time. A scene is data, and [`play`] plays it.
+//! Plays scenes: what clients over sockets do and are told, step by step. A scene is data, and [`play`] plays it.
 //!
-//! Used by: `serving`, `scene_rows`, `desk_tests`.
+//! Used by: `serving`, `scene_rows`, `desk_tests`. Change `SLOW` with `LINE` of `scene_rows`, and `LONG` with `PAUSE`
+//! of mw_test_peers (`callers.rt`). A scene with `ManyChange` needs a tenant `t` of 32 words.
 use crate::doors::Tally;
 use mw_test_peers::{Caller, Habit, Place, come_and_go};
 use std::alloc::Global;

@@ -5,7 +5,7 @@ use Rattle.mw_show.specs.declared.input.ShowFault.TheVariants.{CannotRead, NotPl
 
 -- the exit status for each reason why a file was not shown
 abbrev pub status_of : ShowFault → ℕ
-status_of CannotRead = 1
+status_of (CannotRead error) = 1
 status_of NotPlain = 1
 status_of InUse = 1
 status_of Memory = 1

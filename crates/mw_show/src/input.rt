@@ -1,6 +1,7 @@
 //! Reads the file that `mwshow` must show, or tells why it is not shown.
 //!
-//! Used by: `lines`, `program`. The exit statuses are in `specs/Statuses` too: change both together.
+//! Used by: `lines`, `program`. The exit statuses are in `specs/Statuses` too, and the texts in docs/OPERATING;
+//! mw_store_tests, scripts/check-refusals and check-locks expect them: change them together.
 ghost use Rattle.std.specs.Prelude.{◌≡◌, ◌≤◌};
 ghost use Rattle.mw_show.specs.Statuses.{status_of};
 
@@ -15,9 +16,9 @@ use thiserror::Error;
 /// Tells why a file was not shown.
 #[derive(Debug, Drop, Error)]
 pub enum ShowFault {
-    /// The file doesn't exist, may not be read, or a call of the system on it failed.
-    #[error("mwshow: cannot read")]
-    CannotRead,
+    /// The file doesn't exist, may not be read, or a call of the system on it failed, which is told on a second line.
+    #[error("mwshow: cannot read\nmwshow: {0}")]
+    CannotRead(io::Error),
     /// It is a folder, a pipe, a device or a socket.
     #[error("mwshow: not a plain file")]
     NotPlain,
@@ -39,7 +40,7 @@ impl ShowFault {
         ensures not_shown { 1 ≤ result }
     {
         match self {
-            ShowFault::CannotRead
+            ShowFault::CannotRead(_)
             | ShowFault::NotPlain
             | ShowFault::InUse
             | ShowFault::Memory
@@ -74,7 +75,7 @@ pub fn read_file<R: Files<File = File> + AllocGlobal>(
     match open_plain(rt, path) {
         Ok(file) => read_locked(rt.alloc(), file),
         Err(FileFault::NotPlain) => Err(ShowFault::NotPlain),
-        Err(FileFault::System(_)) => Err(ShowFault::CannotRead),
+        Err(FileFault::System(error)) => Err(ShowFault::CannotRead(error)),
     }
 }
 
@@ -83,7 +84,7 @@ fn read_locked(alloc: Global, file: File) -> Result<Vec<u8>, ShowFault> {
     match file.try_lock_shared() {
         Ok(()) => read_front(alloc, file),
         Err(TryLockError::WouldBlock) => Err(ShowFault::InUse),
-        Err(TryLockError::Error(_)) => Err(ShowFault::CannotRead),
+        Err(TryLockError::Error(error)) => Err(ShowFault::CannotRead(error)),
     }
 }
 
@@ -93,6 +94,6 @@ fn read_front(alloc: Global, file: File) -> Result<Vec<u8>, ShowFault> {
     match file.take(MAX_FILE as u64).read_to_end(&mut bytes) {
         Ok(_) => Ok(bytes),
         Err(fault) if fault.kind() == io::ErrorKind::OutOfMemory => Err(ShowFault::Memory),
-        Err(_) => Err(ShowFault::CannotRead),
+        Err(fault) => Err(ShowFault::CannotRead(fault)),
     }
 }

@@ -273,5 +273,6 @@ fn a_missing_file_is_told(rt: HostRuntime) {
         out: text_of(&rt, out),
         err: text_of(&rt, err),
     };
-    missing.is(&rt, "a missing file", 1, "", "mwshow: cannot read\n");
+    let told = "mwshow: cannot read\nmwshow: No such file or directory (os error 2)\n";
+    missing.is(&rt, "a missing file", 1, "", told);
 }

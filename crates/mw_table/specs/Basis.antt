@@ -1,5 +1,6 @@
 -- Defines what a table (array of shared atomic words) begins with, whether it is made at a start or after a run.
--- Used by: mw_core, mw_table_tests.
+-- Used by: mw_core (which passes it on to mw_engine), mw_table_tests; Runs and TableAtStart, NewPasses and NewFilePasses,
+-- Origins, through which it is in the contracts of this crate.
 use Rattle.std.specs.Prelude.{ℕ, List}
 use Rattle.mw_world.specs.declared.config.Config.{Config}
 use Rattle.mw_world.specs.Definition.State.{TenantStart, WorkerState}

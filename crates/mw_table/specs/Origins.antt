@@ -1,5 +1,6 @@
 -- Defines what a table is made of: a start or a run, what it begins with, and which runs may have been before.
--- Used by: src/after_run.rt, src/at_start.rt, src/file_calls.rt, among others, mw_core, mw_table_tests.
+-- Used by: src/after_run.rt, src/at_start.rt, src/file_calls.rt, src/first_steps.rt, src/new_table.rt, src/origin.rt,
+-- src/shared.rt, mw_core, mw_table_tests.
 use Rattle.std.specs.Prelude.{ℕ, List, map, Some}
 use Rattle.mw_world.specs.declared.config.Config.{Config}
 use Rattle.mw_world.specs.Definition.Events.{WorldEvent}

@@ -1,5 +1,6 @@
 -- Defines to which table a pass belongs, and what of it stays over a call: its worker, or all except that it becomes idle.
--- Used by: src/call_steps.rt, src/calls.rt, src/file_calls.rt, among others, mw_core.
+-- Used by: src/call_steps.rt, src/calls.rt, src/file_calls.rt, src/first_steps.rt, src/meet.rt, src/notes.rt,
+-- src/passes.rt, src/steps.rt, src/turns.rt, mw_core.
 use Rattle.std.specs.Prelude.{◌≡◌, Bool, true, false}
 use Rattle.mw_look.specs.declared.steps.Kind.TheVariants.{Plant as PlantKind}
 use Rattle.mw_look.specs.declared.steps.Op.{Op}

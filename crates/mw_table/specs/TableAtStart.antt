@@ -1,5 +1,5 @@
 -- Defines what a table begins with that is made at a start: what the opening of each tenant's file gave.
--- Used by: src/at_start.rt, src/new_table.rt, mw_core.
+-- Used by: src/at_start.rt, src/new_table.rt, mw_core, mw_law_threads.
 use Rattle.std.specs.Prelude.{ℕ, zero, suc, ◌+◌, ◌≡◌, Bool, true, not, is_some, List, [], ◌∷◌, Option, Some, None, Vec}
 use Rattle.std.specs.declared.alloc.Global.{Global}
 use Rattle.mw_words.specs.Change.{word_at}

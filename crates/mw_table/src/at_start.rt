@@ -1,7 +1,7 @@
 //! Makes a table (array of shared words) at a start, from what each tenant's file gave: `Shared::new`.
 //!
-//! Used by: mw_engine, mw_table_tests. Change it with `specs/NewPasses`, `specs/TableAtStart` and
-//! `specs/NewFilePasses`.
+//! Used by: mw_engine, mw_table_tests. Change it with `specs/NewPasses`, `specs/TableAtStart`, `specs/NewFilePasses`,
+//! `specs/Origins` and `specs/Places`.
 ghost use Rattle.std.specs.Prelude.{◌≡◌, ◌<◌, All, IfOk, length, slice_get};
 ghost use Rattle.mw_look.specs.Places.{pack};
 ghost use Rattle.mw_world.specs.Definition.Cells.{read};

@@ -2,7 +2,7 @@
 //! with which the call ends. Between the two the caller makes its device calls, of which a table knows nothing: the
 //! caller says by which step the call ends.
 //!
-//! Used by: mw_core (`file_calls.rt`). Change it with `specs/FileCalls`.
+//! Used by: mw_core (`file_calls.rt`). Change it with `specs/FileCalls`, `specs/Meet` and `specs/Passes`.
 ghost use Rattle.std.specs.Prelude.{◌≡◌};
 ghost use Rattle.mw_table.specs.FileCalls.{EndsInFault, EndsWell, FindsStatus, AddsCallEvent, AddsFaultEvent, AddsLoadEvent, MayExchange, MayFault, MayFind};
 ghost use Rattle.mw_table.specs.Meet.{IsSamePass};

@@ -1,7 +1,7 @@
 //! Lets a pass take a tenant's file for a call and give it back.
 //!
 //! Used by: mw_core, in each call on a file; mw_engine, at its end. Change it with `specs/FileCalls`,
-//! `specs/HeldFiles` and `specs/SeenFiles`.
+//! `specs/HeldFiles`, `specs/SeenFiles`, `specs/Meet`, `specs/Origins` and `specs/Passes`.
 ghost use Rattle.std.specs.Prelude.{◌≡◌, []};
 ghost use Rattle.mw_rule.specs.Splits.{without_file, takes_files, with_file_given};
 ghost use Rattle.mw_rule.specs.Steps.{LearnsPlainLoad};

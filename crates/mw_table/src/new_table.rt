@@ -1,7 +1,7 @@
 //! Makes the atomic words of a new table, and the passes that go with it.
 //!
-//! Used by: `at_start`, `after_run`. Change it with `specs/NewPasses`, `specs/TableAtStart` and
-//! `specs/NewFilePasses`.
+//! Used by: `at_start`, `after_run`. Change it with `specs/NewPasses`, `specs/TableAtStart`, `specs/NewFilePasses` and
+//! `specs/Origins`.
 ghost use Rattle.std.specs.Prelude.{◌≡◌, ◌<◌, All, [], IfOk, length, ℕ};
 ghost use Rattle.mw_actor.specs.ActorState.{ActorState};
 ghost use Rattle.atomic_table.specs.Table.{opening};

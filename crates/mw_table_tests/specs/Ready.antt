@@ -1,4 +1,4 @@
--- When a pass may read a tenant's first word. Used by: src/opening.rt, src/runs.rt.
+-- Defines when a pass may read a tenant's first word. Used by: src/main.rt, src/opening.rt, src/runs.rt.
 use Rattle.std.specs.Prelude.{ℕ, ◌≡◌, ◌<◌, true}
 use Rattle.mw_world.specs.Definition.State.{tenant_at, tenants_of}
 use Rattle.mw_core.specs.FromTable.{IsOf, Pass, Shared, config_of, opening_at, openings_of}

@@ -1,5 +1,5 @@
 -- Defines what a table (array of shared atomic words) begins with that is made of a simulated world.
--- Used by: src/world_table/copies.rt, src/world_table/from_world.rt.
+-- Used by: src/race_tests.rt, src/world_table/copies.rt, src/world_table/from_world.rt.
 use Rattle.std.specs.Prelude.{List, map, Option}
 use Rattle.mw_actor.specs.ActorState.{ActorState}
 use Rattle.mw_world.specs.Definition.Events.{WorldEvent}

@@ -1,4 +1,4 @@
--- The tests' figures of one tenant or of two keep the limits of a report.
+-- The tests' figures of one tenant or of two keep the limits of a report. Used by: src/report_tests.rt.
 use Rattle.std.proofs.Common.{ℕ, ◌≤◌, [], ◌∷◌, lit≤}
 use Rattle.std.proofs.lemmas.List.Elements.{All-nil, All-cons}
 use Rattle.mw_report.specs.declared.figures.TenantFigures.{TenantFigures}

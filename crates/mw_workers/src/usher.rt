@@ -1,9 +1,9 @@
 //! Hands connections over to workers in the order in which they came, and closes those that have waited for too long.
 //!
-//! `server.rt` runs an [`Usher`] on a thread, if connections may wait for so many seconds only. The acceptor puts
-//! them into the [`ArrivalQueue`], and the workers take them from the [`WorkerQueue`]. [`WAITING`] may have another
-//! number of 1 or more; docs/OPERATING tells it, and mw_programs counts descriptors by it. Nothing is proved of the
-//! channels.
+//! `server.rt` runs an [`Usher`] on a thread, if connections may wait for so many seconds only. The acceptor puts them
+//! into the [`ArrivalQueue`], and the workers take them from the [`WorkerQueue`]. [`WAITING`] may have another number
+//! of 1 or more; docs/OPERATING and docs/PROTOCOL tell it, and mw_programs counts descriptors by it. Nothing is proved
+//! of the channels.
 ghost use Rattle.std.specs.Prelude.{◌≡◌};
 ghost use Rattle.std.specs.Duration.{as_nanos};
 ghost use Rattle.std.specs.Iterator.{at_most};

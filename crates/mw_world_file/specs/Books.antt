@@ -1,5 +1,6 @@
 -- Defines which file a book (here a SimulatedFile, the world's file in memory) represents.
--- Used by: nearly all contracts of this crate, mw_simulator, mw_table_tests. A new field of SimulatedFile needs a part in
+-- Used by: src/calls.rt, src/laws.rt, src/new_books.rt, src/opened.rt, src/opening.rt, src/restarts.rt,
+-- src/start_values.rt, src/unopened.rt, mw_simulator, mw_table_tests. A new field of SimulatedFile needs a part in
 -- HasParts; if the world knows of it, also in PartsRepresent.
 use Rattle.std.specs.Prelude.{◌≡◌, ◌<◌, ℕ, Bool, List, length, slice_index}
 use Rattle.mw_words.specs.declared.limits.TheConstants.{MAX_POOL}

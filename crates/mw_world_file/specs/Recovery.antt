@@ -1,5 +1,5 @@
 -- Defines what becomes of a tenant's file, and of its book, when all stops and starts again.
--- Used by: src/restarts.rt, src/stops.rt, mw_simulator.
+-- Used by: src/laws.rt, src/restarts.rt, src/stops.rt, mw_simulator.
 use Rattle.std.specs.Prelude.{◌≡◌, ◌≤◌, ◌⊎◌, ◌&&◌, ℕ, Bool, true, false, not, if◌then◌else◌, List, length, nat_le, Option, Some, None, Result, Ok, Err, IsTrue}
 use Rattle.mw_disk.specs.Crash.{Tears, unsynced}
 use Rattle.mw_disk.specs.DeviceCalls.{DeviceCall}

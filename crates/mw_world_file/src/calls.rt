@@ -1,7 +1,8 @@
 //! Makes a call on a simulated file: prepare, seal, settle or cancel.
 //!
 //! mw_simulator makes each call on a file by `SimulatedFile::work`. `stops` uses the tests here for a call that was
-//! cut off. Change it with `specs/Devices`, `specs/Books` and `specs/CallEffects`.
+//! cut off. Change it with `specs/Devices`, `specs/Books`, `specs/CallEffects`, `specs/Calls`, `specs/Crashes` and
+//! `specs/DeviceCalls`.
 ghost use Rattle.std.specs.Prelude.{◌≡◌, ◌<◌, ◌≤◌, ℕ, List, length, true, false, IfOk, IsTrue, slice_set};
 ghost use Rattle.mw_words.specs.Change.{is_change};
 ghost use Rattle.mw_disk.specs.Memory.{memory_facts, with_fault};

@@ -5,7 +5,8 @@
 //! `restart` makes the book after all stopped, also in the middle of a call, and started again.
 //!
 //! Used by: many crates from mw_book on. `specs/Files`, `specs/Calls` and `specs/Restarts` define a tenant's file in a
-//! world, whatever disk it is on: a change of these three is a change of what is proved.
+//! world, whatever disk it is on: a change of these three is a change of what is proved. So is one of
+//! `specs/FirstPlaces`, which mw_world reads, and of `specs/Crashes`, which mw_book and mw_core read.
 #![tactic(auto)]
 
 mod book;

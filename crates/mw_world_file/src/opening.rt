@@ -1,6 +1,7 @@
 //! Opens a simulated file, also with a device call that fails.
 //!
-//! Used by: `new_books`, `restarts`. Change it with `specs/Books`, `specs/Devices` and `specs/Files`.
+//! Used by: `new_books`, `restarts`. Change it with `specs/Books`, `specs/Devices`, `specs/Files` and
+//! `specs/StoppedFiles`.
 ghost use Rattle.std.specs.Prelude.{◌≡◌, ◌<◌, ◌≤◌, ◌^◌, ℕ, List, Some, None, [], length, replicate, true, false, IsTrue, IsSome, IsSomeAnd, IfOk, MatchResult};
 ghost use Rattle.mw_disk.specs.Memory.{memory_facts};
 ghost use Rattle.mw_file.specs.File.{disk_of, states_of, has_failed};

@@ -1,6 +1,6 @@
 //! Computes what is left of a simulated file when all stops: its bytes, and the change in doubt.
 //!
-//! Used by: `restarts`. Change it with `specs/Files`, `specs/Devices` and `specs/Recovery`.
+//! Used by: `restarts`. Change it with `specs/Files`, `specs/Devices`, `specs/Recovery` and `specs/StoppedFiles`.
 ghost use Rattle.std.specs.Prelude.{◌≡◌, ℕ, List, Some, false, slice_get, MatchOption, IfOk};
 ghost use Rattle.mw_disk.specs.Memory.{memory_facts, with_stop};
 ghost use Rattle.mw_record.specs.Records.{Pairs};

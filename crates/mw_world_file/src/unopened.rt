@@ -1,7 +1,8 @@
 //! Makes a simulated old file, which no start has opened yet.
 //!
-//! mw_simulator makes such a book if the configuration of a world gives the tenant an old file. mw_world passes on
-//! the two limits. Change it with `specs/OldFiles`, `specs/Books` and `specs/Files`.
+//! mw_simulator makes such a book if the configuration of a world gives the tenant an old file. mw_world passes on the
+//! two limits; docs/SCHEDULES and a text of mw_schedule (`forms.rt`) tell them. Change it with `specs/OldFiles`,
+//! `specs/Books`, `specs/Files` and `specs/FirstPlaces`.
 ghost use Rattle.std.specs.Prelude.{◌≡◌, ◌≤◌, ◌*◌, [], length, replicate, IfOk, IsTrue};
 ghost use Rattle.mw_words.specs.declared.limits.TheConstants.{MAX_WORDS};
 ghost use Rattle.mw_record.specs.declared.layout.TheConstants.{FIRST_PLACES, PLACES_GROW};

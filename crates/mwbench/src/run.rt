@@ -1,6 +1,7 @@
 //! Runs a whole load: reads the words, lets the clients work, reads the words again, and prints the result.
 //!
-//! `mwbench` calls `load`. docs/BENCH tells what it prints and its statuses: change both together.
+//! `mwbench` calls `load`. docs/BENCH tells what it prints and its statuses, and scripts/program_parts/beside.py
+//! expects a text: change them together.
 use crate::client::{Asker, Stop, Task};
 use crate::command_line::{Settings, read_args};
 use crate::crowd::{Board, Done, Tally, work_all};

@@ -1,6 +1,7 @@
 //! `mwinit [--from DUMP] PATH WORDS PLACES` makes a tenant's file.
 //!
-//! mw_init does the work (`init`). Here are only the program's name, and what it says if it can't begin.
+//! mw_init does the work (`init`). Here are only the program's name, and what it says if it can't begin: change that
+//! with docs/OPERATING, and `cannot make` with `scripts/fail-each-allocation` too.
 #![tactic(auto)]
 
 use mw_init::init;

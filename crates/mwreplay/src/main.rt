@@ -1,7 +1,7 @@
 //! `mwreplay [--trace] FILE` plays a schedule.
 //!
-//! mw_player does the work (`replay_args`). Here are only the program's name, and what it says if it can't
-//! begin.
+//! mw_player does the work (`replay_args`). Here are only the program's name, and what it says if it can't begin:
+//! change that with docs/SCHEDULES, and `memory` with `scripts/fail-each-allocation` too.
 #![tactic(auto)]
 
 use mw_main::{Program, run};

@@ -1,6 +1,7 @@
 //! `mwshow [--words] FILE` shows what a tenant's file says.
 //!
-//! mw_show does the work (`show_args`). Here are only the program's name, and what it says if it can't begin.
+//! mw_show does the work (`show_args`). Here are only the program's name, and what it says if it can't begin: change
+//! that with docs/OPERATING, and `memory` with `scripts/fail-each-allocation` too.
 #![tactic(auto)]
 
 use mw_main::{Program, run};

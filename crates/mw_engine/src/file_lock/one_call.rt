@@ -4,7 +4,8 @@
 //! but calls on the file meanwhile (`specs/Errands`). So no atomic step is made under the lock.
 //!
 //! Used by: `serving`, which calls `combine`; `combiner`, which makes calls for others; tests, which call `file`.
-//! Change it with `specs/Errands` and `specs/FileCalls`. After a change run scripts/check-wakes.
+//! Change it with `specs/Errands`, `specs/FileCalls`, `specs/History`, `specs/Passes`, `specs/Replies` and
+//! `specs/Steps`. After a change run scripts/check-wakes.
 ghost use Rattle.std.specs.Prelude.{◌≢◌, None};
 ghost use Rattle.mw_world.specs.Definition.Calls.{called_at};
 ghost use Rattle.mw_core.specs.FromTable.{IsCarried, IsSamePass, View as Knowledge};

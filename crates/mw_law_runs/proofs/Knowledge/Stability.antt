@@ -1,5 +1,5 @@
 -- All that a request knows at its point stays true over any worker's steps, if its pinned slots stay taken and its own
--- (`KeepsOwn`) is kept.
+-- (`KeepsOwn`) is kept; other workers' steps keep that (`others_keep_own`).
 -- Used by: facts_stay.
 use Rattle.std.specs.Prelude.{ℕ, ◌≡◌, ◌≢◌, true, length}
 use Rattle.std.proofs.Common.{ap, subst, ◌∙◌, sym}

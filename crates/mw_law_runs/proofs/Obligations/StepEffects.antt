@@ -1,4 +1,6 @@
--- What one step of any request may do to gates, words and statuses: pin, hold, refuse or write.
+-- Defines what one step of any request may do to gates, words and statuses (claim, hold, refuse, write), and proves it of
+-- each single update. StepEffectsByPoint says which of these each point's step makes. Used by: StepObligations, which
+-- proves steps_keep_releasers; FileCalls, Cleaners, RefusedChanges.
 use Rattle.std.specs.Prelude.{ℕ, ◌≡◌, ◌⊎◌, ◌==◌, ◌++◌, Bool, true, false, if◌then◌else◌, [], ◌∷◌, Some}
 use Rattle.std.proofs.Common.{refl, sym, ap, subst, ◌∙◌, inl, inr, arith}
 use Rattle.std.proofs.lemmas.Bool.Decides.{nat_tests}

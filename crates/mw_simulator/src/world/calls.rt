@@ -1,7 +1,8 @@
 //! Makes calls on a tenant's simulated file, for requests.
 //!
-//! `World::step` calls it for an event that is a call on a file (`events.rt`). `stopped_calls.rt` uses the tests
-//! here. Change it with `specs/Crashes`, `specs/CallEnds` and `specs/Representation`.
+//! `World::step` calls it for an event that is a call on a file (`events.rt`). `stopped_calls.rt` uses the tests here.
+//! Change it with `specs/Crashes`, `specs/CallEnds`, `specs/Representation`, `specs/DisksOfCalls`, `specs/StepParts`
+//! and `specs/UnchangedParts`.
 ghost use Rattle.std.specs.Option.{option_map};
 ghost use Rattle.std.specs.Prelude.{◌≡◌, ◌≢◌, ◌<◌, ℕ, true, false, if◌then◌else◌, IfSome, IsTrue, OnErr, OnOk, Option, Some, None, length, slice_get};
 ghost use Rattle.mw_words.specs.Change.{is_change};

@@ -1,7 +1,8 @@
 //! Makes the events of a simulated world, and tells its state: the public calls.
 //!
-//! Used by: mw_player, mw_table_tests, mw_world_trials. Change it with `specs/Events`, `specs/ServiceAlone` and
-//! `specs/Crashes`. PROMISES, THEOREM and HOW-IT-IS-PROVED cite `step` or `run`.
+//! Used by: mw_player, mw_table_tests, mw_world_trials. Its contracts are in `specs/Events`, `specs/ServiceAlone`,
+//! `specs/Crashes`, `specs/DisksOfCalls`, `specs/UnchangedParts` and `specs/Invariant`. PROMISES, THEOREM and
+//! HOW-IT-IS-PROVED cite `step` or `run`.
 ghost use Rattle.std.specs.Prelude.{◌≡◌, ◌<◌, ◌++◌, List, Some, None, IfOk, IsTrue, MatchOption, OnErr, slice_get, length};
 ghost use Rattle.std.specs.Option.{option_and_then};
 ghost use Rattle.mw_world.specs.Definition.Extent.{has_place};

@@ -1,7 +1,7 @@
 //! Makes a restart: all stops, and starts again.
 //!
-//! `World::step` calls it for an event that is a restart (`events.rt`). Change it with `specs/Quotas`, `specs/Events`
-//! and `specs/Representation`.
+//! `World::step` calls it for an event that is a restart (`events.rt`). Change it with `specs/Quotas`, `specs/Events`,
+//! `specs/Representation`, `specs/Stops` and `specs/UnchangedParts`.
 ghost use Rattle.std.specs.Prelude.{◌≡◌, ◌≤◌, ◌&&◌, true, IfOk, OnErr, Some, None, MatchOption, length, nat_le, slice_get};
 ghost use Rattle.std.specs.List.{list_any};
 ghost use Rattle.mw_lone.specs.Store.{is_quota};

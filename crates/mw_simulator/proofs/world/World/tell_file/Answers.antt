@@ -1,4 +1,5 @@
--- The request learns how its call ended, and the call has the given label.
+-- Goals of `World::tell_file` (src/world/calls.rt): the request learns how its call ended, and the call has the given
+-- label.
 use Rattle.std.proofs.Common.{refl, ◌∙◌, ap}
 use Rattle.mw_look.specs.declared.observations.Got.TheVariants.{File as GotFile}
 use Rattle.mw_look.specs.declared.observations.Observation.TheVariants.{Filed}
