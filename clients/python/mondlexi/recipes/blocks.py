@@ -4,7 +4,7 @@ Block b has word b: 0 while it is free, else USED + owner (15 bits) + tag (32 bi
 word of its own: the count of its changes, by which it is found out whether one was made whose reply was lost. A new tenant, all
 of 0, has all its blocks free.
 
-Used by: `mondlexi.recipes` and its `aio`. docs/RECIPES.md has these words: change both. scripts/recipe_parts/blocks.py checks runs of it.
+Used by: `mondlexi.recipes` and its `aio`. docs/RECIPES.md has these words: change both. scripts/recipe_parts/leases.py checks runs of it.
 """
 import random
 from typing import Dict, Iterable, List, Optional
