@@ -9,12 +9,10 @@
    one entry, and QUIT. It doesn't keep changes of one word apart, so let each client have a word of its own. A GET and a NO may tell
    a value before it is durable.
 
-   Compiled without SHARES_SYNCS, it makes for each request the system calls of mwserve. A change is ten, as a change alone of mwserve
-   is: a read of the line; the record and a sync; the commit byte and a sync; the word and a sync; the commit byte and a sync; a write
-   of the reply.
-
-   Compiled with SHARES_SYNCS, changes of a tenant share syncs as those of mwserve do: the thread that holds the file makes the calls
-   of all that wait, from a prepare up to a settle, and only after that another thread may have to wake.
+   It makes for each request the system calls of mwserve. A change alone is ten, as there: a read of the line; the record and a sync; the
+   commit byte and a sync; the word and a sync; the commit byte and a sync; a write of the reply. Changes of a tenant share syncs: the
+   thread that holds the file makes the calls of all that wait, from a prepare up to a settle, and only after that another thread may
+   have to wake.
 
    Used by: scripts/bench-server --bare, one_tenant.py. If mwserve makes other calls for a change, so does this. */
 #define _GNU_SOURCE
@@ -109,27 +107,6 @@ static off_t taken_place(struct tenant *it) {
 }
 
 enum { CLEARED = 0, SET = 0xa5 };
-
-#ifndef SHARES_SYNCS
-
-/* The calls on the file that mwserve makes for a change alone, in two turns of the tenant's lock. */
-static void keep(struct tenant *it, unsigned address, uint64_t value) {
-    off_t place = taken_place(it);
-    pthread_mutex_lock(&it->lock);
-    write_record(it, place);
-    sync_file(it->file);
-    set_commit_byte(it, place, SET);
-    sync_file(it->file);
-    pthread_mutex_unlock(&it->lock);
-    pthread_mutex_lock(&it->lock);
-    write_word(it, address, value);
-    sync_file(it->file);
-    set_commit_byte(it, place, CLEARED);
-    sync_file(it->file);
-    pthread_mutex_unlock(&it->lock);
-}
-
-#else
 
 static void append(struct change **list, struct change *more) {
     while (*list)
@@ -234,8 +211,6 @@ static void keep(struct tenant *it, unsigned address, uint64_t value) {
     if (holds || own.state == HOLDS)
         hold(it, &own);
 }
-
-#endif
 
 static int answer(struct tenant **bound, const char *line, char *reply) {
     char name[32];

@@ -12,6 +12,7 @@ from xml.sax.saxutils import escape
 WIDTH, LEFT, RIGHT = 860, 330, 90
 BAR, GAP, GROUP = 14, 3, 12
 LONGEST_NAME = 46
+"""Of a longer name the end is shown."""
 COLOURS = ("#2b6cb0", "#dd8a2e", "#3f9b5f", "#a14c9c", "#8a8a8a", "#c2494b")
 Row = Tuple[str, Sequence[float]]
 
@@ -26,24 +27,12 @@ def shown(value: float) -> str:
     return f"{value:,.0f}" if value >= 10 else f"{value:.2f}"
 
 
-def shortened(name: str) -> str:
-    """A name, or the end of it if there is no room for all."""
-    return name if len(name) <= LONGEST_NAME else f"..{name[2 - LONGEST_NAME:]}"
-
-
 class Panel:
     """Bars of several rows, of two to six kinds each, with a title. Their lengths grow with the logarithm where that is asked for."""
 
     def __init__(self, title: str, kinds: Sequence[str], is_logarithmic: bool = False):
         self.title, self.kinds, self.is_logarithmic = title, kinds, is_logarithmic
         self.rows: List[Row] = []
-
-    def length(self, value: float, most: float) -> float:
-        """How long the bar of a value is."""
-        room = WIDTH - LEFT - RIGHT
-        if self.is_logarithmic:
-            return room * math.log1p(value) / math.log1p(most)
-        return room * value / most
 
     def draw(self, top: float) -> Tuple[List[str], float]:
         """The elements of the panel below a height, and where it ends."""
@@ -54,10 +43,11 @@ class Panel:
             out.append(text(at + 18, top + 38, kind))
         y = top + 52
         most = max((value for _, values in self.rows for value in values), default=1) or 1
+        scale = math.log1p if self.is_logarithmic else float
         for name, values in self.rows:
-            out.append(text(10, y + BAR, shortened(name)))
+            out.append(text(10, y + BAR, name if len(name) <= LONGEST_NAME else f"..{name[2 - LONGEST_NAME:]}"))
             for number, value in enumerate(values):
-                long = self.length(value, most)
+                long = (WIDTH - LEFT - RIGHT) * scale(value) / scale(most)
                 out.append(f'<rect x="{LEFT}" y="{y}" width="{long:.1f}" height="{BAR}" fill="{COLOURS[number]}"/>')
                 out.append(text(LEFT + long + 5, y + BAR - 2, shown(value)))
                 y += BAR + GAP

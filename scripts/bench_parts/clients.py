@@ -3,11 +3,16 @@
 Used by: scripts/bench-server, one_tenant.py, stores.py. WORDS are the most that a tenant may have, RECORD the bytes of a record
 place (docs/FILES.md). Another load makes other figures: those of docs/BENCH.md are measured anew.
 """
+import base64
+import http.client
+import json
 import multiprocessing
 import os
 import socket
 import sqlite3
 import time
+from statistics import median
+from typing import NamedTuple
 
 HOST = "127.0.0.1"
 WORDS = 4096
@@ -53,78 +58,70 @@ class Line:
         return reply
 
 
-def line_and_value(port, tenant, word):
-    """A connection for a tenant, and what a word of it is."""
+def line_to(port, tenant):
+    """A connection for a tenant."""
     line = Line(port)
     if not line.ask(b"TENANT t%d\n" % tenant).startswith(b"OK "):
         wrong("no such tenant")
-    return line, int(line.ask(b"GET %d\n" % word).split()[1])
+    return line
 
 
-def changes(port, tenant, word=0):
-    """Counts a word of a tenant up, from what it is. A change that is answered BUSY is asked for again."""
-    line, value = line_and_value(port, tenant, word)
+def changes(port, tenant, word=0, is_shared=False):
+    """Counts a word of a tenant up, by one each time. A change that is answered BUSY is asked for again; one of a shared word, which others
+    count up too, also after a NO, with the value that was told."""
+    line = line_to(port, tenant)
+    value = int(line.ask(b"GET %d\n" % word).split()[1])
     while True:
-        reply = b"BUSY"
-        while reply == b"BUSY":
+        reply = b""
+        while reply != b"YES":
             reply = line.ask(b"CAS %d:%d:%d\n" % (word, value, value + 1))
-        if reply != b"YES":
-            wrong(f"{reply!r} in place of YES")
+            if is_shared and reply.startswith(b"NO "):
+                value = int(reply.split()[2])
+            elif reply not in (b"YES", b"BUSY"):
+                wrong(f"{reply!r} in place of YES")
         value += 1
         yield
 
 
 def gets(port, tenant):
     """Reads a tenant's last word."""
-    line = Line(port)
-    line.ask(b"TENANT t%d\n" % tenant)
+    line = line_to(port, tenant)
     while True:
         if not line.ask(b"GET %d\n" % (WORDS - 1)).startswith(b"VAL "):
             wrong("no value")
         yield
 
 
-def contended_changes(port, tenant, word=0):
-    """Counts a word up that others count up too, by one each time: after a NO it asks again, with the value that it was told."""
-    line, value = line_and_value(port, tenant, word)
+def counted_up(store, is_shared, look, change):
+    """Counts a word of another store up, from what `look` finds, by a `change` that compares it first. A shared word, which others count up
+    too, is looked up again where nothing was changed."""
+    value = look()
     while True:
-        reply = line.ask(b"CAS %d:%d:%d\n" % (word, value, value + 1))
-        while reply != b"YES":
-            if reply.startswith(b"NO "):
-                value = int(reply.split()[2])
-            elif reply != b"BUSY":
-                wrong(f"{reply!r} in place of YES, NO or BUSY")
-            reply = line.ask(b"CAS %d:%d:%d\n" % (word, value, value + 1))
+        while not change(value, value + 1):
+            if not is_shared:
+                wrong(f"{store} changed nothing")
+            value = look()
         value += 1
         yield
 
 
 def sqlite_changes(path, address=0, is_shared=False):
-    """Counts a word of a table up, where it is what is expected, and has it synced. What a shared word is it looks up again, where
-    nothing was changed."""
+    """Counts a word of a table up, and has it synced."""
     base = sqlite3.connect(path, timeout=600, isolation_level=None)
     base.execute("PRAGMA journal_mode=WAL")
     base.execute("PRAGMA synchronous=FULL")
     base.execute("CREATE TABLE IF NOT EXISTS words (address INTEGER PRIMARY KEY, value INTEGER)")
     base.execute("INSERT OR IGNORE INTO words VALUES (?, 0)", (address,))
-    look = lambda: base.execute("SELECT value FROM words WHERE address = ?", (address,)).fetchone()[0]
-    change = lambda: base.execute("UPDATE words SET value = ? WHERE address = ? AND value = ?", (value + 1, address, value)).rowcount
-    value = look()
-    while True:
-        while change() != 1:
-            if not is_shared:
-                wrong("SQLite changed nothing")
-            value = look()
-        value += 1
-        yield
+    return counted_up(
+        "SQLite", is_shared, lambda: base.execute("SELECT value FROM words WHERE address = ?", (address,)).fetchone()[0],
+        lambda old, new: base.execute("UPDATE words SET value = ? WHERE address = ? AND value = ?", (new, address, old)).rowcount == 1)
 
 
 LUA = "if redis.call('GET', KEYS[1]) == ARGV[1] then redis.call('SET', KEYS[1], ARGV[2]) return 1 else return 0 end"
 
 
 def redis_changes(port, number, is_shared=False):
-    """Counts a word of Redis up, by a script that compares it first. What a shared word is it looks up again, where nothing was
-    changed."""
+    """Counts a word of Redis up, by a script."""
     line = Line(port)
     ask = lambda *words: line.ask(b"".join([b"*%d\r\n" % len(words), *(b"$%d\r\n%s\r\n" % (len(it), it) for it in words)]))
     key = b"word%d" % number
@@ -134,23 +131,12 @@ def redis_changes(port, number, is_shared=False):
         ask(b"GET", key)
         return int(line.ask(b""))
 
-    value = look()
-    while True:
-        while ask(b"EVAL", LUA.encode(), b"1", key, b"%d" % value, b"%d" % (value + 1)) != b":1\r":
-            if not is_shared:
-                wrong("Redis changed nothing")
-            value = look()
-        value += 1
-        yield
+    return counted_up("Redis", is_shared, look,
+                      lambda old, new: ask(b"EVAL", LUA.encode(), b"1", key, b"%d" % old, b"%d" % new) == b":1\r")
 
 
 def etcd_changes(port, number, is_shared=False):
-    """Counts a word of etcd up, by a transaction that compares it first. What a shared word is it looks up again, where nothing was
-    changed."""
-    import base64
-    import http.client
-    import json
-
+    """Counts a word of etcd up, by a transaction."""
     text = lambda it: base64.b64encode(it.encode()).decode()
     link, key = http.client.HTTPConnection(HOST, port), text(f"word{number}")
     link.connect()
@@ -163,21 +149,12 @@ def etcd_changes(port, number, is_shared=False):
     def look():
         return int(base64.b64decode(ask("range", {"key": key})["kvs"][0]["value"]))
 
-    def change():
-        compare = [{"key": key, "target": "VALUE", "value": text(str(value))}]
-        put = [{"requestPut": {"key": key, "value": text(str(value + 1))}}]
-        return ask("txn", {"compare": compare, "success": put}).get("succeeded")
+    def put_if(new, **is_so):
+        put = {"compare": [{"key": key, **is_so}], "success": [{"requestPut": {"key": key, "value": text(str(new))}}]}
+        return ask("txn", put).get("succeeded")
 
-    new = [{"key": key, "target": "VERSION", "version": "0"}]
-    ask("txn", {"compare": new, "success": [{"requestPut": {"key": key, "value": text("0")}}]})
-    value = look()
-    while True:
-        while not change():
-            if not is_shared:
-                wrong("etcd changed nothing")
-            value = look()
-        value += 1
-        yield
+    put_if(0, target="VERSION", version="0")
+    return counted_up("etcd", is_shared, look, lambda old, new: put_if(new, target="VALUE", value=text(str(old))))
 
 
 def client(what, gate, seconds, pins, given):
@@ -224,3 +201,23 @@ def rate(took, seconds):
 def quantile(times, part):
     times = sorted(times)
     return times[min(len(times) - 1, int(len(times) * part))]
+
+
+def half_and_most(times):
+    """How many microseconds half of these seconds are at most, and 99 of 100."""
+    return median(times) * 1e6, quantile(times, 0.99) * 1e6
+
+
+class Changed(NamedTuple):
+    """Changes a second, and how many microseconds one took: half of them less, and 99 of 100."""
+    rate: float
+    half: float
+    most: float
+
+
+def changed_of(took, seconds):
+    """The figures of what clients took in so many seconds."""
+    times = sum(took.values(), [])
+    if not times:
+        wrong("no change was made")
+    return Changed(len(times) / seconds, *half_and_most(times))

@@ -1,11 +1,11 @@
 """Times changes of one tenant by several clients, and counts the syncs of them, beside other stores with as many clients.
 
-A row is told for each store and each number of clients: changes a second; how long a change takes, half of them less and 99 of
-100 less; how many syncs the store made for a change; how long a sync took, on average; and how many times the changes of the first
-store it made in the same turn. All are medians of the turns. Of the last the quartiles are told too: half of the turns are between
-these. In a turn all stores run side by side, and have each load one after the other: a disk is often fast for minutes, and slow for
-others. The clients have a word each, or all have one. Of one word each client adds 1 again and again: its change is asked for until it is made,
-with the value that the word was found to have, and takes as long as all of this.
+A row is told for each store and each number of clients: changes a second; how long a change takes, half of them less and 99 of 100
+less; how many syncs the store made for a change; how long a sync took, on average; and how many times the changes of the first store
+it made in the same turn. All are medians of the turns. Of the last the quartiles are told too: half of the turns are between these.
+In a turn all stores run side by side, and have each load one after the other: a disk is often fast for minutes, and slow for others.
+The clients have a word each, or all have one. Of one word each client adds 1 again and again: its change is asked for until it is
+made, with the value that the word was found to have, and takes as long as all of this.
 
 Of each mwserve one more row is told: sixteen clients of sixteen tenants, which share nothing. A bare server that shares syncs
 (bare_server.c), if it is asked for, has the loads with a word each alone, and isn't in the chart.
@@ -13,7 +13,8 @@ Of each mwserve one more row is told: sixteen clients of sixteen tenants, which 
 Syncs are counted, timed and made slower by slow_syncs.c, which is put under a store; under etcd, which no library can be put under,
 by strace, which looks at its syncs alone. So what is told of etcd is what it does under strace.
 
-Used by: scripts/bench-server --one-tenant. program_parts/beside.py reads the rows of a short run, their figures from the right: change both.
+Used by: scripts/bench-server --one-tenant. program_parts/beside.py reads the rows of a short run, their figures from the right: change
+both.
 """
 import multiprocessing
 import os
@@ -26,10 +27,11 @@ from functools import partial
 from pathlib import Path
 from statistics import median
 from typing import Callable, Dict, Iterator, List, NamedTuple, Optional, Sequence, Tuple
+from unittest.mock import patch
 
 from .chart import Chart
-from .clients import HOST, changes, contended_changes, etcd_changes, quantile, redis_changes, sqlite_changes, together, wrong
-from .stores import Other, Server, compiled, free_port, number, row
+from .clients import changed_of, changes, etcd_changes, quantile, redis_changes, sqlite_changes, together, wrong
+from .stores import Other, Server, compiled, etcd_words, free_port, number, redis_words, row
 
 DELAYS = {0: "the disk as it is", 2000: "each sync 2 ms longer"}
 """By how many microseconds a sync is longer."""
@@ -44,7 +46,7 @@ class Load(NamedTuple):
     is_apart: bool = False
 
     def text(self) -> str:
-        return f"{self.clients} of one word" if self.is_shared else f"{self.clients} of a tenant each" if self.is_apart else str(self.clients)
+        return f"{self.clients}" + (" of one word" if self.is_shared else " of a tenant each" if self.is_apart else "")
 
 
 A_WORD_EACH = (Load(1), Load(2), Load(4), Load(16), Load(64))
@@ -53,8 +55,7 @@ ALL_APART = Load(16, is_apart=True)
 
 
 class Figures(NamedTuple):
-    """Changes a second; how many microseconds one takes, half of them less and 99 of 100 less; the syncs a change; and how many
-    microseconds a sync takes."""
+    """Those of `Changed`; the syncs a change; and how many microseconds a sync takes."""
     rate: float
     half: float
     most: float
@@ -76,10 +77,10 @@ class Running(NamedTuple):
 
 
 class Counter:
-    """A file in which syncs are counted and timed, and the environment of a process whose syncs are."""
+    """A file in which syncs are counted and timed, and the environment of a process whose syncs are, and take longer by a delay."""
 
     def __init__(self, room: Path, library: Path, delay: int) -> None:
-        self.path = room / "syncs"
+        self.delay, self.path = delay, room / "syncs"
         self.path.write_bytes(bytes(16))
         self.environment = {"LD_PRELOAD": str(library), "SYNC_DELAY": str(delay), "SYNC_COUNT": str(self.path)}
 
@@ -89,61 +90,48 @@ class Counter:
 
 
 @contextmanager
-def mondlexi(program: Path, room: Path, library: Path, delay: int) -> Iterator[Running]:
+def mondlexi(program: Path, room: Path, counter: Counter) -> Iterator[Running]:
     """An mwserve with one tenant, or a bare server."""
-    counter = Counter(room, library, delay)
     with Server(program, room, workers=WORKERS, tenants=1, quota=QUOTA, environment=counter.environment) as server:
-        yield Running(lambda word, is_shared: (contended_changes if is_shared else changes, server.port, 0, APART * word), counter.syncs)
+        yield Running(lambda word, is_shared: (changes, server.port, 0, APART * word, is_shared), counter.syncs)
 
 
 @contextmanager
-def mondlexi_apart(program: Path, room: Path, library: Path, delay: int) -> Iterator[Running]:
+def mondlexi_apart(program: Path, room: Path, counter: Counter) -> Iterator[Running]:
     """An mwserve with a tenant for each client."""
-    counter = Counter(room, library, delay)
     with Server(program, room, tenants=ALL_APART.clients, environment=counter.environment) as server:
         yield Running(lambda number, _: (changes, server.port, number), counter.syncs)
 
 
 @contextmanager
-def sqlite(room: Path, library: Path, delay: int) -> Iterator[Running]:
-    """One file for all clients. The library is put under each of them, since SQLite has no server."""
-    counter = Counter(room, library, delay)
-    before = dict(os.environ)
-    os.environ.update(counter.environment)
-    try:
+def sqlite(room: Path, counter: Counter) -> Iterator[Running]:
+    """One file for all clients. The library is put under each of them, because SQLite has no server."""
+    with patch.dict(os.environ, counter.environment):
         yield Running(lambda word, is_shared: (sqlite_changes, room / "base", word, is_shared), counter.syncs,
                       multiprocessing.get_context("spawn"))
-    finally:
-        os.environ.clear()
-        os.environ.update(before)
 
 
 @contextmanager
-def redis(room: Path, library: Path, delay: int) -> Iterator[Running]:
+def redis(room: Path, counter: Counter) -> Iterator[Running]:
     """One log for all clients, synced before a reply."""
-    counter, port = Counter(room, library, delay), free_port()
-    words = ["redis-server", "--port", str(port), "--dir", str(room), "--appendonly", "yes", "--appendfsync", "always", "--save", ""]
-    with Other(words, port, counter.environment):
+    port = free_port()
+    with Other(redis_words(room, port), port, counter.environment):
         yield Running(lambda word, is_shared: (redis_changes, port, word, is_shared), counter.syncs)
 
 
 @contextmanager
-def etcd(room: Path, library: Path, delay: int) -> Iterator[Running]:
-    """One log for all clients, under strace."""
-    told, port = room / "syncs", free_port()
-    at, peer = f"http://{HOST}:{port}", f"http://{HOST}:{free_port()}"
+def etcd(room: Path, counter: Counter) -> Iterator[Running]:
+    """One log for all clients, under strace, which tells of some syncs in two lines, of which the second has the time."""
+    told, port = room / "strace", free_port()
     words = ["strace", "-f", "-qq", "--seccomp-bpf", "-o", str(told), "-T", "-e", "trace=fsync,fdatasync"]
-    words += ["-e", f"inject=fsync,fdatasync:delay_enter={delay}"] if delay else []
-    words += ["etcd", "--data-dir", str(room / "etcd"), "--listen-client-urls", at, "--advertise-client-urls", at]
-    words += ["--listen-peer-urls", peer, "--initial-advertise-peer-urls", peer, "--initial-cluster", f"default={peer}"]
-    with Other(words, port):
-        yield Running(lambda word, is_shared: (etcd_changes, port, word, is_shared), lambda: told_syncs(told.read_text()))
+    words += ["-e", f"inject=fsync,fdatasync:delay_enter={counter.delay}"] if counter.delay else []
 
+    def syncs() -> Syncs:
+        times = re.findall(r"sync.* <([0-9.]+)>$", told.read_text(), re.MULTILINE)
+        return Syncs(len(times), sum(map(float, times)))
 
-def told_syncs(told: str) -> Syncs:
-    """The syncs that strace has told of. It tells of some in two lines, of which the second has the time."""
-    times = re.findall(r"sync.* <([0-9.]+)>$", told, re.MULTILINE)
-    return Syncs(len(times), sum(map(float, times)))
+    with Other([*words, *etcd_words(room, port)], port):
+        yield Running(lambda word, is_shared: (etcd_changes, port, word, is_shared), syncs)
 
 
 class Store(NamedTuple):
@@ -173,14 +161,10 @@ def figures_of(running: Running, load: Load, seconds: float) -> Figures:
     """What clients find in so many seconds. Each makes a change before it begins to time."""
     before = running.syncs()
     clients = [running.client(0 if load.is_shared else word, load.is_shared) for word in range(load.clients)]
-    took = together(seconds, *clients, by=running.by)
-    times = [time for all_times in took.values() for time in all_times]
-    if not times:
-        wrong("no change was made")
-    after = running.syncs()
+    took, after = together(seconds, *clients, by=running.by), running.syncs()
     made, took_all = after.number - before.number, after.seconds - before.seconds
-    per_change = made / (len(times) + load.clients)
-    return Figures(len(times) / seconds, median(times) * 1e6, quantile(times, 0.99) * 1e6, per_change, took_all / max(made, 1) * 1e6)
+    changes_made = sum(map(len, took.values())) + load.clients
+    return Figures(*changed_of(took, seconds), made / changes_made, took_all / max(made, 1) * 1e6)
 
 
 def by_turns(stores: Sequence[Store], folder: Path, library: Path, delay: int, seconds: float,
@@ -191,7 +175,8 @@ def by_turns(stores: Sequence[Store], folder: Path, library: Path, delay: int, s
     for turn in range(turns):
         with ExitStack() as stack:
             rooms = [Path(stack.enter_context(tempfile.TemporaryDirectory(dir=folder))) for _ in stores]
-            all_running = [(store, stack.enter_context(store.run(room, library, delay))) for room, store in zip(rooms, stores)]
+            all_running = [(store, stack.enter_context(store.run(room, Counter(room, library, delay))))
+                           for room, store in zip(rooms, stores)]
             if turn % 2:
                 all_running.reverse()
             for load in (*LOADS, ALL_APART):
@@ -199,12 +184,6 @@ def by_turns(stores: Sequence[Store], folder: Path, library: Path, delay: int, s
                     if load in store.loads:
                         found.setdefault((store.name, load), []).append(figures_of(running, load, seconds))
     return found
-
-
-def beside_first(told: Sequence[Figures], first: Sequence[Figures]) -> Tuple[float, float, float]:
-    """How many times the changes of the first store another one made in the same turn: a quarter of the turns less, half, three quarters."""
-    times = [it.rate / one.rate for it, one in zip(told, first)]
-    return quantile(times, 0.25), median(times), quantile(times, 0.75)
 
 
 def time_one_tenant(programs: Sequence[Path], folder: str, seconds: float, turns: int, chart: Chart, only: Optional[int] = None,
@@ -215,7 +194,7 @@ def time_one_tenant(programs: Sequence[Path], folder: str, seconds: float, turns
         wrong("there is no C compiler cc, so syncs can't be counted")
     with tempfile.TemporaryDirectory() as built:
         library = compiled(built, "slow_syncs", "-shared", "-fPIC", "-ldl")
-        bare = compiled(built, "bare_server", "-pthread", "-DSHARES_SYNCS") if with_bare else None
+        bare = compiled(built, "bare_server", "-pthread") if with_bare else None
         stores = stores_of(programs, bare)
         if clients:
             stores = [store._replace(loads=(Load(clients),)) for store in stores if Load(clients) in store.loads]
@@ -228,8 +207,8 @@ def time_one_tenant(programs: Sequence[Path], folder: str, seconds: float, turns
                 row(name)
                 for load in (other for other in (*LOADS, ALL_APART) if (name, other) in found):
                     it = found[name, load]
-                    low, times, high = beside_first(told[name, load], told[names[0], load])
-                    row(f"  clients: {load.text()}", number(it.rate), number(it.half), number(it.most), number(it.syncs, 2), number(it.sync),
-                        number(times, 2), f"{number(low, 2)}-{number(high, 2)}")
+                    of_first = [one.rate / first.rate for one, first in zip(told[name, load], told[names[0], load])]
+                    row(f"  clients: {load.text()}", *map(number, it[:3]), number(it.syncs, 2), number(it.sync),
+                        number(median(of_first), 2), "-".join(number(quantile(of_first, part), 2) for part in (0.25, 0.75)))
             whole = [name for name in names if all((name, load) in found for load in LOADS)]
             chart.add_one_tenant(disk, [load.text() for load in LOADS], {name: [found[name, load] for load in LOADS] for name in whole})

@@ -1,10 +1,11 @@
 """The servers that scripts/bench-server times: an mwserve over new files, and other stores; and the rows that it prints.
 
-Used by: scripts/bench-server; one_tenant.py; program_parts/beside.py, which takes the first NAME signs of a row as its name. A further store
-needs its clients in clients.py, and a case in scripts/bench-server and in one_tenant.py. docs/BENCH.md says what each store promises.
-MOST_PLACES is FIRST_PLACES of crates/mw_record/src/layout.rt.
+Used by: scripts/bench-server; one_tenant.py; program_parts/beside.py, which takes the first NAME signs of a row as its name. A further
+store needs its clients in clients.py, and a case in scripts/bench-server and in one_tenant.py. docs/BENCH.md says what each store
+promises. MOST_PLACES is FIRST_PLACES of crates/mw_record/src/layout.rt.
 """
 import os
+import re
 import shutil
 import signal
 import socket
@@ -12,6 +13,9 @@ import subprocess
 import tempfile
 import time
 from pathlib import Path
+
+from soak_parts.server import Plan, Programs, Tenant, Wrong, make_files
+from soak_parts.server import Server as AnyServer
 
 from .clients import HOST, WORDS, together, wrong
 
@@ -30,24 +34,24 @@ def mwinit_of(program):
     return beside if beside.exists() else MWINIT
 
 
-class Server:
+class Server(AnyServer):
     """An mwserve over new files in a folder, sixteen if not said. `environment` is put over its own."""
+    patience = 600
 
     def __init__(self, program, folder, workers=40, tenants=TENANTS, quota=QUOTA, environment=None):
-        self.folder = Path(tempfile.mkdtemp(dir=folder))
-        lines = []
-        for number in range(tenants):
-            words = [mwinit_of(program), self.folder / f"{number}.mw", str(WORDS), str(min(quota, MOST_PLACES))]
-            subprocess.run(words, check=True, stdout=subprocess.DEVNULL)
-            lines.append(f"t{number} {WORDS} {quota} {number}.mw\n")
-        (self.folder / "tenants").write_text("".join(lines))
-        words = [program, "--tenants", "tenants", "--listen", f"{HOST}:0", "--workers", str(workers)]
-        environment = {**os.environ, **(environment or {})}
-        self.process = subprocess.Popen(words, cwd=self.folder, env=environment, stdout=subprocess.PIPE, text=True)
-        ready = self.process.stdout.readline().split()
-        if ready[:1] != ["ready"]:
-            wrong(f"{program} isn't ready")
-        self.port = int(ready[1])
+        self.put_over = environment or {}
+        stores = [Tenant(f"t{number}", WORDS, quota, min(quota, MOST_PLACES)) for number in range(tenants)]
+        programs, room = Programs(mwinit_of(program), program, None), Path(tempfile.mkdtemp(dir=folder))
+        make_files(programs, room, stores)
+        super().__init__(programs, room, stores, ["--workers", str(workers)], Plan({}))
+        try:
+            self.wait_until_ready()
+        except Wrong as error:
+            self.kill()
+            wrong(str(error))
+
+    def environment(self, *_):
+        return {**os.environ, **self.put_over}
 
     def processor_time(self):
         """The seconds that the server's threads have had, theirs and the system's for them."""
@@ -72,10 +76,7 @@ class Server:
 
     def memory(self):
         """The kilobytes that it has in memory."""
-        for line in Path(f"/proc/{self.process.pid}/status").read_text().splitlines():
-            if line.startswith("VmRSS"):
-                return int(line.split()[1])
-        return 0
+        return int(re.search(r"VmRSS:\s*(\d+)", Path(f"/proc/{self.process.pid}/status").read_text())[1])
 
     def calls(self, seconds, *whats):
         """The system calls of the server a request, if they can be counted."""
@@ -92,13 +93,21 @@ class Server:
         counts = [line.split()[3] for line in text.splitlines() if line.rstrip().endswith("total")]
         return int(counts[0]) / sum(map(len, took.values())) if counts else None
 
-    def __enter__(self):
-        return self
-
     def __exit__(self, *_):
-        self.process.kill()
-        self.process.wait()
+        super().__exit__()
         shutil.rmtree(self.folder)
+
+
+def redis_words(room, port):
+    """The command of a Redis that syncs its log before each reply."""
+    return ["redis-server", "--port", str(port), "--dir", str(room), "--appendonly", "yes", "--appendfsync", "always", "--save", ""]
+
+
+def etcd_words(room, port):
+    """The command of an etcd alone."""
+    at, peer = f"http://{HOST}:{port}", f"http://{HOST}:{free_port()}"
+    return ["etcd", "--data-dir", str(room / "etcd"), "--listen-client-urls", at, "--advertise-client-urls", at,
+            "--listen-peer-urls", peer, "--initial-advertise-peer-urls", peer, "--initial-cluster", f"default={peer}"]
 
 
 def free_port():
@@ -111,8 +120,8 @@ class Other:
     """Another store's server, from when it takes connections."""
 
     def __init__(self, words, port, environment=None):
-        own = {**os.environ, **(environment or {})}
-        self.process = subprocess.Popen(words, stdout=subprocess.DEVNULL, stderr=subprocess.DEVNULL, env=own)
+        environment = {**os.environ, **(environment or {})}
+        self.process = subprocess.Popen(words, stdout=subprocess.DEVNULL, stderr=subprocess.DEVNULL, env=environment)
         for _ in range(100):
             time.sleep(0.1)
             try:

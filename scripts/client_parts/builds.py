@@ -1,9 +1,9 @@
 """The clients, how each is built, and the programs that scripts/check-clients asks.
 
-Used by: scripts/check-clients; scripts/check-programs, which runs it for each of CLIENTS, and tells which parts it leaves out. A further
-client has a row in CLIENTS, and a word in SOURCES of package_parts/clients.py.
+Used by: scripts/check-clients; scripts/check-programs, which plays the cases with the two in Python, runs that script for each of CLIENTS, and
+tells which parts it leaves out. A further client has a row in CLIENTS, one in FORMS of names.py, and a word in SOURCES of
+package_parts/clients.py.
 """
-import json
 import re
 import shutil
 import subprocess
@@ -13,23 +13,49 @@ from typing import Callable, List, NamedTuple, Sequence
 
 from package_parts import clients as packed
 
-from . import tools
 from .examples import try_locks, try_secure
-from .readme import PLACE
+from .peer import Different
+from .runs import PLACE
 
 TOP = Path(__file__).resolve().parent.parent.parent
 PLAY = Path(__file__).resolve().parent / "play.py"
 VERSION = TOP / "crates/mw_main/src/lib.rt"
 PROVED = TOP / "crates/mw_client_c/out/libmw_client_c.a"
 """The proved lines and readings for C, as `rt lib` builds them."""
+C = TOP / "clients/c"
 LEAST_NODE = 20
-C, RUST, GO, NODE, JAVA = (TOP / "clients" / name for name in ("c", "rust", "go", "node", "java"))
+TYPES_OF_NODE = "declare module 'node:tls' { export interface ConnectionOptions { servername?: string } }\n"
+"""What the client's types need of Node's, which a package of another project has."""
 VALGRIND = ("valgrind", "-q", "--leak-check=full", "--show-leak-kinds=all", "--errors-for-leak-kinds=all", "--error-exitcode=99",
             f"--suppressions={Path(__file__).resolve().parent}/loader.supp")
+QUICK = ("-XX:TieredStopAtLevel=1", "-XX:+UseSerialGC", "-Xmx64m")
+"""For a program in Java that doesn't run for long."""
 
 
-class NotBuilt(Exception):
-    """A client can't be built, or its compiler or another tool finds fault with it."""
+def missing_of(needs: Sequence[str]) -> str:
+    """Which of these commands, and files by their whole paths, aren't here; nothing if all are."""
+    return ", ".join(f"there is no {need}" for need in needs if not (Path(need).is_file() if need[0] == "/" else shutil.which(need)))
+
+
+class Part(NamedTuple):
+    """A part of a client's check that needs more than its compiler: what it is, and the commands and files that it needs."""
+    what: str
+    needs: Sequence[str]
+
+    def is_here(self) -> bool:
+        """Whether it can be tried."""
+        return not missing_of(self.needs)
+
+
+GCC, CLANG = Part("a build by gcc", ("gcc",)), Part("a build by clang", ("clang",))
+PKG_CONFIG = Part("what pkg-config says of the library", ("pkg-config",))
+PACKAGE = Part("a program by the package libmondlexi-dev", ("readelf", "dpkg-deb", "pkg-config"))
+PAGE = Part("the page of the manual", ("groff",))
+OVER_TLS = Part("the example over TLS", ("openssl", "/usr/include/openssl/ssl.h"))
+OVER_PROVED = Part("the client over mw_client_c", ("rt",))
+MEMORY = Part("a run under valgrind", ("valgrind",))
+RUSTFMT, CLIPPY = Part("what rustfmt says", ("rustfmt",)), Part("what clippy says", ("cargo-clippy",))
+GOFMT, TYPES, KEYS = Part("what gofmt says", ("gofmt",)), Part("its types", ("tsc",)), Part("its tests over TLS", ("keytool",))
 
 
 class Program(NamedTuple):
@@ -55,16 +81,16 @@ class Client(NamedTuple):
     name: str
     needs: Sequence[str]
     build: Callable[[Path, str], Built]
-    parts: Sequence[tools.Part] = ()
+    parts: Sequence[Part] = ()
     too_old: Callable[[], str] = lambda: ""
 
     def missing(self) -> str:
         """What it needs and isn't here; nothing if all is."""
-        return tools.missing_of(self.needs) or self.too_old()
+        return missing_of(self.needs) or self.too_old()
 
     def parts_left_out(self) -> List[str]:
         """The parts that can't be tried here, and why."""
-        return [f"{self.name}: {part.what}: {part.missing()}" for part in self.parts if not part.is_here()]
+        return [f"{self.name}: {part.what}: {missing_of(part.needs)}" for part in self.parts if not part.is_here()]
 
     def left_out(self) -> List[str]:
         """What can't be tried of it here, and why."""
@@ -72,12 +98,44 @@ class Client(NamedTuple):
 
 
 def ran(*words: object, at: Path) -> str:
-    """What a command prints; it must go well."""
+    """What a command prints; it must go well. Different if the client can't be built so, or the command finds fault with it."""
     ended = subprocess.run([str(word) for word in words], cwd=at, stdin=subprocess.DEVNULL, stdout=subprocess.PIPE, stderr=subprocess.STDOUT)
     text = ended.stdout.decode(errors="replace")
     if ended.returncode:
-        raise NotBuilt(f"{' '.join(map(str, words))}: {text}")
+        raise Different(f"{' '.join(map(str, words))}: {text}")
     return text
+
+
+def ran_if(part: Part, *words: object, at: Path) -> None:
+    """Runs the command of a part that can be tried here. It must go well, and print nothing if it prints faults."""
+    if part.is_here():
+        told = ran(*words, at=at)
+        if told and part in (PAGE, GOFMT):
+            raise Different(f"{words[0]} finds {told}")
+
+
+def example(client: Path, language: str, place: str) -> str:
+    """The program of a client's README, its first block in this language, for a server at this place."""
+    found = re.search(rf"^```{language}\n(.*?)^```$", (client / "README.md").read_text(), re.MULTILINE | re.DOTALL)
+    if not found or PLACE not in found[1]:
+        raise Different(f"{client}/README.md has no program in {language} for a server at {PLACE}")
+    return found[1].replace(PLACE, place)
+
+
+def check_version(client: str, version: str) -> None:
+    """The client must have the version of the programs."""
+    wanted = VERSION.read_text().split('"')[1]
+    if version != wanted:
+        raise Different(f"the client in {client} has version {version}, the programs have {wanted}")
+
+
+def copied(client: str, folder: Path, language: str, place: str, file: str, version: str) -> "tuple[Path, str]":
+    """A copy of a client's source, in which tools may write, and the program of its README. In the file is the version, by its pattern."""
+    top, copy = TOP / "clients" / client, folder / "source"
+    shutil.copytree(top, copy, ignore=shutil.ignore_patterns("out"))
+    found = re.search(version, (copy / file).read_text(), re.MULTILINE)
+    check_version(client.capitalize(), found[1] if found else "")
+    return copy, example(top, language, place)
 
 
 def of_python(*_: object) -> Built:
@@ -88,28 +146,6 @@ def of_python(*_: object) -> Built:
 def of_asyncio(*_: object) -> Built:
     """Nothing is built."""
     return Built([Program("asyncio", [sys.executable, str(PLAY), "--asyncio"])])
-
-
-def example(client: Path, language: str, place: str) -> str:
-    """The program of a client's README, its first block in this language, for a server at this place."""
-    found = re.search(rf"^```{language}\n(.*?)^```$", (client / "README.md").read_text(), re.MULTILINE | re.DOTALL)
-    if not found or PLACE not in found[1]:
-        raise NotBuilt(f"{client}/README.md has no program in {language} for a server at {PLACE}")
-    return found[1].replace(PLACE, place)
-
-
-def check_version(client: str, version: str) -> None:
-    """The client must have the version of the programs."""
-    wanted = VERSION.read_text().split('"')[1]
-    if version != wanted:
-        raise NotBuilt(f"the client in {client} has version {version}, the programs have {wanted}")
-
-
-# C.
-
-def compilers() -> List[str]:
-    """The C compilers that are here."""
-    return [it for it in ("gcc", "clang") if shutil.which(it)] or ["cc"]
 
 
 def over_shared(program: Path, libraries: Path) -> List[str]:
@@ -123,7 +159,7 @@ def install_c(compiler: str, folder: Path, place: str) -> List[List[str]]:
     (folder / "example.c").write_text(example(C, "c", place))
     headers, libraries = folder / "usr/include", folder / "usr/lib"
     flags = [f"-I{headers}", f"-L{libraries}", "-lmondlexi"]
-    if tools.PKG_CONFIG.is_here():
+    if PKG_CONFIG.is_here():
         told = ("env", f"PKG_CONFIG_PATH={libraries}/pkgconfig", "pkg-config")
         check_version("C", ran(*told, "--modversion", "mondlexi", at=folder).strip())
         flags = ran(*told, "--cflags", "--libs", "mondlexi", at=folder).split()
@@ -134,7 +170,7 @@ def install_c(compiler: str, folder: Path, place: str) -> List[List[str]]:
 
 def by_package(folder: Path, place: str) -> List[List[str]]:
     """Builds the program of the README with what libmondlexi-dev has, where that can be made and taken apart. How it is called."""
-    if not tools.PACKAGE.is_here():
+    if not PACKAGE.is_here():
         return []
     (folder / "room").mkdir(parents=True)
     made = packed.make_library(folder, folder / "room", "0.0.1", "nobody <root@localhost>", 0)
@@ -147,29 +183,9 @@ def by_package(folder: Path, place: str) -> List[List[str]]:
     return [over_shared(folder / "example", libraries)]
 
 
-def check_page(page: Path) -> None:
-    """The page of the manual must be without faults, where a program that says so is here."""
-    if tools.PAGE.is_here():
-        told = ran("groff", "-man", "-ww", "-z", "-Tutf8", page, at=page.parent)
-        if told:
-            raise NotBuilt(told)
-
-
-def try_examples(compiler: str, folder: Path) -> None:
-    """Builds the examples and tries them: a lock, and, where OpenSSL is installed, TLS."""
-    examples = {"lock_table": try_locks}
-    if tools.OVER_TLS.is_here():
-        examples["over_openssl"] = try_secure
-    for name, tries in examples.items():
-        ran("make", f"CC={compiler}", f"OUT={folder}/out", f"{folder}/out/{name}", at=C)
-        found = tries(folder / "out" / name)
-        if found:
-            raise NotBuilt(f"{name}: {found}")
-
-
 def over_proved(folder: Path) -> List[Program]:
     """Over the proved lines and readings, where `rt` is here, which builds them if they aren't built yet."""
-    if not tools.OVER_PROVED.is_here():
+    if not OVER_PROVED.is_here():
         return []
     if not PROVED.is_file():
         ran("rt", "lib", at=PROVED.parent.parent)
@@ -178,71 +194,50 @@ def over_proved(folder: Path) -> List[Program]:
 
 
 def of_c(folder: Path, place: str) -> Built:
-    """By each C compiler, and over what is proved; the program of the first one also under valgrind, where it is here."""
+    """By each C compiler, with its examples, a lock and TLS, and over what is proved; the program of the first one also under valgrind,
+    where it is here. The page of the manual must be without faults."""
     programs: List[Program] = []
     examples: List[List[str]] = []
-    for compiler in compilers():
-        ran("make", f"CC={compiler}", f"OUT={folder}/{compiler}/out", "all", f"{folder}/{compiler}/out/play", at=C)
-        examples += install_c(compiler, folder / compiler, place)
-        try_examples(compiler, folder / compiler)
-        programs.append(Program(f"c by {compiler}", [f"{folder}/{compiler}/out/play"]))
+    for compiler in [it for it in ("gcc", "clang") if shutil.which(it)] or ["cc"]:
+        own = folder / compiler
+        make = ("make", f"CC={compiler}", f"OUT={own}/out")
+        ran(*make, "all", f"{own}/out/play", at=C)
+        examples += install_c(compiler, own, place)
+        for name, tries in (("lock_table", try_locks), *([("over_openssl", try_secure)] if OVER_TLS.is_here() else [])):
+            ran(*make, f"{own}/out/{name}", at=C)
+            tries(own / "out" / name)
+        programs.append(Program(f"c by {compiler}", [f"{own}/out/play"]))
     programs += over_proved(folder / "proved")
-    check_page(C / "mondlexi.3")
+    ran_if(PAGE, "groff", "-man", "-ww", "-z", "-Tutf8", C / "mondlexi.3", at=C)
     examples += by_package(folder / "package", place)
-    if tools.MEMORY.is_here():
+    if MEMORY.is_here():
         programs.append(Program("c under valgrind", [*VALGRIND, *programs[0].words], is_slow=True))
     return Built(programs, examples)
 
 
-# Rust.
-
-def source_of(client: Path, folder: Path) -> Path:
-    """A copy of a client's source, in which tools may write."""
-    copy = folder / "source"
-    shutil.copytree(client, copy, ignore=shutil.ignore_patterns("out"))
-    return copy
-
-
 def of_rust(folder: Path, place: str) -> Built:
     """By cargo, without a network; rustfmt and clippy look at it, where they are here. The program of its README is one of its examples."""
-    source = source_of(RUST, folder)
+    source, readme = copied("rust", folder, "rust,no_run", place, "Cargo.toml", '^version = "(.*)"$')
     cargo = ("env", f"CARGO_TARGET_DIR={folder}/out", "cargo")
-    found = re.search('^version = "(.*)"$', (source / "Cargo.toml").read_text(), re.MULTILINE)
-    check_version("Rust", found[1] if found else "")
-    if tools.RUSTFMT.is_here():
-        ran(*cargo, "fmt", "--check", at=source)
-    if tools.CLIPPY.is_here():
-        ran(*cargo, "clippy", "--offline", "--all-targets", "--", "-D", "warnings", at=source)
+    ran_if(RUSTFMT, *cargo, "fmt", "--check", at=source)
+    ran_if(CLIPPY, *cargo, "clippy", "--offline", "--all-targets", "--", "-D", "warnings", at=source)
     ran(*cargo, "test", "--offline", at=source)
-    (source / "examples/readme.rs").write_text(example(RUST, "rust,no_run", place))
+    (source / "examples/readme.rs").write_text(readme)
     ran(*cargo, "build", "--offline", "--release", "--examples", at=source)
     made = f"{folder}/out/release/examples"
     return Built([Program("rust", [f"{made}/play"])], [[f"{made}/readme"]])
 
 
-# Go.
-
 def of_go(folder: Path, place: str) -> Built:
     """By go, without a network; gofmt and vet look at it. The program of its README is built too."""
-    source = source_of(GO, folder)
+    source, readme = copied("go", folder, "go", place, "mondlexi.go", '^const Version = "(.*)"$')
     (source / "example").mkdir()
-    (source / "example/main.go").write_text(example(GO, "go", place))
+    (source / "example/main.go").write_text(readme)
     go = ("env", "GOPROXY=off", "GOTOOLCHAIN=local", "GOFLAGS=", "go")
-    found = re.search('^const Version = "(.*)"$', (source / "mondlexi.go").read_text(), re.MULTILINE)
-    check_version("Go", found[1] if found else "")
-    badly = ran("gofmt", "-l", source, at=source) if tools.GOFMT.is_here() else ""
-    if badly:
-        raise NotBuilt(f"gofmt changes {badly}")
-    ran(*go, "vet", "./...", at=source)
-    ran(*go, "test", ".", at=source)
-    ran(*go, "build", "-o", folder, "./play", "./example", at=source)
+    ran_if(GOFMT, "gofmt", "-l", source, at=source)
+    for words in (("vet", "./..."), ("test", "."), ("build", "-o", folder, "./play", "./example")):
+        ran(*go, *words, at=source)
     return Built([Program("go", [f"{folder}/play"])], [[f"{folder}/example"]])
-
-
-# Node.
-
-TYPES_OF_NODE = "declare module 'node:tls' { export interface ConnectionOptions { servername?: string } }\n"
-"""What the client's types need of Node's, which a package of another project has."""
 
 
 def check_types(source: Path, folder: Path) -> None:
@@ -264,52 +259,35 @@ def old_node() -> str:
 
 def of_node(folder: Path, place: str) -> Built:
     """Nothing is built. Its own tests are run, and, where tsc is here, its types are tried."""
-    source = source_of(NODE, folder)
-    (source / "example.mjs").write_text(example(NODE, "js", place))
-    check_version("Node", json.loads((source / "package.json").read_text())["version"])
+    source, readme = copied("node", folder, "js", place, "package.json", '"version": "(.*)"')
+    (source / "example.mjs").write_text(readme)
     ran("node", "--test", "test", at=source)
-    if tools.TYPES.is_here():
+    if TYPES.is_here():
         check_types(source, folder)
     return Built([Program("node", ["node", f"{source}/play.js"])], [["node", f"{source}/example.mjs"]])
 
 
-# Java.
-
-QUICK = ("-XX:TieredStopAtLevel=1", "-XX:+UseSerialGC", "-Xmx64m")
-"""For a program that doesn't run for long."""
-
-
-def keys_for_tls(folder: Path) -> Path:
-    """A file of keytool with a key for this machine; none is there if keytool isn't."""
-    keys = folder / "keys"
-    if tools.KEYS.is_here():
-        about = ("-dname", "CN=server", "-ext", "SAN=IP:127.0.0.1", "-validity", "2", "-storetype", "PKCS12", "-storepass", "changeit")
-        ran("keytool", "-genkeypair", "-alias", "server", "-keyalg", "EC", *about, "-keystore", keys, at=folder)
-    return keys
-
-
 def of_java(folder: Path, place: str) -> Built:
-    """By javac, whose warnings are errors. Its own tests are run, and the program of its README is built."""
-    source = source_of(JAVA, folder)
-    (source / "AddOne.java").write_text(example(JAVA, "java", place))
-    found = re.search('VERSION = "(.*)";', (source / "src/mondlexi/Client.java").read_text())
-    check_version("Java", found[1] if found else "")
-    javac = ("javac", "--release", "17", "-Xlint:all", "-Xdoclint:all/protected", "-Werror", "-d", folder / "out")
-    ran(*javac, *sorted((source / "src/mondlexi").glob("*.java")), at=source)
-    ran("javac", "--release", "17", "-Xlint:all", "-Werror", "-cp", folder / "out", "-d", folder / "out", "play/Play.java",
-        "test/ClientTest.java", "AddOne.java", at=source)
+    """By javac, whose warnings are errors. Its own tests are run, with a key for TLS where keytool is here, and the program of its README is built."""
+    source, readme = copied("java", folder, "java", place, "src/mondlexi/Client.java", 'VERSION = "(.*)";')
+    (source / "AddOne.java").write_text(readme)
+    javac = ("javac", "--release", "17", "-Werror", "-d", folder / "out")
+    ran(*javac, "-Xlint:all", "-Xdoclint:all/protected", *sorted((source / "src/mondlexi").glob("*.java")), at=source)
+    ran(*javac, "-Xlint:all", "-cp", folder / "out", "play/Play.java", "test/ClientTest.java", "AddOne.java", at=source)
+    about = ("-dname", "CN=server", "-ext", "SAN=IP:127.0.0.1", "-validity", "2", "-storetype", "PKCS12", "-storepass", "changeit")
+    ran_if(KEYS, "keytool", "-genkeypair", "-alias", "server", "-keyalg", "EC", *about, "-keystore", folder / "keys", at=folder)
     java = ("java", *QUICK, "-cp", f"{folder}/out")
-    ran(*java, "ClientTest", keys_for_tls(folder), at=folder)
+    ran(*java, "ClientTest", folder / "keys", at=folder)
     return Built([Program("java", [*java, "Play"])], [[*java, "AddOne"]])
 
 
-OF_C = (tools.GCC, tools.CLANG, tools.PKG_CONFIG, tools.PACKAGE, tools.PAGE, tools.OVER_TLS, tools.OVER_PROVED, tools.MEMORY)
+OF_C = (GCC, CLANG, PKG_CONFIG, PACKAGE, PAGE, OVER_TLS, OVER_PROVED, MEMORY)
 CLIENTS = (
     Client("python", (), of_python),
     Client("asyncio", (), of_asyncio),
     Client("c", ("cc", "make"), of_c, OF_C),
-    Client("rust", ("cargo",), of_rust, (tools.RUSTFMT, tools.CLIPPY)),
-    Client("go", ("go",), of_go, (tools.GOFMT,)),
-    Client("node", ("node",), of_node, (tools.TYPES,), old_node),
-    Client("java", ("javac", "java"), of_java, (tools.KEYS,)),
+    Client("rust", ("cargo",), of_rust, (RUSTFMT, CLIPPY)),
+    Client("go", ("go",), of_go, (GOFMT,)),
+    Client("node", ("node",), of_node, (TYPES,), old_node),
+    Client("java", ("javac", "java"), of_java, (KEYS,)),
 )

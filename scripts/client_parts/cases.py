@@ -1,23 +1,63 @@
-"""Plays the table of cases: a client's program against the server of a case.
+"""Plays the table of cases: a client's program, as a thing that is asked, a line in and a line out, against the server of a case.
 
-Used by: scripts/check-clients, wrong.py.
+Used by: scripts/check-clients, scripts/check-programs, runs.py, wrong.py.
 """
+import contextlib
+import subprocess
 import tempfile
+import threading
 import time
 from concurrent.futures import ThreadPoolExecutor
 from pathlib import Path
-from typing import List, Optional, Sequence
+from typing import Iterator, List, Optional, Sequence
 
 from .peer import Different, Peer
-from .players import Player
 from .table import Case
 
+PATIENCE = 60.0
+"""After how many seconds without an answer a program is ended."""
 AT_ONCE = 8
 """How many cases are played side by side."""
 
 
+class Player:
+    """A client's program that runs."""
+
+    def __init__(self, words: Sequence[str]) -> None:
+        self._process = subprocess.Popen(words, stdin=subprocess.PIPE, stdout=subprocess.PIPE, text=True, bufsize=1, errors="replace")
+
+    @contextlib.contextmanager
+    def _within_patience(self) -> Iterator[None]:
+        """Ends the program if this takes too long."""
+        watch = threading.Timer(PATIENCE, self._process.kill)
+        watch.start()
+        try:
+            with contextlib.suppress(OSError):
+                yield
+        finally:
+            watch.cancel()
+
+    def ask(self, line: str) -> str:
+        """What it tells of a call; nothing if it has ended, or was ended because it told nothing for too long."""
+        assert self._process.stdin and self._process.stdout
+        with self._within_patience():
+            self._process.stdin.write(line + "\n")
+            self._process.stdin.flush()
+            return self._process.stdout.readline().rstrip("\n")
+        return ""
+
+    def end(self) -> int:
+        """Ends its input and waits until it has ended. Its status."""
+        assert self._process.stdin and self._process.stdout
+        with self._within_patience():
+            self._process.stdin.close()
+        with self._within_patience(), self._process.stdout:
+            self._process.wait()
+        return self._process.returncode
+
+
 def ask_all(case: Case, player: Player, at: str) -> None:
-    """Makes the calls of a case. Different if one tells something else, or comes too early."""
+    """Makes the calls of a case. Different if one tells something else, or comes too early or too late."""
     told, took = "", 0.0
     for step in case.calls:
         if step.kind == "call":
@@ -26,10 +66,8 @@ def ask_all(case: Case, player: Player, at: str) -> None:
             took = (time.monotonic() - began) * 1000
         elif step.kind == "tells" and told != step.text:
             raise Different(f"{step.place}: {told!r} is told in place of {step.text!r}")
-        elif step.kind == "takes" and took < int(step.text):
-            raise Different(f"{step.place}: the call took {took:.0f} ms in place of {step.text} or more")
-        elif step.kind == "within" and took > int(step.text):
-            raise Different(f"{step.place}: the call took {took:.0f} ms in place of {step.text} at most")
+        elif step.kind == "takes" and took < int(step.text) or step.kind == "within" and took > int(step.text):
+            raise Different(f"{step.place}: the call took {took:.0f} ms in place of {step.text} {'or more' if step.kind == 'takes' else 'at most'}")
 
 
 def play_with(case: Case, player: Player, folder: Path, is_last: bool) -> None:
@@ -61,18 +99,13 @@ def play(case: Case, player: Player, is_last: bool) -> Optional[str]:
     return None
 
 
-def play_in_one(cases: Sequence[Case], words: Sequence[str]) -> List[Optional[str]]:
-    """What differs in each case, by one process of a client's program."""
-    player = Player(words)
-    found = [play(case, player, False) for case in cases]
-    status = player.end()
-    return [*found, f"the client's program ended with status {status}" if status else None]
-
-
 def play_all(cases: Sequence[Case], words: Sequence[str], is_slow: bool) -> List[str]:
-    """What differs in the cases. A program that isn't slow is begun for each case."""
+    """What differs in the cases. A program that isn't slow is begun for each case; one process of a slow one plays all."""
     if is_slow:
-        found = play_in_one(cases, words)
+        player = Player(words)
+        found = [play(case, player, False) for case in cases]
+        status = player.end()
+        found.append(f"the client's program ended with status {status}" if status else None)
     else:
         with ThreadPoolExecutor(AT_ONCE) as pool:
             found = list(pool.map(lambda case: play(case, Player(words), True), cases))

@@ -7,18 +7,19 @@ import socket
 import subprocess
 import tempfile
 from pathlib import Path
-from typing import List, Optional, Sequence, Tuple
+from typing import Callable, Sequence, Tuple
 
 from program_parts.tls import NAME, Front, make_certificates
 
 from .peer import HOST, Different, Peer
-from .table import Case, Step, steps_of
+from .table import Case, steps_of
+
+Told = Tuple[int, str, str]
 
 GOES_WELL = ("again", "sent GET 0", r"says VAL 5\n", "sent CAS 0:5:6", r"says YES\n", "sent QUIT", r"says BYE\n", "ends")
 BREAKS = ("again", "sent GET 0", "shuts", *GOES_WELL)
 IS_FULL = ("opens", "shuts")
 DONE = (0, "6\n", "")
-REFUSED = "there is no connection"
 FULL = "the server closed the connection before any reply"
 LONGEST = 30
 LOOK = ("sent GET 6", "sent GET 7", "sent GET 6", "sent GET 7")
@@ -46,90 +47,58 @@ TOKENS = {"a lock whose lease was over before the reply": "6\n"}
 LATE = ("again", *LOOK, "ends")
 
 
-def server_of(lines: Sequence[str], folder: Path) -> Peer:
-    """A server that plays these steps."""
-    steps: List[Step] = [step for line in lines for step in steps_of(line, line)]
-    return Peer(Case("of an example", [], steps), folder)
-
-
-def told_by(program: Path, folder: Path, at: str, name: str = HOST, authority: str = "authority.pem") -> Tuple[int, str, str]:
-    """What the example tells: its status, what it prints, and the meaning of its failure."""
-    words = [str(program), at, name, authority]
-    ended = subprocess.run(words, cwd=folder, stdin=subprocess.DEVNULL, capture_output=True, text=True, timeout=LONGEST)
-    return ended.returncode, ended.stdout, ended.stderr.rpartition("\n")[0].rpartition("\n")[2].partition(":")[0]
-
-
-def try_server(program: Path, folder: Path, kind: str, lines: Sequence[str], wanted: Tuple[int, str, str]) -> Optional[str]:
-    """What is the matter at a server behind a front of this kind; None if nothing is."""
-    peer = server_of(lines, folder)
-    told = told_by(program, folder, Front(folder, kind, peer.at).at, HOST if kind == "host" else NAME)
+def told_by(folder: Path, lines: Sequence[str], words: Callable[[str], Sequence[object]]) -> Told:
+    """What a program tells at a server that plays these steps, by whose place it is called: its status, what it prints, and what it says
+    is wrong. Different if something else came to the server."""
+    peer = Peer(Case("of an example", [], [step for line in lines for step in steps_of(line, line)]), folder)
     try:
+        told = run(words(peer.at), folder)
         peer.wait()
-    except Different as found:
-        return str(found)
     finally:
         peer.close()
-    return None if told == wanted else f"{' '.join(lines)}: {told}"
+    return told
 
 
-def try_lock(program: Path, folder: Path, what: str) -> Optional[str]:
-    """What is the matter with the example that takes a lock; None if nothing is."""
-    peer = server_of(LOCKS[what], folder)
-    words = [str(program), peer.at, "3", "3"]
-    ended = subprocess.run(words, stdin=subprocess.DEVNULL, capture_output=True, text=True, timeout=LONGEST)
-    try:
-        peer.wait()
-    except Different as found:
-        return f"{what}: {found}"
-    finally:
-        peer.close()
-    return None if (ended.returncode, ended.stdout) == (0, TOKENS.get(what, "5\n")) else f"{what}: {ended}"
+def run(words: Sequence[object], folder: Path) -> Told:
+    """What a program tells."""
+    ended = subprocess.run([str(it) for it in words], cwd=folder, stdin=subprocess.DEVNULL, capture_output=True, text=True, timeout=LONGEST)
+    return ended.returncode, ended.stdout, ended.stderr
 
 
-def try_failure(program: Path, at: str, wanted: str) -> Optional[str]:
-    """What is the matter with what is told of a server that isn't there or doesn't answer; None if nothing is."""
-    ended = subprocess.run([str(program), at, "3", "3"], stdin=subprocess.DEVNULL, capture_output=True, text=True, timeout=LONGEST)
-    told = ended.returncode, ended.stdout, ended.stderr
-    return None if told == (1, "", f"lock_table: {wanted}\n") else f"{at}: {told}"
+def check(what: str, told: Told, wanted: Told) -> None:
+    """Different if a program told something else."""
+    if told != wanted:
+        raise Different(f"{what}: {told} in place of {wanted}")
 
 
-def try_failures(program: Path, folder: Path) -> Optional[str]:
-    """What is the matter with the texts of failures; None if nothing is."""
-    peer = server_of(LATE, folder)
-    found = [try_failure(program, peer.at, "there is no connection: connected, but no reply in 2000 ms"),
-             try_failure(program, HOST, "an argument is out of its range: a server is HOST:PORT or unix:PATH")]
-    try:
-        peer.wait()
-    except Different as differs:
-        found.append(str(differs))
-    finally:
-        peer.close()
-    return next((it for it in found if it), None)
+def meaning(told: Told) -> Told:
+    """The same with the meaning of the failure alone, without what is told of it."""
+    return told[0], told[1], told[2].rpartition("\n")[0].rpartition("\n")[2].partition(":")[0]
 
 
-def try_locks(program: Path) -> Optional[str]:
-    """What is the matter; None if nothing is."""
+def try_locks(program: Path) -> None:
+    """The example that takes a lock, and the texts of its failures. Different if anything is the matter."""
     with tempfile.TemporaryDirectory(prefix="locks-") as room:
-        found = [try_lock(program, Path(room), what) for what in LOCKS] + [try_failures(program, Path(room))]
-        return next((it for it in found if it), None)
+        folder = Path(room)
+        for what, lines in LOCKS.items():
+            told = told_by(folder, lines, lambda at: (program, at, 3, 3))
+            check(what, (*told[:2], ""), (0, TOKENS.get(what, "5\n"), ""))
+        late = told_by(folder, LATE, lambda at: (program, at, 3, 3))
+        check("a late reply", late, (1, "", "lock_table: there is no connection: connected, but no reply in 2000 ms\n"))
+        check(HOST, run((program, HOST, 3, 3), folder), (1, "", "lock_table: an argument is out of its range: a server is HOST:PORT or unix:PATH\n"))
 
 
-def try_refused(program: Path, folder: Path, at: str, *words: str) -> Optional[str]:
-    """What is the matter where it may not connect; None if nothing is."""
-    told = told_by(program, folder, at, *words)
-    return None if told == (1, "", REFUSED) else f"{' '.join([at, *words])}: {told}"
-
-
-def try_secure(program: Path) -> Optional[str]:
-    """What is the matter; None if nothing is."""
+def try_secure(program: Path) -> None:
+    """The example over OpenSSL, at servers behind a front of TLS, and where it may not connect. Different if anything is the matter."""
     with tempfile.TemporaryDirectory(prefix="secure-") as room:
         folder = Path(room)
         make_certificates(folder)
-        found = [try_server(program, folder, kind, lines, wanted) for kind, lines, wanted in (
-            ("host", GOES_WELL, DONE), ("name", GOES_WELL, DONE), ("host", BREAKS, DONE), ("host", IS_FULL, (1, "", FULL)))]
+        for kind, name, lines, wanted in (("host", HOST, GOES_WELL, DONE), ("name", NAME, GOES_WELL, DONE), ("host", HOST, BREAKS, DONE),
+                                          ("host", HOST, IS_FULL, (1, "", FULL))):
+            told = told_by(folder, lines, lambda at: (program, Front(folder, kind, at).at, name, "authority.pem"))
+            check(f"{kind}: {' '.join(lines)}", meaning(told), wanted)
+        named = Front(folder, "name", f"{HOST}:1").at
         # Nobody takes what comes there, so that a greeting of TLS gets no answer.
         with socket.create_server((HOST, 0)) as silent:
-            found.append(try_refused(program, folder, f"{HOST}:{silent.getsockname()[1]}"))
-        named = Front(folder, "name", f"{HOST}:1").at
-        found += [try_refused(program, folder, named), try_refused(program, folder, named, NAME, "client.pem")]
-        return next((it for it in found if it), None)
+            for words in ((f"{HOST}:{silent.getsockname()[1]}", HOST, "authority.pem"), (named, HOST, "authority.pem"), (named, NAME, "client.pem")):
+                check(" ".join(words), meaning(run((program, *words), folder)), (1, "", "there is no connection"))

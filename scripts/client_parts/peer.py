@@ -1,21 +1,25 @@
 """The server of a case: it listens, takes the lines that the table tells, and says what the table tells.
 
-Used by: scripts/check-clients, cases.py, examples.py, readme.py, twelve.py. A further step of the server is a function here, a word in
+Used by: scripts/check-clients, builds.py, cases.py, examples.py, runs.py. A further step of the server is a method here, a word in
 table.py, and a row of clients/cases/README.md.
 """
-import os
+import contextlib
 import socket
 import struct
 import threading
 import time
 from pathlib import Path
-from typing import Callable, Dict, List, Optional
+from typing import List, Optional
 
 from .table import Case, Step, bytes_of
 
 HOST = "127.0.0.1"
 PATIENCE = 30.0
 """For how many seconds what has to come is waited for."""
+LONGEST_PAUSE = 250
+"""In milliseconds, the pause after BUSY that doubles no more. The first one is 1; each is cut by up to half, at random."""
+EARLY, LATE, APART = 1, 2000, 10
+"""By so many milliseconds a client's clock may round, and a busy machine may delay it; the longest pauses differ by more than the last."""
 LAST = b"QUIT\n"
 """What a client may send after the last step."""
 
@@ -25,49 +29,42 @@ class Different(Exception):
 
 
 class Peer:
-    """A server that plays a case in a thread of its own."""
+    """A server that plays a case in a thread of its own. The method that does a step has the step's name."""
 
     def __init__(self, case: Case, folder: Path) -> None:
-        self._case, self._path = case, folder / "s"
+        self._path = folder / "s"
         self._rest = b""
         self._connection: Optional[socket.socket] = None
         self._fillers: List[socket.socket] = []
         self._is_stopped = False
-        self._listener = self._listen()
-        self._kinds: Dict[str, Callable[[Step], None]] = {
-            "opens": self._open, "sent": self._take, "says": self._say, "quiet": self._stay_quiet, "ends": self._end, "shuts": self._shut,
-            "resets": self._reset, "stops": self._stop, "fills": self._fill, "frees": self._free}
+        if case.is_local:
+            self._listener = socket.socket(socket.AF_UNIX)
+            self._listener.bind(str(self._path))
+            self._listener.listen(0)
+            self.at = f"unix:{self._path}"
+        else:
+            self._listener = socket.create_server((HOST, 0))
+            self.at = f"{HOST}:{self._listener.getsockname()[1]}"
+        self._listener.settimeout(PATIENCE)
         self.found: Optional[str] = None
         """What differed, if anything did."""
         # What has to be so before the client's program begins.
-        self._first = [step for step in case.server[:1] if step.kind in ("stops", "fills")]
-        self._play_all(self._first)
-        self._thread = threading.Thread(target=self._play, daemon=True)
+        first = [step for step in case.server[:1] if step.kind in ("stops", "fills")]
+        self._play(first)
+        self._thread = threading.Thread(target=self._play_rest, args=(case.server[len(first):],), daemon=True)
         self._thread.start()
 
-    def _listen(self) -> socket.socket:
-        if self._case.is_local:
-            listener = socket.socket(socket.AF_UNIX)
-            listener.bind(str(self._path))
-            listener.listen(0)
-            self.at = f"unix:{self._path}"
-        else:
-            listener = socket.create_server((HOST, 0))
-            self.at = f"{HOST}:{listener.getsockname()[1]}"
-        listener.settimeout(PATIENCE)
-        return listener
-
-    def _play(self) -> None:
+    def _play_rest(self, steps: List[Step]) -> None:
         try:
-            self._play_all(self._case.server[len(self._first):])
+            self._play(steps)
         except Different as found:
             self.found = str(found)
             self.close()
 
-    def _play_all(self, steps: List[Step]) -> None:
+    def _play(self, steps: List[Step]) -> None:
         for step in steps:
             try:
-                self._kinds[step.kind](step)
+                getattr(self, f"_{step.kind}")(step.text)
             except (OSError, Different) as found:
                 raise Different(f"{step.place}: {step.kind} {step.text}: {found}") from None
 
@@ -88,17 +85,21 @@ class Peer:
         if self._is_stopped or self._fillers:
             return
         self._listener.settimeout(0)
-        try:
+        with contextlib.suppress(OSError):
             self._listener.accept()[0].close()
-        except OSError:
-            return
-        raise Different("after the last step came a connection")
+            raise Different("after the last step came a connection")
 
-    def _all_of(self, connection: socket.socket) -> bytes:
+    @staticmethod
+    def _all_of(connection: socket.socket) -> bytes:
         try:
             return b"".join(iter(lambda: connection.recv(4096), b""))
         except OSError:
             return b""
+
+    def _here(self) -> socket.socket:
+        if not self._connection:
+            raise Different("there is no connection")
+        return self._connection
 
     def close(self) -> None:
         """Closes all that is open."""
@@ -108,68 +109,75 @@ class Peer:
 
     # The steps.
 
-    def _open(self, _: Step) -> None:
+    def _opens(self, _: str) -> None:
         if self._connection:
             self._connection.close()
         self._rest = b""
-        self._connection, _ = self._listener.accept()
+        self._connection = self._listener.accept()[0]
         self._connection.settimeout(PATIENCE)
 
-    def _here(self) -> socket.socket:
-        if not self._connection:
-            raise Different("there is no connection")
-        return self._connection
-
-    def _take(self, step: Step) -> None:
+    def _sent(self, text: str) -> None:
         while b"\n" not in self._rest:
             piece = self._here().recv(4096)
             if not piece:
                 raise Different(f"the client ended the connection after {self._rest!r}")
             self._rest += piece
         line, _, self._rest = self._rest.partition(b"\n")
-        if line != step.text.encode():
+        if line != text.encode():
             raise Different(f"{line.decode(errors='replace')!r} was sent")
 
-    def _say(self, step: Step) -> None:
+    def _says(self, text: str) -> None:
         connection = self._here()
         if connection.family == socket.AF_INET:
             connection.setsockopt(socket.IPPROTO_TCP, socket.TCP_NODELAY, 1)
-        connection.sendall(bytes_of(step.text))
+        connection.sendall(bytes_of(text))
 
-    def _stay_quiet(self, step: Step) -> None:
-        time.sleep(int(step.text) / 1000)
+    def _busy(self, text: str) -> None:
+        count, _, line = text.partition(" ")
+        longest: List[float] = []
+        for number in range(int(count)):
+            began, usual = time.monotonic(), min(2 ** number, LONGEST_PAUSE)
+            self._says(r"BUSY\n")
+            self._sent(line)
+            pause = (time.monotonic() - began) * 1000
+            if not usual / 2 - EARLY <= pause <= usual + LATE:
+                raise Different(f"pause {number + 1} took {pause:.1f} ms, and has {usual / 2:g} to {usual}")
+            longest += [pause] * (usual == LONGEST_PAUSE)
+        if longest and (min(longest) >= LONGEST_PAUSE or max(longest) - min(longest) <= APART):
+            raise Different(f"the longest pauses are not random: {min(longest):.1f} to {max(longest):.1f} ms")
+
+    def _quiet(self, text: str) -> None:
+        time.sleep(int(text) / 1000)
         self._here().settimeout(0)
-        try:
+        with contextlib.suppress(BlockingIOError):
             self._rest += self._here().recv(4096)
-        except BlockingIOError:
-            pass
         self._here().settimeout(PATIENCE)
         if self._rest:
             raise Different(f"{self._rest!r} was sent")
 
-    def _end(self, _: Step) -> None:
+    def _ends(self, _: str) -> None:
         more = self._rest + self._all_of(self._here())
         if more:
             raise Different(f"{more!r} was sent")
 
-    def _shut(self, _: Step) -> None:
+    def _shuts(self, _: str) -> None:
         self._here().close()
         self._connection = None
 
-    def _reset(self, step: Step) -> None:
+    def _resets(self, text: str) -> None:
         self._here().setsockopt(socket.SOL_SOCKET, socket.SO_LINGER, struct.pack("ii", 1, 0))
-        self._shut(step)
+        self._shuts(text)
 
-    def _stop(self, _: Step) -> None:
+    def _stops(self, _: str) -> None:
         # The port stays taken, so that no other server is found there.
         self._listener.shutdown(socket.SHUT_RDWR)
         self._is_stopped = True
 
-    def _fill(self, _: Step) -> None:
+    def _fills(self, _: str) -> None:
         filler = socket.socket(socket.AF_UNIX)
-        filler.connect(os.fspath(self._path))
+        filler.connect(str(self._path))
         self._fillers.append(filler)
 
-    def _free(self, _: Step) -> None:
+    def _frees(self, _: str) -> None:
         time.sleep(0.3)
         self._listener.accept()[0].close()

@@ -27,9 +27,12 @@ def told_error(error: Exception) -> str:
 
 def told_outcome(outcome: mondlexi.Outcome) -> str:
     """How a change ended."""
-    if outcome.made:
-        return "made"
-    return "not" if outcome.address is None else f"not {outcome.address} {outcome.value}"
+    return "made" if outcome.made else "not" if outcome.address is None else f"not {outcome.address} {outcome.value}"
+
+
+def told_values(values: List[int]) -> str:
+    """What a read gives."""
+    return " ".join(["values", *map(str, values)])
 
 
 def told_report(report: mondlexi.Report) -> str:
@@ -58,15 +61,16 @@ class Player:
         self._client: Any = None
         self._counted: Any = None
         self._calls: Dict[str, Callable[[List[str]], str]] = {
-            "client": self._connect, "administrator": self._administer, "counted": self._count, "reconnect": self._reconnect,
-            "get": lambda words: self._told([self._client.get(int(words[0]))]),
-            "get_many": lambda words: self._told(self._client.get_many(map(int, words))),
-            "read": lambda words: self._told(self._client.read(map(int, words))),
-            "stable": lambda words: self._told(self._client.stable(map(int, words))),
+            "client": self._connect, "administrator": self._administer, "counted": self._count,
+            "get": lambda words: told_values([self._client.get(int(words[0]))]),
+            "get_many": lambda words: told_values(self._client.get_many(map(int, words))),
+            "read": lambda words: told_values(self._client.read(map(int, words))),
+            "stable": lambda words: told_values(self._client.stable(map(int, words))),
             "cas": lambda words: told_outcome(self._client.cas(entries_of(words))),
             "counted_cas": lambda words: told_outcome(self._counted.cas(entries_of(words))),
             "settle": lambda _: "made" if self._counted.settle() else "not",
             "report": lambda _: told_report(self._client.report()),
+            "reconnect": lambda words: "connected" if self._client.reconnect(int(words[0]) / 1000) is None else "",
             "close": lambda _: self._close(),
         }
 
@@ -90,17 +94,11 @@ class Player:
         self._counted = self._clients.Counted(self._client, int(words[0]), *options_of(words[1:]).values())
         return "counted"
 
-    def _reconnect(self, words: List[str]) -> str:
-        self._client.reconnect(int(words[0]) / 1000)
-        return "connected"
-
     def _close(self) -> str:
-        self._client.close()
+        """A client that never connected is none."""
+        if self._client is not None:
+            self._client.close()
         return "closed"
-
-    @staticmethod
-    def _told(values: List[int]) -> str:
-        return " ".join(["values", *map(str, values)])
 
 
 def main() -> int:

@@ -1,6 +1,6 @@
 """The table of cases of clients/cases: its files, from their text to steps. clients/cases/README.md says what each step means.
 
-Used by: scripts/check-clients, cases.py, examples.py, peer.py, wrong.py. A further step is a word here, a row of that page, and, if the
+Used by: scripts/check-clients, scripts/check-programs, cases.py, examples.py, peer.py, wrong.py. A further step is a word here, a row of that page, and, if the
 server does it, a function of peer.py.
 """
 import re
@@ -10,7 +10,7 @@ from typing import Dict, Iterator, List, NamedTuple, NoReturn, Tuple
 FOLDER = Path(__file__).resolve().parent.parent.parent / "clients/cases"
 OF_CALLS = ("call", "tells", "takes", "within")
 """The steps of the client's program."""
-OF_SERVER = ("opens", "sent", "says", "quiet", "ends", "shuts", "resets", "stops", "fills", "frees")
+OF_SERVER = ("opens", "sent", "says", "busy", "quiet", "ends", "shuts", "resets", "stops", "fills", "frees")
 SHORT: Dict[str, Tuple[str, ...]] = {
     "begin": ("call client SERVER t OPTIONS", "again", "tells words 9"),
     "administer": ("call administrator SERVER OPTIONS", "opens", "sent ADMIN", r"says OK ADMIN\n", "tells connected"),
@@ -82,8 +82,8 @@ def add(case: Case, step: Step) -> None:
     if step.kind in OF_CALLS:
         case.calls.append(step._replace(text=repeated_words(step.text)))
     elif step.kind == "sent":
-        found = re.fullmatch(r"(.*?)(?: \*(\d+))?", step.text)
-        case.server.extend([step._replace(text=found[1])] * int(found[2] or 1) if found else [])
+        text, _, count = step.text.rpartition(" *") if re.search(r" \*\d+$", step.text) else (step.text, "", "1")
+        case.server.extend([step._replace(text=text)] * int(count))
     elif step.kind in OF_SERVER:
         case.server.append(step._replace(text=repeated(step.text)))
     else:
@@ -94,19 +94,13 @@ def cases_of(path: Path) -> List[Case]:
     """The cases of a file."""
     found: List[Case] = []
     for number, line in enumerate(path.read_text().splitlines(), 1):
+        place = f"{path.name}:{number}"
         if line.startswith("case "):
             found.append(Case(line[len("case "):], [], []))
         elif line and not line.startswith("#"):
-            add_line(found, line, f"{path.name}:{number}")
+            for step in steps_of(line, place):
+                add(found[-1] if found else fail(place, "a step before the first case"), step)
     return found
-
-
-def add_line(cases: List[Case], line: str, place: str) -> None:
-    """Adds the steps of a line to the last case."""
-    if not cases:
-        fail(place, "a step before the first case")
-    for step in steps_of(line, place):
-        add(cases[-1], step)
 
 
 def all_cases() -> List[Case]:

@@ -2,6 +2,7 @@
 
 Used by: scripts/check-wrong-bodies. It does the steps 2 to 4 of that script's head, which says when an edit counts as refused: change both.
 """
+import contextlib
 from dataclasses import dataclass
 from typing import Dict, FrozenSet, Iterable, List
 
@@ -13,6 +14,7 @@ from .room import Room
 
 WIDTH = 200
 """So many characters of a reason are shown."""
+TOOK_AWAY = "only a proof file names what the edit took away"
 
 
 @dataclass(frozen=True)
@@ -45,13 +47,9 @@ class Trials:
     def fits(self, edit: Edit, others: List[Edit]) -> bool:
         """Whether an edit can be tried beside these: it changes other functions, and its text is still there once after theirs."""
         taken = [self.places[it] for it in others]
-        if not all(taken) or self.places[edit] & frozenset().union(*taken):
-            return False
-        try:
-            self.texts([*others, edit])
-        except BadEdit:
-            return False
-        return True
+        with contextlib.suppress(BadEdit):
+            return all(taken) and not self.places[edit] & frozenset().union(*taken) and bool(self.texts([*others, edit]))
+        return False
 
     def texts(self, edits: List[Edit]) -> Dict[str, str]:
         """The texts that these edits change."""
@@ -97,7 +95,7 @@ class Trials:
         others = set(report.refused()).difference(*names.values())
         if others:
             raise Unclear(f"others are not proved: {', '.join(sorted(others))}")
-        told = {edit: self.reason(own, report) for edit, own in names.items()}
+        told = {edit: reason_of(own, report) for edit, own in names.items()}
         return {edit: Found(True, why) for edit, why in told.items() if why}
 
     def lines_of(self, edit: Edit, names: Iterable[str]) -> List[str]:
@@ -111,11 +109,6 @@ class Trials:
                 raise Unclear(f"the check has no line on {place.module} {place.name}, which {edit.name} changes")
         return self.lines_of(edit, report.refused())
 
-    def reason(self, names: List[str], report: Report) -> str:
-        """Why these functions are refused; nothing if it is only that a proof file names what isn't there."""
-        reasons = [it for name in names for it in report.reasons_of(name)]
-        return next((f"{names[0]}: {it[:WIDTH]}" for it in reasons if not TAKEN_AWAY.match(it)), "")
-
     def tried_alone(self, edit: Edit) -> Found:
         """Tries one edit."""
         try:
@@ -125,15 +118,26 @@ class Trials:
             if report.is_proved:
                 return Found(False, "the crate is still proved")
             if not self.places[edit]:
-                reason = next((it[:WIDTH] for it in report.reasons() if not TAKEN_AWAY.match(it)), "")
-                return Found(bool(reason), reason or "only a proof file names what the edit took away")
+                reason = first_reason(report.reasons())
+                return Found(bool(reason), reason or TOOK_AWAY)
             names = self.refused_functions(edit, report)
         except (BadEdit, Unclear) as fault:
             return Found(False, str(fault))
         if not names:
             return Found(False, f"its function is proved, and only others aren't: {', '.join(report.refused())}")
-        reason = self.reason(names, report)
-        return Found(bool(reason), reason or f"{names[0]}: only a proof file names what the edit took away")
+        reason = reason_of(names, report)
+        return Found(bool(reason), reason or f"{names[0]}: {TOOK_AWAY}")
+
+
+def first_reason(reasons: List[str]) -> str:
+    """The first of these reasons; nothing if it is only that a proof file names what isn't there."""
+    return next((it[:WIDTH] for it in reasons if not TAKEN_AWAY.match(it)), "")
+
+
+def reason_of(names: List[str], report: Report) -> str:
+    """Why these functions are refused."""
+    reason = first_reason([it for name in names for it in report.reasons_of(name)])
+    return f"{names[0]}: {reason}" if reason else ""
 
 
 def tell(edit: Edit, found: Found) -> None:

@@ -3,12 +3,9 @@
 All is as small as a trial needs, without keys: nobody else is on the hosts' network. Used by: scripts/check-volume.
 """
 import uuid
-from pathlib import Path
 
-from .gluster import until
-from .hosts import PATIENCE, Host, Network
+from .hosts import MOUNTED, Host, Network, mount, until
 
-MOUNTED = "/srv/mw"
 LOCAL = "/srv/local"
 FOLDERS = ("/etc/ceph", "/var/lib/ceph", "/var/log/ceph", "/srv")
 NEEDS = ("ceph", "ceph-mon", "ceph-osd", "ceph-mds", "ceph-mgr", "ceph-fuse", "monmaptool")
@@ -59,17 +56,6 @@ def prepare(network: Network) -> None:
         host.run("ceph-mon", "--mkfs", "-i", host.name, "--monmap", "/etc/ceph/monmap")
 
 
-def begin_monitor(host: Host) -> None:
-    host.path("/run/ceph").mkdir(exist_ok=True)
-    host.run("ceph-mon", "-i", host.name, "--public-addr", host.address)
-
-
-def begin_others(host: Host) -> None:
-    host.run("ceph-mgr", "-i", host.name)
-    host.run("ceph-osd", "-i", host.number - 1)
-    host.run("ceph-mds", "-i", host.name)
-
-
 def ceph(host: Host, *words: object, may_fail: bool = False) -> str:
     return host.run("ceph", "--connect-timeout", 10, *words, may_fail=may_fail)
 
@@ -79,8 +65,9 @@ def make(network: Network) -> None:
     prepare(network)
     one = network.hosts[0]
     for host in network.hosts:
-        begin_monitor(host)
-    until(lambda: "quorum" in ceph(one, "quorum_status", may_fail=True), "the monitors agree", PATIENCE)
+        host.path("/run/ceph").mkdir(exist_ok=True)
+        host.run("ceph-mon", "-i", host.name, "--public-addr", host.address)
+    until(lambda: "quorum" in ceph(one, "quorum_status", may_fail=True), "the monitors agree")
     ceph(one, "mon", "enable-msgr2", may_fail=True)
     for host in network.hosts:
         osd = str(uuid.uuid4())
@@ -89,27 +76,17 @@ def make(network: Network) -> None:
         ceph(one, "osd", "crush", "add-bucket", host.name, "host")
         ceph(one, "osd", "crush", "move", host.name, "root=default")
         ceph(one, "osd", "crush", "add", f"osd.{host.number - 1}", 1.0, f"host={host.name}")
-        begin_others(host)
+        host.run("ceph-mgr", "-i", host.name)
+        host.run("ceph-osd", "-i", host.number - 1)
+        host.run("ceph-mds", "-i", host.name)
     for pool in ("names", "bytes"):
         ceph(one, "osd", "pool", "create", pool, 8, 8)
         ceph(one, "osd", "pool", "set", pool, "size", 3)
         ceph(one, "osd", "pool", "set", pool, "min_size", 2)
     ceph(one, "fs", "new", "mw", "names", "bytes")
-    ceph(one, "fs", "set", "mw", "session_timeout", SESSION)
-    ceph(one, "fs", "set", "mw", "session_autoclose", SESSION)
-    until(lambda: "up:active" in ceph(one, "mds", "stat", may_fail=True), "a metadata server is active", PATIENCE)
+    for option in ("session_timeout", "session_autoclose"):
+        ceph(one, "fs", "set", "mw", option, SESSION)
+    until(lambda: "up:active" in ceph(one, "mds", "stat", may_fail=True), "a metadata server is active")
     for host in network.hosts:
-        mount(host)
-
-
-def mount(host: Host, seconds: float = PATIENCE) -> None:
-    """Mounts the file system, without caches of what was read or written."""
-    def is_mounted() -> bool:
-        host.run("sh", "-c", f"mountpoint -q {MOUNTED} || timeout 20 ceph-fuse --client_oc=false {MOUNTED}", may_fail=True)
-        return "fuse" in host.run("sh", "-c", f"findmnt -n -o FSTYPE {MOUNTED}", may_fail=True)
-    until(is_mounted, f"{host.name} mounts the file system", seconds)
-
-
-def disk_of(host: Host) -> Path:
-    """The file that is the disk of a host's OSD."""
-    return host.disk / f"var/lib/ceph/osd/ceph-{host.number - 1}/block"
+        # (Without caches of what was read or written.)
+        mount(host, f"timeout 20 ceph-fuse --client_oc=false {MOUNTED}", "fuse")

@@ -11,11 +11,18 @@ import os
 import shutil
 import signal
 import subprocess
+import sys
+import tempfile
 import time
 from pathlib import Path
-from typing import Dict, List, Sequence
+from typing import Any, Callable, Dict, List, Sequence, Union
+
+from program_parts.common import MWINIT, MWSERVE, remove, wrong
 
 PATIENCE = 60.0
+MOUNTED = "/srv/mw"
+"""Where a host has the volume."""
+NEEDS = ("ip", "nsenter", "unshare", "bash")
 NUMBERS = (1, 2, 3)
 HERE = 9
 """The last number of this machine's address on the bridge."""
@@ -57,6 +64,39 @@ def run(*words: object, seconds: float = PATIENCE, may_fail: bool = False) -> st
     return ended.stdout.decode(errors="replace")
 
 
+def until(holds: Callable[[], Any], what: Union[str, Callable[[], str]], seconds: float = PATIENCE, pause: float = 0.3) -> Any:
+    """Waits until something holds, and gives it; Wrong, which says what does not hold, if that needs too long."""
+    end = time.monotonic() + seconds
+    while not (found := holds()):
+        if time.monotonic() > end:
+            raise Wrong(f"not in {seconds:.0f} seconds: {what if isinstance(what, str) else what()}")
+        time.sleep(pause)
+    return found
+
+
+def tried(name: str, needs: Sequence[str], run_in: Callable[[Path], List[str]]) -> int:
+    """Runs trials in a folder of their own, if all that they need is here. The status: 1 if they tell what was wrong."""
+    for program in (MWINIT, MWSERVE):
+        if not os.access(program, os.X_OK):
+            wrong(f"{program.name} is not built: run scripts/first-run first")
+    missing = [command for command in (*NEEDS, *needs) if not shutil.which(command)]
+    if missing:
+        wrong(f"there is no {', '.join(missing)}")
+    if os.geteuid():
+        wrong("only root may make hosts")
+    # (What was made is taken away then, too.)
+    signal.signal(signal.SIGTERM, lambda *_: sys.exit(1))
+    folder = Path(tempfile.mkdtemp(prefix=f"{name}-")).resolve()
+    try:
+        complaints = run_in(folder)
+    except Wrong as error:
+        complaints = [str(error)]
+        print(f"FOUND: {error}", flush=True)
+    finally:
+        remove(folder)
+    return 1 if complaints else 0
+
+
 class Host:
     """One of the hosts. It is on once it was made."""
 
@@ -78,11 +118,9 @@ class Host:
         words = ["ip", "netns", "exec", self.space, "unshare", "--pid", "--fork", "--kill-child", "--mount", "--uts", "--ipc", "bash", "-c", BEGIN, "host",
                  self.name, str(self.disk), "/run", *self.folders]
         self.process = subprocess.Popen(words, stdin=subprocess.DEVNULL, stdout=subprocess.DEVNULL, stderr=subprocess.PIPE, start_new_session=True)
-        end = time.monotonic() + PATIENCE
-        while not self.is_up():
-            if time.monotonic() > end or self.process.poll() is not None:
-                raise Wrong(f"{self.name} does not come up")
-            time.sleep(0.02)
+        until(lambda: self.process.poll() is not None or self.is_up(), f"{self.name} comes up", pause=0.02)
+        if not self.begun:
+            raise Wrong(f"{self.name} does not come up")
         self.network.ends.callback(self.off)
 
     def is_up(self) -> bool:
@@ -103,6 +141,12 @@ class Host:
             if self.process.stderr:
                 self.process.stderr.close()
             self.begun = 0
+
+    def die(self) -> None:
+        """Dies: nothing more comes from it."""
+        self.unplug()
+        time.sleep(0.05)
+        self.off()
 
     def words(self, *words: object) -> List[str]:
         """The command line, here, of a command on this host."""
@@ -133,11 +177,19 @@ class Host:
                 os.kill(process, number)
         return sent
 
-    def unplug(self) -> None:
-        run("ip", "-n", self.network.switch, "link", "set", f"to-{self.number}", "down")
+    def plug(self, state: str = "up") -> None:
+        run("ip", "-n", self.network.switch, "link", "set", f"to-{self.number}", state)
 
-    def plug(self) -> None:
-        run("ip", "-n", self.network.switch, "link", "set", f"to-{self.number}", "up")
+    def unplug(self) -> None:
+        self.plug("down")
+
+
+def mount(host: Host, command: str, kind: str) -> None:
+    """Mounts the volume, which is of this kind, and waits until it can be read."""
+    def is_mounted() -> bool:
+        host.run("sh", "-c", f"mountpoint -q {MOUNTED} || {command}", may_fail=True)
+        return kind in host.run("sh", "-c", f"findmnt -n -o FSTYPE {MOUNTED}; stat {MOUNTED} > /dev/null", may_fail=True)
+    until(is_mounted, f"{host.name} mounts the volume")
 
 
 class Network:

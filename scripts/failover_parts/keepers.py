@@ -13,7 +13,7 @@ from typing import Dict, List, NamedTuple, Optional
 from program_parts.common import MWINIT, MWSERVE
 
 from . import gluster
-from .hosts import Host, Network, Wrong
+from .hosts import PATIENCE, Host, Network, until
 from .load import QUOTA, TENANT, WORDS, Place
 
 PORT = 7000
@@ -23,7 +23,7 @@ TIMES = "/run/times"
 FILE = f"{TENANT}.mw"
 MANAGED = f"""
 while :; do
-  {{ [ -e {TIMES}.fixed ] && cp {TIMES}.fixed {TIMES}; }} || {gluster.SCRIPT} times {gluster.VOLUME} --write {TIMES}
+  {gluster.SCRIPT} times {gluster.VOLUME} --write {TIMES}
   [ -e {TIMES} ] && {KEEPER} {gluster.MOUNTED}/{SERVER} --times {TIMES} -- {MWSERVE} --strict --verbose --workers 32 --open --listen "$1"
   sleep 1
 done
@@ -75,19 +75,14 @@ class Keeper:
 class Keepers:
     """One on each host."""
 
-    def __init__(self, network: Network, script: str = MANAGED, times: Optional[str] = None):
-        self.network, self.script, self.times = network, script, times
+    def __init__(self, network: Network, script: str = MANAGED):
+        self.network, self.script = network, script
         self.notes: List[Note] = []
         self.kept: Dict[int, Keeper] = {}
         for host in network.hosts:
             self.begin(host)
 
     def begin(self, host: Host) -> None:
-        fixed = host.path(f"{TIMES}.fixed")
-        if self.times is None:
-            fixed.unlink(missing_ok=True)
-        else:
-            fixed.write_text(self.times)
         self.kept[host.number] = Keeper(host, self.notes, self.script)
 
     def places(self) -> List[Place]:
@@ -97,15 +92,17 @@ class Keepers:
         """Each start of a server."""
         return [it for it in list(self.notes) if SERVES.match(it.line)]
 
-    def serving(self, but: int = 0, seconds: float = 60.0) -> Host:
+    def last_notes(self) -> List[str]:
+        return [f"{it.host} {it.line}" for it in self.notes[-12:]]
+
+    def serving(self, but: int = 0, seconds: float = PATIENCE) -> Host:
         """The host that was the last to start a server, once it is ready; another one than this."""
-        end = time.monotonic() + seconds
-        while time.monotonic() < end:
-            ready = [it for it in list(self.notes) if it.line.startswith("ready ") or it.line.startswith("mondlexi-ha: ended by")]
-            if ready and ready[-1].line.startswith("ready ") and ready[-1].host != but:
-                return self.network.hosts[ready[-1].host - 1]
-            time.sleep(0.05)
-        raise Wrong(f"no server in {seconds:.0f} seconds: {[f'{it.host} {it.line}' for it in self.notes[-12:]]}")
+        def ready() -> Optional[Host]:
+            told = [it for it in list(self.notes) if it.line.startswith(("ready ", "mondlexi-ha: ended by"))]
+            is_ready = told and told[-1].line.startswith("ready ") and told[-1].host != but
+            return self.network.hosts[told[-1].host - 1] if is_ready else None
+
+        return until(ready, lambda: f"a host serves: {self.last_notes()}", seconds, 0.05)
 
     def end(self) -> None:
         for keeper in self.kept.values():

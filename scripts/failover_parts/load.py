@@ -12,12 +12,12 @@ import random
 import socket
 import threading
 import time
-from typing import Dict, Iterator, List, NamedTuple, Optional, Sequence, Tuple, Union
+from typing import Dict, List, NamedTuple, Optional, Sequence, Tuple, Union
 
 from soak_parts.checker import judge
 from soak_parts.history import NOTHING, UNDECIDED, Answer, Entry, Epoch, Request
 
-from .hosts import Wrong
+from .hosts import Wrong, until
 from .named import NAME, NamedSession
 
 WORDS = 8
@@ -121,11 +121,13 @@ class Load:
 
     def some(self, place: Place, number: int, dice: random.Random) -> None:
         """Some changes at one place, of a client of its own."""
-        for _ in until([place], LONGEST):
+        end = time.monotonic() + LONGEST
+        while time.monotonic() < end:
             with contextlib.suppress(OSError), contextlib.closing(self.session(place)) as session:
                 for _ in range(number):
                     self.ask(session, self.job(dice))
                 return
+            time.sleep(0.05)
 
     def session(self, place: Place) -> Union[Session, NamedSession]:
         number = next(self.sessions)
@@ -197,19 +199,13 @@ class Load:
 
 def words_at(places: Sequence[Place], seconds: float) -> Tuple[int, ...]:
     """The words, of the first place that serves them."""
-    for place in until(places, seconds):
+    def words() -> Tuple[int, ...]:
+        place = next(places_again)
         with contextlib.suppress(OSError), contextlib.closing(Session(0, place)) as session:
             told = [session.say(f"GET {address}") for address in range(WORDS)]
             if all(it.startswith("VAL ") for it in told):
                 return tuple(int(it[4:]) for it in told)
-    raise Wrong(f"nobody serves in {seconds:.0f} seconds")
+        return ()
 
-
-def until(places: Sequence[Place], seconds: float) -> Iterator[Place]:
-    """Each place, again and again, for so long."""
-    end = time.monotonic() + seconds
-    for place in itertools.cycle(places):
-        if time.monotonic() > end:
-            return
-        yield place
-        time.sleep(0.05)
+    places_again = itertools.cycle(places)
+    return until(words, "a host serves the words", seconds, 0.05)

@@ -5,8 +5,8 @@ Used by: scripts/check-failover, scripts/check-volume.
 import contextlib
 import signal
 import subprocess
-import threading
 import time
+from concurrent.futures import ThreadPoolExecutor
 from typing import Iterator
 
 from program_parts.common import MWSERVE
@@ -37,23 +37,19 @@ def server_in(host: Host, folder: str) -> Iterator[Place]:
 
 def changes(place: Place, clients: int) -> float:
     """How many changes a second so many clients make, each of a word of its own."""
-    counts = clients * [0]
     end = time.monotonic() + SECONDS
 
-    def change(number: int) -> None:
+    def count(number: int) -> int:
         with contextlib.closing(Session(0, place)) as session:
-            value = int(session.say(f"GET {number}").split(" ")[1])
+            first = value = int(session.say(f"GET {number}").split(" ")[1])
             while time.monotonic() < end:
                 if session.say(f"CAS {number}:{value}:{value + 1}") != "YES":
                     raise Wrong("a change that nobody hinders was not made")
-                value, counts[number] = value + 1, counts[number] + 1
+                value += 1
+            return value - first
 
-    threads = [threading.Thread(target=change, args=(number,)) for number in range(clients)]
-    for thread in threads:
-        thread.start()
-    for thread in threads:
-        thread.join()
-    return sum(counts) / SECONDS
+    with ThreadPoolExecutor(clients) as pool:
+        return sum(pool.map(count, range(clients))) / SECONDS
 
 
 def line(host: Host, local: str) -> str:

@@ -11,7 +11,7 @@ from typing import Callable, Dict, Iterator, List, NamedTuple, Optional, Sequenc
 
 from . import gluster
 from .bricks import Recorder
-from .hosts import Host, Network, Wrong
+from .hosts import Host, Network, until
 from .keepers import BARE, FILE, PORT, Keepers, counted, new_tenant
 from .load import Load, words_at
 from .power import Device
@@ -26,8 +26,6 @@ AWAY = 16.0
 """For how many seconds a host is cut off, or stopped: for longer than its locks stay."""
 PATIENCE = 90.0
 CHANGES = 20
-
-
 FROZEN, STOPPED = "the serving host is frozen, and goes on", "the serving host's processes are stopped, and go on"
 
 
@@ -70,7 +68,7 @@ class Trials:
     def others(self, host: Host) -> List[Host]:
         return [it for it in self.network.hosts if it is not host]
 
-    def run(self, what: str, act: Callable[[Load, Host], None]) -> Seen:
+    def run(self, what: str, act: Callable[["Trials", Load, Host], None]) -> Seen:
         """Lets clients ask while something is done to the hosts."""
         places = self.keepers.places()
         host = self.keepers.serving()
@@ -80,7 +78,7 @@ class Trials:
         try:
             time.sleep(self.dice.uniform(*BEFORE))
             begun = time.monotonic_ns()
-            act(load, host)
+            act(self, load, host)
             self.wait_for_yes(load, time.monotonic_ns())
             time.sleep(AFTER)
         finally:
@@ -95,12 +93,8 @@ class Trials:
 
     def wait_for_yes(self, load: Load, since: int) -> None:
         """Until a change that was asked for now is answered YES."""
-        end = time.monotonic() + PATIENCE
-        while not any(it.told and it.told > since and it.sent > since for it in load.requests[-2000:] if it.reply.answer.value == "YES"):
-            if time.monotonic() > end:
-                notes = [f"{it.host} {it.line}" for it in self.keepers.notes[-12:]]
-                raise Wrong(f"no YES in {PATIENCE:.0f} seconds: {notes}")
-            time.sleep(0.05)
+        until(lambda: any(it.told and it.told > since and it.sent > since for it in load.requests[-2000:] if it.reply.answer.value == "YES"),
+              lambda: f"a change is answered YES: {self.keepers.last_notes()}", PATIENCE, 0.05)
 
     def two_servers(self, load: Load) -> List[str]:
         """What tells that a server said YES after the start of another one."""
@@ -117,9 +111,6 @@ class Trials:
         """Until another host than this serves."""
         return self.keepers.serving(but=host.number, seconds=PATIENCE)
 
-    def healed(self) -> None:
-        gluster.healed(self.network, PATIENCE)
-
     def back(self, *hosts: Host) -> None:
         """Hosts that died come back, with their keepers."""
         for host in hosts:
@@ -130,24 +121,22 @@ class Trials:
 
     def equal(self) -> None:
         """Until all replicas of the tenant's file have the same bytes, while nobody writes."""
-        self.healed()
+        gluster.healed(self.network, PATIENCE)
         file = counted(self.keepers.serving()) / FILE
-        gluster.until(lambda: len(set(gluster.replicas(self.network, str(file)).values())) == 1, "the replicas have the same bytes", PATIENCE)
+        until(lambda: len(set(gluster.replicas(self.network, str(file)).values())) == 1, "the replicas have the same bytes", PATIENCE)
 
     def anew(self) -> None:
         """A server that is started now writes to all replicas; one that runs, not to one that was away."""
-        self.healed()
+        gluster.healed(self.network, PATIENCE)
         before = len(self.keepers.notes)
         self.keepers.serving().signal(signal.SIGKILL, "mondlexi-ha")
-        gluster.until(lambda: any(it.line.startswith("ready ") for it in self.keepers.notes[before:]), "a server starts anew")
+        until(lambda: any(it.line.startswith("ready ") for it in self.keepers.notes[before:]), "a server starts anew")
 
     # What is done.
 
     def die(self, load: Load, host: Host) -> None:
-        """The serving host dies: nothing more comes from it."""
-        host.unplug()
-        time.sleep(0.05)
-        host.off()
+        """The serving host dies."""
+        host.die()
         self.until_taken(host)
 
     def come_back(self, load: Load, host: Host) -> None:
@@ -158,49 +147,45 @@ class Trials:
     def other_dies(self, load: Load, host: Host) -> None:
         """A host dies that doesn't serve, and comes back."""
         other = self.others(host)[0]
-        other.unplug()
-        time.sleep(0.05)
-        other.off()
+        other.die()
         time.sleep(AWAY / 2)
         self.back(other)
 
     def alone(self, load: Load, host: Host) -> None:
-        """The serving host is cut off from the two others, and not from the clients. Later it is back."""
+        """The serving host is cut off from the two others, and not from the clients. If these are idle, one asks for a few changes at the next
+        server. Later it is back."""
         for other in self.others(host):
             self.network.cut(host, other)
-        self.until_taken(host)
+        new = self.until_taken(host)
+        if load.is_idle:
+            load.some((new.address, PORT), CHANGES, self.dice)
         time.sleep(AWAY / 4)
         self.network.mend()
         time.sleep(AWAY / 2)
 
     def alone_and_idle(self, load: Load, host: Host) -> None:
-        """The same while nobody asks for changes, but a few at the next server; the clients' sessions stay."""
+        """The same while nobody asks for changes; the clients' sessions stay."""
         load.is_idle = True
         time.sleep(1)
         try:
-            for other in self.others(host):
-                self.network.cut(host, other)
-            new = self.until_taken(host)
-            load.some((new.address, PORT), CHANGES, self.dice)
-            time.sleep(AWAY / 4)
-            self.network.mend()
-            time.sleep(AWAY / 2)
+            self.alone(load, host)
         finally:
             load.is_idle = False
 
-    def one_way(self, load: Load, host: Host) -> None:
-        """The way between the serving host and one other is cut for a while."""
-        self.network.cut(host, self.dice.choice(self.others(host)))
+    def cut_way(self, one: Host, other: Host) -> None:
+        """The way between two hosts is cut for a while."""
+        self.network.cut(one, other)
         time.sleep(AWAY)
         self.network.mend()
         time.sleep(AFTER)
 
+    def one_way(self, load: Load, host: Host) -> None:
+        """Cuts the way between the serving host and one other."""
+        self.cut_way(host, self.dice.choice(self.others(host)))
+
     def other_way(self, load: Load, host: Host) -> None:
-        """The way between the two that don't serve is cut for a while."""
-        self.network.cut(*self.others(host))
-        time.sleep(AWAY)
-        self.network.mend()
-        time.sleep(AFTER)
+        """Cuts the way between the two that don't serve."""
+        self.cut_way(*self.others(host))
 
     def frozen(self, load: Load, host: Host) -> None:
         """The host stands still, its kernel too, as a virtual machine that is paused. Later it goes on."""
@@ -257,47 +242,43 @@ class Trials:
         time.sleep(1)
 
 
+CUTS = (("the serving host is cut off from the others, busy", Trials.alone),
+        ("the serving host is cut off from the others, idle", Trials.alone_and_idle))
+LONGER = (("the way between the serving host and another is cut", Trials.one_way),
+          ("the way between the two others is cut", Trials.other_way),
+          ("a host that doesn't serve dies and comes back", Trials.other_dies),
+          (FROZEN, Trials.frozen), (STOPPED, Trials.stopped))
+"""The trials that a short run leaves out."""
+
+
 def main_trials(trials: Trials, deaths: int, is_short: bool) -> Iterator[Seen]:
     """All trials with what contrib/ha has."""
     for number in range(deaths):
         host = trials.keepers.serving()
-        yield trials.run(f"host {host.number} dies ({number + 1} of {deaths})", trials.die)
+        yield trials.run(f"host {host.number} dies ({number + 1} of {deaths})", Trials.die)
         if number:
             trials.back(host)
         else:
-            yield trials.run(f"host {host.number} comes back", trials.come_back)
+            yield trials.run(f"host {host.number} comes back", Trials.come_back)
         trials.equal()
-    yield trials.run("the keeper of the server is killed", trials.killed)
-    yield trials.run("the serving host is cut off from the others, busy", trials.alone)
-    trials.equal()
-    yield trials.run("the serving host is cut off from the others, idle", trials.alone_and_idle)
-    trials.equal()
-    if is_short:
-        return
-    yield trials.run("the way between the serving host and another is cut", trials.one_way)
-    trials.equal()
-    yield trials.run("the way between the two others is cut", trials.other_way)
-    trials.equal()
-    yield trials.run("a host that doesn't serve dies and comes back", trials.other_dies)
-    trials.equal()
-    yield trials.run(FROZEN, trials.frozen)
-    trials.equal()
-    yield trials.run(STOPPED, trials.stopped)
-    trials.equal()
+    yield trials.run("the keeper of the server is killed", Trials.killed)
+    for what, act in CUTS if is_short else CUTS + LONGER:
+        yield trials.run(what, act)
+        trials.equal()
 
 
 def power_trial(trials: Trials, what: str) -> Seen:
     """Two of three hosts lose their power at once."""
-    seen = trials.run(f"the serving host and another lose their power ({what})", trials.power)
+    seen = trials.run(f"the serving host and another lose their power ({what})", Trials.power)
     trials.equal()
     return seen
 
 
 def lying(trials: Trials) -> List[str]:
     """What the words and the replies to changes tell where two devices lack what was synced last, and the third is away."""
-    seen = trials.run("two devices lack what was synced last", trials.old_power)
+    seen = trials.run("two devices lack what was synced last", Trials.old_power)
     trials.back(*(host for host in trials.network.hosts if not host.begun))
-    trials.healed()
+    gluster.healed(trials.network, PATIENCE)
     return seen.lost
 
 
@@ -311,7 +292,7 @@ def planted(network: Network, dice: random.Random, options: Sequence[str]) -> Se
     try:
         keepers.serving()
         trials = Trials(network, keepers, dice, None)
-        return trials.run(f"mwserve alone with {' '.join(options)}, cut off while idle", trials.alone_and_idle)
+        return trials.run(f"mwserve alone with {' '.join(options)}, cut off while idle", Trials.alone_and_idle)
     finally:
         network.mend()
         keepers.end()

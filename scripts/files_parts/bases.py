@@ -8,8 +8,8 @@ import subprocess
 from pathlib import Path
 from typing import Iterator, NamedTuple, Sequence, Union
 
-from .drafts import Draft, fill_words, first_draft, plant_records, second_draft, some_value
-from .reader import Contents, Damage, read
+from .drafts import Draft, fill_words, plant_records, some_value
+from .reader import FIRST, SECOND, Contents, Damage, Layout, read
 
 SIZES = ((1, 1), (1, 32), (2, 1), (3, 2), (9, 3), (17, 5), (40, 32), (300, 4), (4095, 1), (4096, 31), (4096, 32))
 """Numbers of words and places, from the least to the greatest."""
@@ -33,21 +33,10 @@ class Programs(NamedTuple):
 
 
 class Base(NamedTuple):
-    """A whole file."""
+    """A whole file, and the layout that says what it says."""
     name: str
     data: bytes
-
-    def draft(self) -> Draft:
-        """Its bytes, to be changed in the layout that says what the file says."""
-        return second_draft(self.data) if self.name != "new" else first_draft(self.data)
-
-
-def whole(data: bytes, what: str) -> Contents:
-    """What a file says that can have no damage."""
-    found = read(data)
-    if isinstance(found, Damage):
-        raise Disagreement(f"{what}: damage {found.number} byte {found.byte}, as the reader says", data)
-    return found
+    layout: Layout
 
 
 class Said(NamedTuple):
@@ -66,6 +55,14 @@ def run(command: Sequence[Union[str, Path]], folder: Path) -> Said:
     return Said(ended.returncode, ended.stdout.decode(errors="replace"), ended.stderr.decode(errors="replace"))
 
 
+def whole(data: bytes, what: str) -> Contents:
+    """What a file says that can have no damage."""
+    found = read(data)
+    if isinstance(found, Damage):
+        raise Disagreement(f"{what}: damage {found.number} byte {found.byte}, as the reader says", data)
+    return found
+
+
 def new_file(programs: Programs, folder: Path, words: int, places: int) -> bytes:
     """A file that mwinit made."""
     path = folder / "new.mw"
@@ -73,8 +70,8 @@ def new_file(programs: Programs, folder: Path, words: int, places: int) -> bytes
     data = path.read_bytes() if path.exists() else b""
     path.unlink(missing_ok=True)
     found = whole(data, f"a file that mwinit has made: {said}")
-    wanted = Contents(1, 0, [0] * words, places, [])
-    if found != wanted or said != Said(0, f"made {len(data)}\n") or len(data) != first_draft(data).end:
+    is_right = found == Contents(1, 0, [0] * words, places, []) and said == Said(0, f"made {len(data)}\n")
+    if not is_right or len(data) != Draft(data, FIRST).end:
         raise Disagreement(f"mwinit was to make a file of {words} words and {places} places, and made another: {said}", data)
     return data
 
@@ -88,12 +85,9 @@ def opened(programs: Programs, folder: Path, data: bytes, value: int) -> bytes:
     (folder / "script").write_text(f"TENANT t\nCAS 0:{before.words[0]}:{value}\nQUIT\n")
     said = run([programs.mwserve, "--tenants", "tenants", "--script", "script"], folder)
     after = path.read_bytes()
-    begins, places = before.offset, before.places
-    if before.layout == 1:
-        begins, places = first_draft(data).end, 2 * places
-    wanted = Contents(2, begins, [value, *before.words[1:]], places, [])
+    begins, places = (Draft(data, FIRST).end, 2 * before.places) if before.layout == 1 else (before.offset, before.places)
     found = whole(after, f"a file that mwserve has opened: {said}")
-    if said != Said(0, f"OK {words}\nYES\nBYE\n") or found != wanted:
+    if said != Said(0, f"OK {words}\nYES\nBYE\n") or found != Contents(2, begins, [value, *before.words[1:]], places, []):
         raise Disagreement(f"mwserve opened a file of {words} words, and left others, or other places or records: {said}", data)
     return after
 
@@ -101,11 +95,11 @@ def opened(programs: Programs, folder: Path, data: bytes, value: int) -> bytes:
 def make_bases(programs: Programs, folder: Path, dice: random.Random) -> Iterator[Base]:
     """Of each size a new file, one that was opened once, and one that was opened again with records open."""
     for words, places in SIZES:
-        data = new_file(programs, folder, words, places)
-        yield Base("new", data)
-        for name, draft_of in (("opened", first_draft), ("opened again", second_draft)):
-            draft = draft_of(data)
+        base = Base("new", new_file(programs, folder, words, places), FIRST)
+        yield base
+        for name in ("opened", "opened again"):
+            draft = Draft(base.data, base.layout)
             fill_words(draft, dice)
             plant_records(draft, dice, dice.choice((1, 2, draft.places)))
-            data = opened(programs, folder, bytes(draft.data), some_value(dice))
-            yield Base(name, data)
+            base = Base(name, opened(programs, folder, bytes(draft.data), some_value(dice)), SECOND)
+            yield base

@@ -1,9 +1,9 @@
 """The random changes of a file: such as leave it whole, and such as damage it, at each limit and beyond it.
 
-Used by: scripts/check-files. A limit or a field that docs/FILES.md gains has a change here, in KINDS.
+Used by: scripts/check-files. A limit or a field that docs/FILES.md gains has a change here, in FIELDS or KINDS.
 """
 import random
-from typing import Callable, List, NamedTuple
+from typing import Any, Callable, Dict, List
 
 from .drafts import Draft, plant_records, some_bytes, some_entries, some_value
 from .reader import FIRST, GREATEST, HEAD, MOST_OFFSET, MOST_READ, MOST_WORDS, SECOND, SET
@@ -15,16 +15,11 @@ HUGE = (1 << 16, 1 << 32, 1 << 48, 1 << 63)
 
 
 def any_byte(draft: Draft, dice: random.Random) -> None:
-    """A byte anywhere, in a head, or where a place begins."""
+    """A byte, or a bit of it, anywhere, in a head, or where a place begins."""
     near = dice.choice((0, draft.start, draft.place(dice.randrange(draft.places)), dice.randrange(len(draft.data) + 1)))
-    draft.put(near + dice.randrange(HEAD), some_bytes(dice, 1))
-
-
-def one_bit(draft: Draft, dice: random.Random) -> None:
-    """A bit of a head or of a place turned around."""
-    at = dice.choice((0, draft.start, draft.place(dice.randrange(draft.places)))) + dice.randrange(HEAD)
-    if at < len(draft.data):
-        draft.data[at] ^= 1 << dice.randrange(8)
+    at = near + dice.randrange(HEAD)
+    old = draft.data[at:at + 1]
+    draft.put(at, some_bytes(dice, 1) if dice.random() < 0.5 or not old else bytes([old[0] ^ 1 << dice.randrange(8)]))
 
 
 def cut(draft: Draft, dice: random.Random) -> None:
@@ -49,29 +44,26 @@ def magic(draft: Draft, dice: random.Random) -> None:
         draft.put(at + dice.choice((0, 7, dice.randrange(8))), some_bytes(dice, 1))
 
 
-def number_of_words(draft: Draft, dice: random.Random) -> None:
-    """The number of words at a limit, beyond it, or another than that which is there."""
-    beside = (draft.words - 1, draft.words + 1, draft.words + dice.choice(HUGE[:2]), dice.getrandbits(32))
-    draft.put_number(draft.start + 8, 4, dice.choice((0, 1, MOST_WORDS, MOST_WORDS + 1, (1 << 32) - 1, 1 << 31, *beside)))
+FIELDS = {"number of words": 3, "number of places": 3, "sizes of the first": 1, "offset": 3, "switch byte": 3, "home word": 4}
+"""The fields of the heads and the home words, and how often each is changed beside the other KINDS."""
 
 
-def number_of_places(draft: Draft, dice: random.Random) -> None:
-    """The number of places at a limit, beyond it, or another than that which is there."""
-    beside = (draft.places - 1, draft.places + 1, draft.places + 256, dice.getrandbits(16))
-    draft.put_number(draft.start + 12, 2, dice.choice((0, 1, 32, 33, 64, 65, (1 << 16) - 1, 1 << 15, *beside)))
-
-
-def sizes_of_the_first(draft: Draft, dice: random.Random) -> None:
-    """The numbers of words and places in the file's head: in a file whose switch byte is set they aren't looked at."""
-    draft.put_number(8, 4, dice.choice((0, MOST_WORDS, MOST_WORDS + 1, dice.getrandbits(32))))
-    draft.put_number(12, 2, dice.choice((0, 32, 33, dice.getrandbits(16))))
-
-
-def offset(draft: Draft, dice: random.Random) -> None:
-    """Another offset of the second layout, where there need be none."""
-    limits = (0, HEAD - 1, HEAD, MOST_OFFSET, MOST_OFFSET + 1, (1 << 64) - 1, dice.getrandbits(64), len(draft.data))
-    beside = (draft.start - 1, draft.start + 1, draft.start + dice.choice(HUGE), dice.randrange(MOST_OFFSET + 2))
-    draft.put_number(16, 8, dice.choice(limits + beside))
+def put_field(draft: Draft, dice: random.Random, name: str) -> None:
+    """A field at a limit, beyond it, or another than that which is there. While the switch byte is set the sizes in the file's head
+    aren't looked at. A home word may be covered by an open record."""
+    beside = {"number of words": (draft.words - 1, draft.words + 1, draft.words + dice.choice(HUGE[:2])),
+              "number of places": (draft.places - 1, draft.places + 1, draft.places + 256),
+              "offset": (draft.start - 1, draft.start + 1, draft.start + dice.choice(HUGE), draft.end, dice.randrange(MOST_OFFSET + 2))}
+    address = dice.choice((0, draft.words - 1, dice.randrange(draft.words)))
+    for at, size, values in {
+        "number of words": [(draft.start + 8, 4, (0, 1, MOST_WORDS, MOST_WORDS + 1, (1 << 32) - 1, 1 << 31))],
+        "number of places": [(draft.start + 12, 2, (0, 1, 32, 33, 64, 65, (1 << 16) - 1, 1 << 15))],
+        "sizes of the first": [(8, 4, (0, MOST_WORDS, MOST_WORDS + 1)), (12, 2, (0, 32, 33))],
+        "offset": [(16, 8, (0, HEAD - 1, HEAD, MOST_OFFSET, MOST_OFFSET + 1, (1 << 64) - 1))],
+        "switch byte": [(15, 1, NEAR_SET)],
+        "home word": [(draft.home(address), 8, (GREATEST, *TOO_GREAT))],
+    }[name]:
+        draft.put_number(at, size, dice.choice((*values, *beside.get(name, ()), dice.getrandbits(8 * size))))
 
 
 def move(draft: Draft, dice: random.Random) -> None:
@@ -92,23 +84,18 @@ def resize(draft: Draft, dice: random.Random) -> None:
         return
     words = dice.choice((1, 2, 15, 16, 17, dice.randint(1, 300), MOST_WORDS))
     places = dice.choice((1, 2, 3, 31, 32, 33, 63, 64, 65))
-    length = HEAD + 8 * words + SECOND.place_size * places
+    length = HEAD + 8 * words + SECOND.place * places
     head = SECOND.magic + words.to_bytes(4, "little") + places.to_bytes(2, "little")
     draft.data[draft.start:] = head + bytes(length - len(head))
     draft.begin_at(min(draft.start, len(draft.data) - length))
     plant_records(draft, dice, dice.choice((0, 1, places)))
 
 
-def switch_byte(draft: Draft, dice: random.Random) -> None:
-    """The switch byte set, cleared, or nearly what it is where it is set."""
-    draft.put_number(15, 1, dice.choice(NEAR_SET))
-
-
 def commit_byte(draft: Draft, dice: random.Random) -> None:
     """The commit byte of a place, as the switch byte; what stands behind it may be a record, or not."""
     place = dice.randrange(draft.places)
     if dice.random() < 0.5:
-        draft.put(draft.place(place) + 1, some_bytes(dice, draft.layout.place_size - 1))
+        draft.put(draft.place(place) + 1, some_bytes(dice, draft.layout.place - 1))
     draft.put_number(draft.place(place), 1, dice.choice(NEAR_SET))
 
 
@@ -125,7 +112,7 @@ def count(draft: Draft, dice: random.Random) -> None:
     """How many entries an open record says it has, at a limit, beyond it, and more or fewer than it has; it may be full."""
     at, most = record_at(draft, dice), draft.layout.most_entries
     if draft.words >= most and dice.random() < 0.4:
-        draft.put_record((at - draft.place(0)) // draft.layout.place_size, [(address, 0) for address in range(most)])
+        draft.put_record((at - draft.place(0)) // draft.layout.place, [(address, 0) for address in range(most)])
     draft.put_number(at + 1, 1, dice.choice((0, 1, most - 1, most, most + 1, 2 * most, 255, dice.getrandbits(8))))
 
 
@@ -164,56 +151,45 @@ def new_value(draft: Draft, dice: random.Random) -> None:
     draft.put_number(at + 16 + 16 * entry, 8, dice.choice((GREATEST, *TOO_GREAT)))
 
 
-def home_word(draft: Draft, dice: random.Random) -> None:
-    """A home word that is the greatest or above it; an open record may cover it."""
-    address = dice.choice((0, draft.words - 1, dice.randrange(draft.words)))
-    draft.put_number(draft.home(address), 8, dice.choice((GREATEST, *TOO_GREAT)))
-
-
 def several(draft: Draft, dice: random.Random) -> None:
     """Several of the damages that open records and words may have, each in a place of its own or not."""
-    kinds = (count, addresses, shared, new_value, home_word)
-    for damage in dice.choice((dice.sample(kinds, dice.choice((2, 2, 3, 5))), (new_value, home_word))):
+    kinds = (count, addresses, shared, new_value, lambda draft, dice: put_field(draft, dice, "home word"))
+    for damage in dice.choice((dice.sample(kinds, dice.choice((2, 2, 3, 5))), kinds[3:])):
         damage(draft, dice)
 
 
 def not_looked_at(draft: Draft, dice: random.Random) -> None:
-    """Any bytes where nobody looks: in the heads, in places, and behind the entries that count."""
+    """Any bytes where nobody looks: in the heads, in places, behind the entries that count, and, while the switch byte is set, from the
+    file's head to the second layout."""
     place = dice.randrange(draft.places)
     at = draft.place(place)
     draft.put(14, some_bytes(dice, 1))
     draft.put(24, some_bytes(dice, 8))
     if draft.start:
         draft.put(draft.start + 14, some_bytes(dice, 18))
+        if dice.random() < 0.3:
+            draft.put(HEAD, some_bytes(dice, max(0, draft.start - HEAD)))
     draft.put(at + 2, some_bytes(dice, 6))
     entries = draft.data[at + 1] if at + 1 < len(draft.data) and draft.is_open(place) else 0
     used = 8 + 16 * entries
-    draft.put(at + used, some_bytes(dice, max(0, draft.layout.place_size - used)))
+    draft.put(at + used, some_bytes(dice, max(0, draft.layout.place - used)))
 
 
-def body_of_the_first(draft: Draft, dice: random.Random) -> None:
-    """Any bytes from the file's head to the second layout, where nobody looks while the switch byte is set."""
-    draft.put(HEAD, some_bytes(dice, max(0, draft.start - HEAD)))
-
-
-class Kind(NamedTuple):
-    """A change, and how often it is taken beside the others."""
-    change: Callable[[Draft, random.Random], None]
-    weight: int
-
-
-KINDS = (
-    Kind(any_byte, 3), Kind(one_bit, 3), Kind(cut, 3), Kind(lengthen, 2), Kind(magic, 2), Kind(number_of_words, 3),
-    Kind(number_of_places, 3), Kind(sizes_of_the_first, 1), Kind(offset, 3), Kind(move, 4), Kind(resize, 3), Kind(switch_byte, 3),
-    Kind(commit_byte, 3), Kind(count, 3), Kind(addresses, 3), Kind(shared, 4), Kind(new_value, 4), Kind(home_word, 4),
-    Kind(several, 4), Kind(not_looked_at, 2), Kind(body_of_the_first, 1),
-)
+KINDS: Dict[Callable[[Draft, random.Random], None], int] = {
+    any_byte: 6, cut: 3, lengthen: 2, magic: 2, move: 4, resize: 3, commit_byte: 3, count: 3, addresses: 3, shared: 4,
+    new_value: 4, several: 4, not_looked_at: 3,
+}
+"""The other changes, and how often each is taken."""
 
 
 def change(draft: Draft, dice: random.Random) -> List[str]:
     """Makes some changes, or none, and tells their names: several damages in one file show in which order they are found."""
     number = dice.choice((0, 1, 1, 1, 2, 2, 2, 3, 3, 4, 5))
-    kinds = dice.choices(KINDS, [kind.weight for kind in KINDS], k=number)
+    weights: Dict[Any, int] = {**KINDS, **FIELDS}
+    kinds = dice.choices(list(weights), list(weights.values()), k=number)
     for kind in kinds:
-        kind.change(draft, dice)
-    return [kind.change.__name__.replace("_", " ") for kind in kinds]
+        if kind in FIELDS:
+            put_field(draft, dice, kind)
+        else:
+            kind(draft, dice)
+    return [kind if kind in FIELDS else kind.__name__.replace("_", " ") for kind in kinds]

@@ -1,23 +1,24 @@
 """A tenant's file in the making: its bytes, where its fields are, and what is put there.
 
-Used by: scripts/check-files, bases.py, changes.py. Its offsets are those of docs/FILES.md: a change of the format is one here and in reader.py.
+Used by: scripts/check-files, bases.py, changes.py. Its offsets are those of docs/FILES.md: a change of the format is one here and in
+reader.py.
 """
 import random
 from typing import List, Sequence, Tuple
 
-from .reader import FIRST, GREATEST, HEAD, SECOND, SET, Layout
+from .reader import FIRST, GREATEST, HEAD, SET, Layout
 
 Entry = Tuple[int, int]
 
 
 class Draft:
-    """The bytes of a file that is whole, and from then on what is made of them. Where the fields are is known from the whole
-    file: what was cut off meanwhile can't be changed any more."""
+    """The bytes of a file that is whole, and from then on what is made of them, in one of its layouts. Where the fields are is known from
+    the whole file: what was cut off meanwhile can't be changed any more."""
 
-    def __init__(self, data: bytes, layout: Layout, start: int) -> None:
+    def __init__(self, data: bytes, layout: Layout) -> None:
         self.data = bytearray(data)
         self.layout = layout
-        self.begin_at(start)
+        self.begin_at(0 if layout is FIRST else int.from_bytes(data[16:24], "little"))
 
     def begin_at(self, start: int) -> None:
         """From here on the layout begins at this byte."""
@@ -26,12 +27,12 @@ class Draft:
         self.places = int.from_bytes(self.data[start + 12:start + 14], "little")
 
     def home(self, address: int) -> int:
-        """Where this home word begins; of the address behind the last one, where the places begin."""
+        """Where this home word begins."""
         return self.start + HEAD + 8 * address
 
     def place(self, place: int) -> int:
         """Where this place begins; of the place behind the last one, where the layout ends."""
-        return self.home(self.words) + self.layout.place_size * place
+        return self.start + self.layout.place_at(self.words, place)
 
     @property
     def end(self) -> int:
@@ -51,23 +52,13 @@ class Draft:
         at = self.place(place)
         return self.data[at:at + 1] == bytes([SET])
 
-    def put_record(self, place: int, entries: Sequence[Entry], commit: int = SET) -> None:
-        """Plants a record by hand."""
+    def put_record(self, place: int, entries: Sequence[Entry]) -> None:
+        """Plants an open record by hand."""
         at = self.place(place)
-        self.put(at, bytes([commit, len(entries)]))
+        self.put(at, bytes([SET, len(entries)]))
         for number, (address, value) in enumerate(entries):
             self.put_number(at + 8 + 16 * number, 8, address)
             self.put_number(at + 16 + 16 * number, 8, value)
-
-
-def first_draft(data: bytes) -> Draft:
-    """A draft of a file whose first layout is changed."""
-    return Draft(data, FIRST, 0)
-
-
-def second_draft(data: bytes) -> Draft:
-    """A draft of a file whose second layout is changed."""
-    return Draft(data, SECOND, int.from_bytes(data[16:24], "little"))
 
 
 def some_bytes(dice: random.Random, count: int) -> bytes:

@@ -1,8 +1,8 @@
 """A reader of a tenant's file, written from docs/FILES.md alone: nothing of it was taken from the programs. It gives what the
 file says, or the first damage, with the byte at which the wrong part begins, as docs/OPERATING.md has it of mwshow.
 
-Used by: scripts/check-cache, scripts/check-files, scripts/fail-each-allocation, bases.py, changes.py, drafts.py, wrong_readers.py. The last
-one replaces texts of this file, each of which must be here once. A change of the format is also one of soak_parts/layout.py.
+Used by: scripts/check-cache, scripts/check-files, scripts/fail-each-allocation, bases.py, changes.py, drafts.py, wrong_readers.py,
+soak_parts/layout.py, soak_parts/planted_writers.py. wrong_readers.py replaces texts of this file, each of which must be here once.
 """
 from typing import Iterator, List, NamedTuple, Set, Tuple, Union
 
@@ -25,9 +25,13 @@ class Layout(NamedTuple):
     most_entries: int
 
     @property
-    def place_size(self) -> int:
-        """136 or 264 bytes: eight for the head of a place, and room for all entries of 16 bytes."""
+    def place(self) -> int:
+        """The bytes of a place, 136 or 264: eight for its head, and room for all entries of 16 bytes."""
         return 8 + 16 * self.most_entries
+
+    def place_at(self, words: int, place: int) -> int:
+        """Where a place begins behind so many words, counted from where the layout begins."""
+        return HEAD + 8 * words + self.place * place
 
 
 FIRST = Layout(1, b"MWCASF1\n", 32, 8)
@@ -91,15 +95,15 @@ def sizes(data: bytes, layout: Layout, start: int) -> Tuple[int, int]:
         raise Damage(2, start + 8)
     if not 1 <= places <= layout.most_places:
         raise Damage(2, start + 12)
-    if len(data) < start + HEAD + 8 * words + layout.place_size * places:
+    if len(data) < start + layout.place_at(words, places):
         raise Damage(6, len(data))
     return words, places
 
 
-def open_records(data: bytes, layout: Layout, begin: int, places: int) -> Iterator[Record]:
+def open_records(data: bytes, layout: Layout, start: int, words: int, places: int) -> Iterator[Record]:
     """The records of the places whose commit byte is set, each with the entries that count. No other place is looked at."""
     for place in range(places):
-        at = begin + layout.place_size * place
+        at = start + layout.place_at(words, place)
         if data[at] == SET:
             count = data[at + 1]
             entries = range(at + 8, at + 8 + 16 * min(count, layout.most_entries), 16)
@@ -131,7 +135,7 @@ def contents(data: bytes) -> Contents:
     layout, start = speaking_part(data)
     words, places = sizes(data, layout, start)
     home = start + HEAD
-    records = list(open_records(data, layout, home + 8 * words, places))
+    records = list(open_records(data, layout, start, words, places))
     for record in records:
         if not is_well_formed(record, layout, words):
             raise Damage(4, record.at)

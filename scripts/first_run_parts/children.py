@@ -88,12 +88,17 @@ class Child:
 
 def end(children: Iterable[Child]) -> None:
     """Ends those that still run, and waits until they have."""
-    running = [it for it in children if not it.has_ended()]
+    end_processes([it.process for it in children])
+
+
+def end_processes(processes: Sequence["subprocess.Popen[bytes]"]) -> None:
+    """Ends those that still run, and waits until they have."""
+    running = [it for it in processes if it.poll() is None]
     for it in running:
-        it.process.send_signal(signal.SIGTERM)
+        it.terminate()
     for it in running:
         try:
-            it.process.wait(PATIENCE)
+            it.wait(PATIENCE)
         except subprocess.TimeoutExpired:
-            it.process.kill()
-            it.process.wait()
+            it.kill()
+            it.wait()

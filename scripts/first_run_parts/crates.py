@@ -1,12 +1,12 @@
 """The crates of a repository: what each uses, how long its proof is likely to take, and a sum of its text.
 
-Used by: scripts/check-wrong-bodies, scripts/first-run, example.py, proving.py, rooms.py, edit_parts/room.py. It reads crates.txt. proving.py
-keeps the sums in out/: if they are made otherwise, each crate is given to `rt` again.
+Used by: scripts/bench-table, scripts/check-wrong-bodies, scripts/first-run, example.py, proving.py, rooms.py, edit_parts/room.py. It reads
+crates.txt. proving.py keeps the sums in out/: if they are made otherwise, each crate is given to `rt` again.
 """
 import hashlib
 from dataclasses import dataclass
 from pathlib import Path
-from typing import Dict, Iterator, List, Sequence, Tuple
+from typing import Dict, List, Sequence, Tuple
 
 PARTS = ("src", "specs", "proofs")
 """The folders of a crate that a proof reads."""
@@ -70,24 +70,19 @@ def needed_for(top: Path, programs: Sequence[str]) -> Dict[str, Crate]:
         if name not in lines or not (folder / "src").is_dir():
             raise UnknownCrate(name)
         named = lines[name].partition(":")[2].split()
-        for it in named:
-            if it in lines:
-                visit(it)
-        uses, of_kit = [it for it in named if it in lines], [it for it in named if it not in lines]
-        found[name] = measured(name, lines[name], folder, tuple(uses), tuple(of_kit))
+        uses, of_kit = (tuple(it for it in named if (it in lines) == is_own) for is_own in (True, False))
+        for it in uses:
+            visit(it)
+        found[name] = Crate(name, lines[name], folder, uses, of_kit, lines_in(folder, ".rt"), lines_in(folder, ".antt"))
 
     for program in programs:
         visit(program)
     return found
 
 
-def measured(name: str, line: str, folder: Path, uses: Tuple[str, ...], of_kit: Tuple[str, ...]) -> Crate:
-    """A crate with its lines counted."""
-    lines = {".rt": 0, ".antt": 0}
-    for path in files_of(folder):
-        if path.suffix in lines:
-            lines[path.suffix] += path.read_bytes().count(b"\n")
-    return Crate(name, line, folder, uses, of_kit, lines[".rt"], lines[".antt"])
+def lines_in(folder: Path, suffix: str) -> int:
+    """How many lines the files of a crate have whose names end so."""
+    return sum(path.read_bytes().count(b"\n") for path in files_of(folder) if path.suffix == suffix)
 
 
 def below(crates: Dict[str, Crate], name: str) -> List[Crate]:
@@ -104,19 +99,12 @@ def below(crates: Dict[str, Crate], name: str) -> List[Crate]:
     return list(found.values())
 
 
-def text_of(crate: Crate) -> Iterator[bytes]:
-    """All that its own proof reads, name by name."""
-    yield crate.line.encode()
+def own_sum(crate: Crate) -> str:
+    """A sum of the crate's own text: all that its own proof reads, name by name."""
+    total = hashlib.sha256(crate.line.encode())
     for path in files_of(crate.folder):
         data = path.read_bytes()
-        yield f"{path.relative_to(crate.folder)} {len(data)}\n".encode() + data
-
-
-def own_sum(crate: Crate) -> str:
-    """A sum of the crate's own text."""
-    total = hashlib.sha256()
-    for part in text_of(crate):
-        total.update(part)
+        total.update(f"{path.relative_to(crate.folder)} {len(data)}\n".encode() + data)
     return total.hexdigest()
 
 

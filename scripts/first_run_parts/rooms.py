@@ -86,7 +86,7 @@ class Room:
         self.locks = Locks()
 
     def open(self) -> Optional[Path]:
-        """Makes the room, or returns the folder that another rt works in."""
+        """Makes the room: the sources, the libraries below and the crate's own `out/`. Or returns the folder that another rt works in."""
         readers = Locks()
         try:
             for it in self.below:
@@ -96,7 +96,10 @@ class Room:
                 self.locks.release()
                 return self.crate.folder
             self.give_back(is_left=True)
-            self.fill()
+            copy_sources([*self.below, self.crate], self.folder)
+            link_libraries(self.below, self.folder)
+            if (self.crate.folder / "out").is_dir():
+                shutil.move(str(self.crate.folder / "out"), str(self.working_folder() / "out"))
         finally:
             readers.release()
         return None
@@ -104,13 +107,6 @@ class Room:
     def working_folder(self) -> Path:
         """Where `rt` is called."""
         return self.folder / "crates" / self.crate.name
-
-    def fill(self) -> None:
-        """Puts the sources, the libraries below and the crate's own `out/` into the room."""
-        copy_sources([*self.below, self.crate], self.folder)
-        link_libraries(self.below, self.folder)
-        if (self.crate.folder / "out").is_dir():
-            shutil.move(str(self.crate.folder / "out"), str(self.working_folder() / "out"))
 
     def give_back(self, is_left: bool = False) -> None:
         """Moves the crate's `out/` into the tree, and removes the room. What a killed run left gives way to what was made since."""

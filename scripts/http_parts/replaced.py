@@ -7,14 +7,16 @@ import os
 from pathlib import Path
 from typing import Callable, List, NamedTuple
 
-from .server import Client, Server, figures, get, said, same
+from lib.checks import same
+from lib.served import Client, Served
+
+from .server import figures, get, serve, status_page, statuses
 
 TENANTS = (("a", 3, 1), ("b", 5, 2))
 LEFT = 100
 """How many bytes are left of a file that is cut."""
 FRONT = 64
 """How many bytes are written over its front."""
-FILE = "/tenants/a/file"
 
 
 class Harm(NamedTuple):
@@ -38,7 +40,7 @@ def replace(path: Path) -> None:
 
 
 HARMS = (Harm("cut", lambda path: os.truncate(path, LEFT), True), Harm("overwritten", overwrite, True),
-         Harm("replaced", replace, False), Harm("removed", lambda path: path.unlink(), False))
+         Harm("replaced", replace, False), Harm("removed", Path.unlink, False))
 
 
 def harmed_files(program: Path, folder: Path) -> str:
@@ -48,18 +50,20 @@ def harmed_files(program: Path, folder: Path) -> str:
         for is_strict in (False, True):
             for copies in (0, 2) if harm.is_seen else (0,):
                 try_harm(program, folder, harm, is_strict, copies)
+    for copies in (0, 2):
+        try_at_once(program, folder, copies)
     return "served files that are cut, overwritten, replaced and removed: noted, on each page, no copy, and with --strict no change"
 
 
 def try_harm(program: Path, folder: Path, harm: Harm, is_strict: bool, copies: int) -> None:
     """A server whose tenant a has its file harmed, of which so many copies are asked for at once."""
     what = f"a file that was {harm.name}, {'strict' if is_strict else 'not strict'}, {copies} copies before the note"
-    with Server(program, folder, TENANTS).start("--clients", "4", *(["--strict"] if is_strict else [])) as server:
+    with serve(program, folder, "--clients", "4", *(["--strict"] if is_strict else []), tenants=TENANTS) as server:
         client, other = Client(server.port, "a"), Client(server.port, "b")
         same(client.ask("CAS 0:0:1"), "YES", f"a change before, {what}")
-        same((get(server.pages, FILE).status, get(server.pages, "/healthz").body), (200, b"ok\n"), f"a copy and health before, {what}")
+        same((statuses(server, "file")[0], get(server.pages, "/healthz").body), (200, b"ok\n"), f"a copy and health before, {what}")
         harm.do(folder / "a.mw")
-        same([get(server.pages, FILE).status for _ in range(copies)], [500] * copies, f"copies, {what}")
+        same([get(server.pages, "/tenants/a/file").status for _ in range(copies)], [500] * copies, f"copies, {what}")
         same(server.note(), "tenant a: replaced\n", f"the note, {what}")
         same_pages(server, is_strict, what)
         same(reported(server), ["up", "up"], f"the report, {what}")
@@ -68,24 +72,33 @@ def try_harm(program: Path, folder: Path, harm: Harm, is_strict: bool, copies: i
         same(reported(server), ["down" if is_strict else "up", "up"], f"the report, {what}, after a change")
         same(other.ask("CAS 0:0:1"), "YES", f"a change of another tenant, {what}")
         for kind in ("file", "words"):
-            same([get(server.pages, f"/tenants/{name}/{kind}").status for name in "ab"], [503 if is_strict else 500, 200], f"{kind}, {what}")
-        client.close()
-        other.close()
-        same(server.end(), "tenant a: failed\na.mw: Stale file handle (os error 116)\n" if is_strict else "", f"further notes, {what}")
+            same(statuses(server, kind), [503 if is_strict else 500, 200], f"{kind}, {what}")
+        client.end()
+        other.end()
+        same(server.kill(), "tenant a: failed\na.mw: Stale file handle (os error 116)\n" if is_strict else "", f"further notes, {what}")
 
 
-def reported(server: Server) -> List[str]:
+def try_at_once(program: Path, folder: Path, copies: int) -> None:
+    """With --strict the next change after a cut is refused before the server has looked, whether a copy was asked for or not."""
+    with serve(program, folder, "--clients", "4", "--strict", tenants=TENANTS) as server:
+        client = Client(server.port, "a")
+        same(client.ask("CAS 0:0:1"), "YES", "a change before a cut")
+        os.truncate(folder / "a.mw", LEFT)
+        same([get(server.pages, "/tenants/a/file").status for _ in range(copies)], [500] * copies, "copies right after a cut")
+        same(client.ask("CAS 0:1:2"), "FAULT", f"a change right after a cut and {copies} copies")
+        client.end()
+
+
+def reported(server: Served) -> List[str]:
     """Whether the tenants are up, as the report tells."""
-    return [line.split()[-1] for line in said(server.port, b"ADMIN\nREPORT\n").decode().splitlines()[1:-1]]
+    return [line.split()[-1] for line in server.ask("ADMIN\nREPORT\n").splitlines()[1:-1]]
 
 
-def same_pages(server: Server, is_strict: bool, what: str) -> None:
+def same_pages(server: Served, is_strict: bool, what: str) -> None:
     """What the pages say of the tenant a, whose file is known to be harmed."""
     word = "down" if is_strict else "replaced"
     health, told = get(server.pages, "/healthz"), figures(server.pages)
     same((health.status, health.body), (503, f"{word} a\n".encode()), f"/healthz, {what}")
     same([told.of("mondlexi_file_replaced", tenant=name) for name in "ab"], [1, 0], f"mondlexi_file_replaced, {what}")
     same([told.of("mondlexi_up", tenant=name) for name in "ab"], [0 if is_strict else 1, 1], f"mondlexi_up, {what}")
-    page = get(server.pages, "/").body.decode()
-    for part in (f"Not well: a ({word}).", f"<td>a</td><td>{word}</td>", "<td>b</td><td>up</td>"):
-        same(part in page, True, f"the status page has {part!r}, {what}")
+    status_page(server, f"Not well: a ({word}).", f"<td>a</td><td>{word}</td>", "<td>b</td><td>up</td>")

@@ -5,13 +5,14 @@ Used by: scripts/check-http. A page or a status that docs/HTTP.md gains has a re
 import random
 import select
 import shutil
-import socket
 import subprocess
 import time
-from pathlib import Path
 from typing import Dict, List
 
-from .server import PATIENCE, TYPES, Server, Wrong, answer_of, connected, figures, get, heard, said, same
+from lib.checks import PATIENCE, Wrong, same
+from lib.served import Served, connected, heard, said
+
+from .server import TYPES, Figures, answer_of, figures, get, status_page
 
 END = b" HTTP/1.1\r\nHost: localhost\r\n\r\n"
 LONGEST = 8192
@@ -22,7 +23,8 @@ REQUEST_SECONDS, WHOLE_SECONDS = 2, 10
 WRONG = [
     (b"POST /" + END, 405), (b"DELETE /metrics" + END, 405), (b"POST /nothing" + END, 404), (b"BREW /" + END, 501),
     (b"get /" + END, 501), (b"GET /nothing" + END, 404), (b"GET /healthz/" + END, 404), (b"GET //" + END, 404),
-    (b"GET /tenants/c/file" + END, 404), (b"GET /tenants/c/words" + END, 404), (b"GET /tenants/a/words/" + END, 404), (b"POST /tenants/a/file" + END, 405), (b"GET /tenants/../file" + END, 404), (b"GET nothing" + END, 400),
+    (b"GET /tenants/c/file" + END, 404), (b"GET /tenants/c/words" + END, 404), (b"GET /tenants/a/words/" + END, 404),
+    (b"POST /tenants/a/file" + END, 405), (b"GET /tenants/../file" + END, 404), (b"GET nothing" + END, 400),
     (b"GET / HTTP/1.1\r\n\r\n", 400), (b"GET / HTTP/1.1\r\nHost: a\r\nHost: b\r\n\r\n", 400), (b"GET / HTTP/2.0\r\nHost: a\r\n\r\n", 400),
     (b"GET / HTTP/1.1\r\nHost : a\r\n\r\n", 400), (b"GET / HTTP/1.1\r\nHost: a\r\n b\r\n\r\n", 400), (b"\0\1\2\r\n\r\n", 400),
     (b"GET / HTTP/1.1\r\nHost: a\r\nContent-Length: 1\r\nContent-Length: 2\r\n\r\n", 400),
@@ -35,19 +37,17 @@ SILENT = [b"", b"GET / HTTP/1.1\r\n", b"GET /"]
 """Requests that are not whole: a client that sends no more after them hears nothing."""
 
 
-def right(server: Server) -> None:
-    """Each page to GET and to HEAD, by each form of its address, and a tenant's file."""
-    right_file(server)
-    for path, kind in TYPES.items():
+def right(server: Served) -> None:
+    """Each page to GET and to HEAD, by each form of its address, and a tenant's file, byte for byte, while nobody changes it."""
+    for path, kind in {**TYPES, FILE: "application/octet-stream"}.items():
         for target in (path, f"{path}?x=1", f"http://localhost{path}"):
             answer, head = get(server.pages, target), get(server.pages, target, "HEAD")
             same((answer.status, head.status), (200, 200), target)
             same((answer.fields["Content-Type"], head.fields["Content-Type"]), (kind, kind), target)
+            if path == FILE:
+                same((answer.body, int(head.fields["Content-Length"])), ((server.folder / "a.mw").read_bytes(), len(answer.body)), target)
     same(get(server.pages, "/healthz").body, b"ok\n", "/healthz")
-    page = get(server.pages, "/").body.decode()
-    for part in ("<td>a</td><td>up</td>", "All tenants are up", "Free slots of the pool"):
-        if part not in page:
-            raise Wrong(f"the status page has no {part!r}")
+    page = status_page(server, "<td>a</td><td>up</td>", "All tenants are up", "Free slots of the pool")
     for part in ("<script", "src=", "<link", "href=\"status.css\""):
         same(page.count(part), 1, f"how often the status page has {part!r}")
     whole = "".join(get(server.pages, path).body.decode() for path in ("/", "/status.css", "/status.js"))
@@ -56,7 +56,7 @@ def right(server: Server) -> None:
             raise Wrong(f"the status page has {part!r}")
 
 
-def by_name(server: Server, *names: str) -> None:
+def by_name(server: Served, *names: str) -> None:
     """A page to whoever calls the server by an address, by localhost, by no name, or by one of these names, and to nobody else."""
     called = ["localhost", "LocalHost:80", "127.0.0.1:7002", "10.0.0.7", "[::1]", "[fe80::1]:80", ""]
     hosts = [(name, 200) for name in [*called, *names, *(f"{name.upper()}:7002" for name in names)]]
@@ -66,16 +66,7 @@ def by_name(server: Server, *names: str) -> None:
     same(answer_of(said(server.pages, b"GET /healthz HTTP/1.0\r\n\r\n")).status, 200, "no Host")
 
 
-def right_file(server: Server) -> None:
-    """A tenant's file, byte for byte, while nobody changes it."""
-    answer, head = get(server.pages, FILE), get(server.pages, FILE, "HEAD")
-    same((answer.status, head.status), (200, 200), FILE)
-    for fields in (answer.fields, head.fields):
-        same((fields["Content-Type"], int(fields["Content-Length"])), ("application/octet-stream", len(answer.body)), FILE)
-    same(answer.body, (server.folder / "a.mw").read_bytes(), FILE)
-
-
-def by_curl(server: Server) -> None:
+def by_curl(server: Served) -> None:
     """A page and a file by curl, if it is there."""
     if shutil.which("curl"):
         for path, wanted in (("/healthz", b"ok\n"), (FILE, (server.folder / "a.mw").read_bytes())):
@@ -83,18 +74,17 @@ def by_curl(server: Server) -> None:
             same(subprocess.run(words, stdout=subprocess.PIPE, timeout=PATIENCE, check=True).stdout, wanted, f"{path} by curl")
 
 
-def wrong(server: Server) -> None:
+def wrong(server: Served) -> None:
     """Each wrong request is refused by its status, and what is no whole request is not answered."""
     for text, status in WRONG:
         answer = answer_of(said(server.pages, text))
-        same(answer.status, status, repr(text[:60]))
-        same(answer.body, b"", repr(text[:60]))
-        same("Allow" in answer.fields, status == 405, "Allow")
+        found = answer.status, answer.body, "Allow" in answer.fields
+        same(found, (status, b"", status == 405), f"the status, the body and whether there is Allow, of {text[:60]!r}")
     for text in SILENT:
         same(said(server.pages, text), b"", repr(text))
 
 
-def slow(server: Server) -> None:
+def slow(server: Served) -> None:
     """Clients that are silent or slow are answered 408, others wait for them, and one that takes no answer is closed."""
     begun = time.monotonic()
     same(answer_of(said(server.pages, b"GET /", ends=False)).status, 408, "a silent client")
@@ -119,27 +109,22 @@ def mutated(text: bytes, others: List[bytes], rng: random.Random) -> bytes:
     made = bytearray(text)
     for _ in range(rng.choice((1, 1, 2, 3, 8))):
         at = rng.randrange(len(made) + 1)
-        kind = rng.randrange(7)
-        if kind == 0 and at < len(made):
-            made[at] = rng.randrange(256)
-        elif kind == 1:
-            made[at:at] = bytes(rng.randrange(256) for _ in range(rng.choice((1, 2, 40))))
-        elif kind == 2:
-            del made[at:at + rng.choice((1, 1, 4, 100))]
-        elif kind == 3:
-            made[at:at] = made[max(0, at - rng.randrange(1, 30)):at]
-        elif kind == 4:
-            made[at:at] = rng.choice((b"\r\n", b"\n", b"\r", b" ", b":", b"\0", b"/../", b"%2e", b"Host: b\r\n", b"HTTP/1.1"))
-        elif kind == 5:
-            del made[at:]
-        else:
-            made[at:] = rng.choice(others)[-rng.randrange(1, 60):]
+        end, new = rng.choice((
+            lambda: (at + 1, bytes([rng.randrange(256)]) if at < len(made) else b""),
+            lambda: (at, bytes(rng.randrange(256) for _ in range(rng.choice((1, 2, 40))))),
+            lambda: (at + rng.choice((1, 1, 4, 100)), b""),
+            lambda: (at, made[max(0, at - rng.randrange(1, 30)):at]),
+            lambda: (at, rng.choice((b"\r\n", b"\n", b"\r", b" ", b":", b"\0", b"/../", b"%2e", b"Host: b\r\n", b"HTTP/1.1"))),
+            lambda: (len(made), b""),
+            lambda: (len(made), rng.choice(others)[-rng.randrange(1, 60):])))()
+        made[at:end] = new
     return bytes(made)
 
 
-def fuzz(server: Server, count: int, seed: int) -> Dict[int, int]:
+def fuzz(server: Served, count: int, seed: int) -> Dict[int, int]:
     """Many mutated requests: each has an answer or none, and nothing else is touched. Gives how many had which status, 0 for none."""
-    rng, found = random.Random(seed), {}
+    rng = random.Random(seed)
+    found: Dict[int, int] = {}
     bases = [text for text, _ in WRONG if len(text) < 1000] + [f"{method} {path}".encode() + END for method in ("GET", "HEAD") for path in (*TYPES, FILE, WORDS)]
     bases += [b"GET /metrics HTTP/1.1\r\nHost: localhost:9\r\nUser-Agent: curl/7.88\r\nAccept: */*\r\nConnection: close\r\n\r\n"]
     before = untouched(server)
@@ -155,8 +140,8 @@ def fuzz(server: Server, count: int, seed: int) -> Dict[int, int]:
     return found
 
 
-def untouched(server: Server) -> Dict:
+def untouched(server: Served) -> Figures:
     """The figures, without the time since the start, and without reads: a copy of a file is one."""
     found = figures(server.pages)
     del found["mondlexi_uptime_seconds", ""]
-    return {key: value for key, value in found.items() if 'call="read"' not in key[1]}
+    return Figures({key: value for key, value in found.items() if 'call="read"' not in key[1]})

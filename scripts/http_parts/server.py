@@ -1,65 +1,22 @@
-"""A server with pages for the parts of scripts/check-http, its clients, and what its pages say.
+"""A server with pages, and what its pages say.
 
-Used by: scripts/bench-http, scripts/check-backup, scripts/check-http, scripts/check-prometheus, cron.py, looks.py, replaced.py, requests.py,
+Used by: scripts/bench-http, scripts/check-http, scripts/check-prometheus, cron.py, looks.py, replaced.py, requests.py,
 told.py, words.py, soak_parts/backups.py. STATUSES are those of docs/HTTP.md, TYPES those of crates/mw_http/src/heads.rt: a further page or
-status is added here too. `new_file` writes the bytes of docs/FILES.md.
+status is added here too.
 """
-import os
 import re
-import resource
-import signal
-import socket
-import struct
-import subprocess
 from pathlib import Path
-from typing import Dict, List, NamedTuple, Optional, Sequence, Tuple, Union
+from typing import Dict, List, NamedTuple, Sequence, Tuple
 
-PATIENCE = 60
-"""For how many seconds an answer or an end is waited for. What needs longer hangs."""
+from lib.checks import Wrong, same
+from lib.served import Address, Served, new_bytes, said
+
 STATUSES = {200, 400, 404, 405, 408, 414, 421, 431, 500, 501, 503}
 TYPES = {"/": "text/html; charset=utf-8", "/metrics": "text/plain; version=0.0.4; charset=utf-8", "/healthz": "text/plain; charset=utf-8",
          "/status.css": "text/css; charset=utf-8", "/status.js": "text/javascript; charset=utf-8"}
 SAMPLE = re.compile(r'(\w+)(?:\{(.*)\})? (\S+)')
-
-Address = Union[int, Path]
-"""A port of this machine, or the path of a local socket."""
-
-
-class Wrong(Exception):
-    """Something is not as it must be."""
-
-
-def same(found: object, wanted: object, what: str) -> None:
-    """Fails if both differ."""
-    if found != wanted:
-        raise Wrong(f"{what}: {found!r} in place of {wanted!r}")
-
-
-def connected(address: Address) -> socket.socket:
-    """A connection to this address."""
-    if isinstance(address, int):
-        return socket.create_connection(("127.0.0.1", address), PATIENCE)
-    client = socket.socket(socket.AF_UNIX)
-    client.settimeout(PATIENCE)
-    client.connect(str(address))
-    return client
-
-
-def heard(client: socket.socket) -> bytes:
-    """What comes until the other side ends."""
-    return b"".join(iter(lambda: client.recv(65536), b""))
-
-
-def said(address: Address, text: bytes, ends: bool = True) -> bytes:
-    """What is answered to these bytes, after which the client sends no more, or is silent."""
-    with connected(address) as client:
-        try:
-            client.sendall(text)
-            if ends:
-                client.shutdown(socket.SHUT_WR)
-        except OSError:
-            pass  # it was answered before all was sent, and may have been closed
-        return heard(client)
+Tenants = Sequence[Tuple[str, int, int]]
+"""Names, each with its number of words and its quota."""
 
 
 class Answer(NamedTuple):
@@ -91,6 +48,25 @@ def get(address: Address, path: str, method: str = "GET") -> Answer:
     return answer_of(said(address, text, ends=False), method == "GET")
 
 
+def status_page(server: Served, *parts: str) -> str:
+    """The status page, which has to have these parts."""
+    page = get(server.pages, "/").body.decode()
+    has(page, "the status page", *parts)
+    return page
+
+
+def has(page: str, what: str, *parts: str) -> None:
+    """Wrong unless a page has these parts."""
+    for part in parts:
+        if part not in page:
+            raise Wrong(f"{what} has no {part!r}: {page}")
+
+
+def statuses(server: Served, kind: str) -> List[int]:
+    """How the page of this kind is answered for the tenants a and b."""
+    return [get(server.pages, f"/tenants/{name}/{kind}").status for name in "ab"]
+
+
 class Figures(Dict[Tuple[str, str], float]):
     """What /metrics says: by a metric and its labels."""
 
@@ -120,95 +96,15 @@ def figures(address: Address) -> Figures:
 
 def new_file(path: Path, words: int, places: int) -> None:
     """Writes a tenant's file as mwinit does."""
-    path.write_bytes(b"MWCASF1\n" + struct.pack("<II", words, places) + bytes(16 + 8 * words + 136 * places))
+    path.write_bytes(new_bytes(words, places))
 
 
-class Server:
-    """A server of some tenants, with pages."""
-
-    def __init__(self, program: Path, folder: Path, tenants: Sequence[Tuple[str, int, int]]):
-        self.program, self.folder = program, folder
-        self.process: Optional[subprocess.Popen] = None
-        self.port, self.pages = 0, Path()
-        for name, words, quota in tenants:
-            new_file(folder / f"{name}.mw", words, quota)
-        lines = [f"{name} {words} {quota} {name}.mw\n" for name, words, quota in tenants]
-        (folder / "tenants").write_text("".join(lines))
-
-    def start(self, *options: str, file_size: int = 0) -> "Server":
-        """Starts it. With a file size, the system lets it write no byte after that: each such write fails."""
-        def limited() -> None:
-            if file_size:
-                signal.signal(signal.SIGXFSZ, signal.SIG_IGN)
-                resource.setrlimit(resource.RLIMIT_FSIZE, (file_size, file_size))
-
-        words = [str(self.program), "--tenants", "tenants", "--listen", "127.0.0.1:0", "--http", "unix:pages", *options]
-        self.process = subprocess.Popen(words, cwd=self.folder, stdin=subprocess.DEVNULL, stdout=subprocess.PIPE, stderr=subprocess.PIPE,
-                                        text=True, restore_signals=False, preexec_fn=limited)
-        same(self.line(), "http unix:pages\n", "where the pages are")
-        self.pages = self.folder / "pages"
-        word, port = self.line().split()
-        same(word, "ready", "the server")
-        self.port = int(port)
-        return self
-
-    def line(self) -> str:
-        """The next line that it prints."""
-        assert self.process and self.process.stdout
-        return self.process.stdout.readline()
-
-    def note(self) -> str:
-        """The next line of its notes."""
-        assert self.process and self.process.stderr
-        return self.process.stderr.readline()
-
-    def end(self) -> str:
-        """Kills it. Gives its notes that were not read before."""
-        assert self.process
-        self.process.kill()
-        return self.process.communicate(timeout=PATIENCE)[1]
-
-    def __enter__(self) -> "Server":
-        return self
-
-    def __exit__(self, *_: object) -> None:
-        if self.process and self.process.poll() is None:
-            self.end()
-
-
-class Client:
-    """A client of a tenant, which counts its bytes and its replies."""
-
-    def __init__(self, port: int, tenant: str):
-        self.socket = connected(port)
-        self.file = self.socket.makefile("rb")
-        self.sent, self.received = 0, 0
-        self.replies: List[str] = []
-        self.ask(f"TENANT {tenant}")
-
-    def ask(self, line: str) -> str:
-        """The reply to a line."""
-        text = f"{line}\n".encode()
-        self.socket.sendall(text)
-        reply = self.file.readline()
-        self.sent, self.received = self.sent + len(text), self.received + len(reply)
-        self.replies.append(reply.decode().split()[0])
-        return reply.decode().rstrip("\n")
-
-    def close(self) -> None:
-        """Ends the connection, and waits until the server has ended it too."""
-        self.socket.shutdown(socket.SHUT_WR)
-        self.file.read()
-        self.file.close()
-        self.socket.close()
-
-
-def room_for(connections: int) -> None:
-    """Lets this process, and the servers that it starts, have so many connections."""
-    _, most = resource.getrlimit(resource.RLIMIT_NOFILE)
-    wanted = connections + 300
-    if most != resource.RLIM_INFINITY and most < wanted:
-        if os.geteuid():
-            raise Wrong(f"the limit of descriptors is {most}, and {wanted} are needed")
-        most = wanted
-    resource.setrlimit(resource.RLIMIT_NOFILE, (wanted, most))
+def serve(program: Path, folder: Path, *options: str, tenants: Tenants = (), **more: object) -> Served:
+    """A server with pages, of new files of these tenants, or of those that are there."""
+    for name, words, quota in tenants:
+        new_file(folder / f"{name}.mw", words, quota)
+    if tenants:
+        (folder / "tenants").write_text("".join(f"{name} {words} {quota} {name}.mw\n" for name, words, quota in tenants))
+    server = Served(folder, "--http", "unix:pages", *options, program=program, **more)
+    same(server.lines[0], "http unix:pages\n", "where the pages are")
+    return server

@@ -3,54 +3,50 @@
 Used by: scripts/check-http. docs/HTTP.md has the form of the page.
 """
 import asyncio
-import subprocess
-import sys
 import threading
-from pathlib import Path
 from typing import Callable, List
 
-from .server import PATIENCE, Client, Server, Wrong, get, same
+from lib.checks import MWSHOW, PATIENCE, Wrong, is_built, raises, run, same
+from lib.served import Client, Served
 
-TOP = Path(__file__).resolve().parent.parent.parent
-sys.path.insert(0, str(TOP / "clients/python"))
+from .server import get
 
-import mondlexi.aio  # noqa: E402
+import mondlexi.aio
 
-MWSHOW = TOP / "crates/mwshow/out/mwshow"
 WORDS, MOVERS, COUNT = 64, 6, 40
 """The words of the tenant, clients that change them, and the first of their counts."""
 SNAPSHOTS = 60
 
 
-def right(server: Server) -> None:
+def right(server: Served) -> None:
     """The words are those that `GET` tells and, if it is built, what mwshow prints of a copy."""
     client = Client(server.port, "a")
     same(client.ask("CAS 3:0:7 63:0:281474976710655"), "YES", "a change")
     told = [int(client.ask(f"GET {address}").split()[1]) for address in range(WORDS)]
     same((told[3], told[63]), (7, 2 ** 48 - 1), "the words of a change")
-    client.close()
+    client.end()
     text = get(server.pages, "/tenants/a/words").body.decode()
     same([line.split()[0] for line in text.splitlines()], ["second", "words", "places"] + ["word"] * WORDS, "the lines of all words")
     for snapshot in (taken, awaited):
         same(snapshot(server), told, "a snapshot")
-    if MWSHOW.exists():
+    if is_built("mwshow"):
         copy = server.folder / "copy.mw"
         copy.write_bytes(get(server.pages, "/tenants/a/file").body)
-        same(subprocess.run([MWSHOW, "--words", copy], stdout=subprocess.PIPE, text=True, check=True, timeout=PATIENCE).stdout, text, "what mwshow prints")
+        same(run(MWSHOW, "--words", copy), (0, text, ""), "what mwshow prints")
         copy.unlink()
 
 
-def taken(server: Server) -> List[int]:
+def taken(server: Served) -> List[int]:
     """A snapshot."""
     return mondlexi.snapshot(f"unix:{server.pages}", "a", timeout=PATIENCE)
 
 
-def awaited(server: Server) -> List[int]:
+def awaited(server: Served) -> List[int]:
     """A snapshot by asyncio."""
     return asyncio.run(mondlexi.aio.snapshot(f"unix:{server.pages}", "a", timeout=PATIENCE))
 
 
-def of_one_moment(server: Server) -> None:
+def of_one_moment(server: Served) -> None:
     """While clients move amounts between words, and each counts its changes, all words of a snapshot come to the same, and no count is below
     what was told before."""
     whole = sum(taken(server)[:COUNT])
@@ -68,13 +64,10 @@ def of_one_moment(server: Server) -> None:
     same(min(told) > 0, True, "each client changes words meanwhile")
     look(server, taken, told, whole)
     for kind, tenant in ((mondlexi.Refused, "c"), (ValueError, "a/file")):
-        try:
-            raise Wrong(f"a snapshot of {tenant}: {mondlexi.snapshot(f'unix:{server.pages}', tenant)}")
-        except kind:
-            pass
+        raises(kind, f"a snapshot of {tenant}", mondlexi.snapshot, f"unix:{server.pages}", tenant)
 
 
-def move(server: Server, number: int, told: List[int], is_over: threading.Event) -> None:
+def move(server: Served, number: int, told: List[int], is_over: threading.Event) -> None:
     """Moves 1 from one word to another, again and again, with a count of this client's changes."""
     client, turn = Client(server.port, "a"), number
     while not is_over.is_set():
@@ -87,10 +80,10 @@ def move(server: Server, number: int, told: List[int], is_over: threading.Event)
         if one or other:
             line = f"CAS {source}:{one}:{one - step} {target}:{other}:{other + step} {COUNT + number}:{told[number]}:{told[number] + 1}"
             told[number] += client.ask(line) == "YES"
-    client.close()
+    client.end()
 
 
-def look(server: Server, snapshot: Callable[[Server], List[int]], told: List[int], whole: int) -> None:
+def look(server: Served, snapshot: Callable[[Served], List[int]], told: List[int], whole: int) -> None:
     """One snapshot, of whose words those that are moved come to this."""
     before = list(told)
     words = snapshot(server)

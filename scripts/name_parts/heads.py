@@ -5,11 +5,12 @@ Used by: scripts/check-names. faults() tells what is wrong of the crates' files:
 - The heads have at most MOST_WORDS words, the marks of comments counted.
 - No head says that its file 'may change freely': CONTRIBUTING says what may.
 - Each name of a list 'Used by: a, b, mw_c.' is a file, a function, a type or a crate, and uses the file. A page of specs/ or
-  proofs/ is used by what imports it; a function, if the page is imported at all, by a file in the function's folder of
-  proofs/; a module of src/, by a file that has its name or one that it defines. A crate is used by those above it in
-  crates.txt alone. What follows a name is not read.
+  proofs/ is used by what imports it, or names it in a tactic; a function or a file of src/, if a page of proofs/ is imported
+  at all, also by what is in its folder of proofs/; a module of src/, by a file that has its name or one that it defines. A crate
+  is used by those above it in crates.txt alone. What follows a name is not read.
 - A list of a page names each other crate that imports the page, or says 'many crates from mw_a on': more than MOST_NAMED,
-  of which mw_a is the lowest. It need not name pages beside it, nor all functions.
+  of which mw_a is the lowest. It names also each file of the crate's own src/ that imports the page, or a function or type of
+  that file. It need not name pages beside it, nor all functions.
 - The head of a file of src/ names each other crate that imports a public name of the file by `use`, in its list if it has one.
   That of a crate's root names each that imports anything of the crate. Crates of tests are left out. The head may say that the
   crates are many, as a page does, or 'among others' or 'Every layer uses'.
@@ -27,10 +28,14 @@ A rule that is added here is told in the head of scripts/check-names or in CONTR
 """
 import re
 from collections import defaultdict
+from itertools import takewhile
+
+from register_parts.source import crates, read
 
 MOST_WORDS = 70000
 MOST_NAMED = 5
 IMPORT = re.compile(r"\bRattle\.(\w+)\.(specs|proofs)\.([\w.]+)")
+TACTIC = re.compile(r"\b(crate|mw_\w+)::(specs|proofs)::([\w:]+)")
 WORD = re.compile(r"\w+")
 SPAN = re.compile(r"`([^`\n]+)`")
 DEFINED = re.compile(r"^\s*(?:pub(?:\([a-z]+\))? )?(?:const )?(?:unsafe )?(?:fn|struct|trait|enum|type|const) (\w+)", re.M)
@@ -56,12 +61,7 @@ CITED = re.compile(r"((?:(?:README|(?:docs/)?[A-Z][A-Z-]+)(?:\.md)?(?:, | and )?
 def head_of(path, text):
     """The lines of a file's head."""
     mark = "//!" if path.endswith(".rt") else "--"
-    lines = []
-    for line in text.split("\n"):
-        if not line.startswith(mark):
-            break
-        lines.append(line[len(mark):].strip())
-    return lines
+    return [line[len(mark):].strip() for line in takewhile(lambda line: line.startswith(mark), text.split("\n"))]
 
 
 def crate_of(path):
@@ -81,6 +81,8 @@ class Heads:
         for path, text in texts.items():
             self.crates[crate_of(path)].append(path)
             found = set(IMPORT.findall(text))
+            for crate, kind, rest in TACTIC.findall(text) if path in self.words else ():
+                found.add((crate_of(path) if crate == "crate" else crate, kind, rest.replace("::", ".")))
             self.imported[crate_of(path)].update(crate for crate, _, _ in found)
             for page in {self.page(*names) for names in found} - {None, path}:
                 self.importers[page].add(path)
@@ -93,11 +95,8 @@ class Heads:
     def page(self, crate, kind, rest):
         """The page that Rattle.CRATE.KIND.REST imports from: its longest beginning that is a file."""
         parts = rest.strip(".").split(".")
-        for count in range(len(parts), 0, -1):
-            page = f"crates/{crate}/{kind}/{'/'.join(parts[:count])}.antt"
-            if page in self.texts:
-                return page
-        return None
+        pages = (f"crates/{crate}/{kind}/{'/'.join(parts[:count])}.antt" for count in range(len(parts), 0, -1))
+        return next((page for page in pages if page in self.texts), None)
 
     def files(self, crate, name):
         """The files of a crate whose paths end so."""
@@ -124,30 +123,44 @@ class Heads:
             if others:
                 self.tell(path, f"is used by {', '.join(others)}, which its head does not name")
 
+    def names_sources(self, path, names):
+        """The files of the crate's own src/ that import a page are among these names, or define one of them."""
+        crate = crate_of(path)
+        users = {user for user in self.importers[path] if user.startswith(f"crates/{crate}/src/")}
+        for name in names:
+            if name.endswith(".rt"):
+                users.difference_update(self.files(crate, name))
+            elif not self.files(crate, f"{name}.antt"):
+                users.difference_update(self.definers(crate, name.split("::")[-1]))
+        if users:
+            self.tell(path, f"is used by {', '.join(sorted(users))}, which its head does not name")
+
     def users_of_page(self, path, items):
         """A list of users in a page of specs/ or proofs/."""
-        above = {crate_of(user) for user in self.importers[path]} - {crate_of(path)}
+        above = {crate_of(user) for user in self.importers[path]}
         names = [name.group(1) or name.group(2) for name in map(NAMED.fullmatch, items) if name]
-        self.names_crates(path, above, ", ".join(items), names)
+        self.names_crates(path, above - {crate_of(path)}, ", ".join(items), names)
+        self.names_sources(path, names)
         for name in names:
-            self.user_of_page(path, name)
+            if name not in self.order:
+                self.user_of_page(path, name)
+            elif name not in above:
+                self.not_used(path, name)
 
     def user_of_page(self, path, name):
-        """One user of a page: a crate, a file, a function or a type."""
+        """One user of a page in its own crate: a file, a function or a type."""
         crate, importers, last = crate_of(path), self.importers[path], name.split("::")[-1]
-        if name in self.order:
-            if not any(crate_of(user) == name for user in importers):
-                self.not_used(path, name)
-            return
         is_proof = path.split("/")[2] == "proofs"
         files = self.files(crate, name if name.endswith(".rt") else f"{name}.antt")
         if files:
-            if not importers.intersection(files) and not (is_proof and name.endswith(".rt")):
+            folders = tuple(file.replace("/src/", "/proofs/").removesuffix(".rt") + "/" for file in files if is_proof)
+            if not any(user in files or user.startswith(folders) for user in importers) and (importers or not is_proof):
                 self.not_used(path, name)
         elif not self.definers(crate, last):
             self.tell(path, f"`{name}` is no file, function, type or crate")
-        elif is_proof and importers and last[0].islower() and not any(f"/{last}/" in user for user in importers):
-            self.not_used(path, f"the proof of {name}")
+        elif is_proof and importers and last[0].islower():
+            if not any(f"/{last}/" in user for user in importers) and not importers.intersection(self.definers(crate, last)):
+                self.not_used(path, f"the proof of {name}")
 
     def crates_of_source(self, path, text):
         """The head of a file of src/ names the crates that import from it."""
@@ -274,11 +287,10 @@ def faults_of_scripts(texts):
     return missing
 
 
-def faults(files, read):
-    """What is wrong with the heads of these files, which read() gives."""
+def faults(files):
+    """What is wrong with the heads of these files."""
     texts = {path: read(path) for path in files if path.startswith("crates/") and path.endswith((".rt", ".antt"))}
     documents = {path.split("/")[-1].removesuffix(".md"): set(WORD.findall(" ".join(SPAN.findall(read(path)))))
                  for path in files if re.fullmatch(r"(docs/)?[A-Z-]+\.md", path)}
-    lines = (line.split("#")[0].split() for line in read("crates.txt").split("\n"))
     scripts = {path: read(path) for path in files if re.fullmatch(r"scripts/([\w-]+|\w+_parts/\w+\.py)", path)}
-    return Heads(texts, documents, [words[0].rstrip(":") for words in lines if words]).all() + faults_of_scripts(scripts)
+    return Heads(texts, documents, crates()).all() + faults_of_scripts(scripts)

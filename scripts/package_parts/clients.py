@@ -47,26 +47,26 @@ def client_sources() -> Dict[str, str]:
     return {str(path): str(path) for path in files}
 
 
-def libc_of(library: Path) -> str:
-    """The least version of the C library that a shared library needs."""
-    told = subprocess.run(["readelf", "--version-info", library], stdout=subprocess.PIPE, text=True, check=True).stdout
+def libc_of(told: str) -> str:
+    """The least version of the C library that programs or libraries need, of which readelf tells this."""
     found = {tuple(map(int, it.split("."))) for it in re.findall(r"GLIBC_(\d+(?:\.\d+)+)", told)}
     return ".".join(map(str, max(found, default=(2, 2, 5))))
 
 
-def pack_page(page: Path, moment: int) -> None:
-    """Packs a page of the manual, as dpkg's packages have it."""
-    packed = page.with_name(f"{page.name}.gz")
-    packed.write_bytes(gzip.compress(page.read_bytes(), 9, mtime=moment))
-    packed.chmod(0o644)
-    page.unlink()
+def build_deb(root: Path, made: Path, moment: int) -> Path:
+    """Makes a package of dpkg of the files below a folder. Its path."""
+    subprocess.run(["dpkg-deb", "--root-owner-group", "-Zgzip", "-z6", "--build", root, made], check=True, stdout=subprocess.DEVNULL,
+                   env={**os.environ, "SOURCE_DATE_EPOCH": str(moment)})
+    return made
 
 
 def lay_out(root: Path, room: Path, moment: int) -> None:
     """The files of the package, below a folder."""
     words = [f"OUT={room}/out", f"DESTDIR={root}", "PREFIX=/usr", f"LIBDIR={LIBRARIES}", "CFLAGS=-O2"]
     subprocess.run(["make", "-s", "-C", TOP / "clients/c", *words, "install"], check=True)
-    pack_page(root / "usr/share/man/man3/mondlexi.3", moment)
+    page = root / "usr/share/man/man3/mondlexi.3"
+    page.with_name("mondlexi.3.gz").write_bytes(gzip.compress(page.read_bytes(), 9, mtime=moment))
+    page.unlink()
     documents = root / "usr/share/doc/libmondlexi-dev"
     documents.mkdir(parents=True)
     for name in DOCUMENTS:
@@ -84,10 +84,8 @@ def make_library(to: Path, room: Path, version: str, maintainer: str, moment: in
     size = sum(path.stat().st_size for path in root.rglob("*") if path.is_file() and not path.is_symlink()) // 1024
     control = root / "DEBIAN"
     control.mkdir()
-    libc = libc_of(root / LIBRARIES[1:] / "libmondlexi.so.0")
+    library = root / LIBRARIES[1:] / "libmondlexi.so.0"
+    libc = libc_of(subprocess.run(["readelf", "--version-info", library], stdout=subprocess.PIPE, text=True, check=True).stdout)
     (control / "control").write_text(CONTROL.format(version=version, maintainer=maintainer, size=size, libc=libc))
     (control / "triggers").write_text("activate-noawait ldconfig\n")
-    made = to / f"libmondlexi-dev_{version}_amd64.deb"
-    subprocess.run(["dpkg-deb", "--root-owner-group", "-Zgzip", "-z6", "--build", root, made], check=True, stdout=subprocess.DEVNULL,
-                   env={**os.environ, "SOURCE_DATE_EPOCH": str(moment)})
-    return made
+    return build_deb(root, to / f"libmondlexi-dev_{version}_amd64.deb", moment)

@@ -1,9 +1,36 @@
-"""The scripts that dpkg runs when it installs, upgrades, removes or purges the package.
+"""What dpkg and its user are told of the package, its fields, copyright and changelog; and the scripts that dpkg runs when it installs,
+upgrades, removes or purges it.
 
 Used by: scripts/package. An upgrade replaces the files while a server runs, and restarts it then. A removal stops all units first.
 """
-from typing import Tuple
+from datetime import datetime, timezone
+from typing import List, Tuple
 
+CONTROL = """Package: mondlexi
+Version: {version}
+Architecture: amd64
+Maintainer: {maintainer}
+Installed-Size: {size}
+Section: database
+Priority: optional
+Depends: {libraries}, curl, passwd
+Recommends: python3 (>= 3.8)
+Suggests: haproxy
+Description: server of durable words with a multi-word compare-and-swap
+ Stores integers of 48 bits for up to 16 tenants. A change compares and
+ writes up to sixteen of them, durably, and wholly or not at all.
+ .
+ The package has the server, a client in Python, units for systemd, and
+ what watches the server and takes backups of it.
+"""
+COPYRIGHT = """Copyright {year} {maintainer}
+
+The repository from which this package was made gives no license. So all
+rights are reserved by its authors: without their leave nobody else may
+copy, change or distribute it.
+"""
+PROVIDERS = {"libgcc_s.so.1": "libgcc-s1"}
+"""The packages of Debian that have a library, where it isn't libc6."""
 SERVERS = ("mondlexi.service", "mondlexi-local.service")
 TIMERS = ("mondlexi-health.timer", "mondlexi-backup.timer")
 BESIDE = ("mondlexi-pages.socket", "mondlexi-pages.service", *TIMERS)
@@ -64,3 +91,15 @@ fi
 
 SCRIPTS: Tuple[Tuple[str, str], ...] = (("preinst", BEFORE_INSTALL), ("postinst", AFTER_INSTALL), ("prerm", BEFORE_REMOVAL), ("postrm", AFTER_REMOVAL))
 """Each script, by the name that dpkg has for it."""
+
+
+def control(version: str, maintainer: str, size: int, libc: str, libraries: List[str]) -> str:
+    """The fields of the package; its size is in KiB."""
+    needed = [f"libc6 (>= {libc})", *sorted({PROVIDERS[it] for it in libraries if it in PROVIDERS})]
+    return CONTROL.format(version=version, maintainer=maintainer, size=size, libraries=", ".join(needed))
+
+
+def changelog(version: str, maintainer: str, moment: int) -> str:
+    """The changelog that Debian's tools read. The page CHANGELOG.md has the changes."""
+    day = datetime.fromtimestamp(moment, timezone.utc).strftime("%a, %d %b %Y %H:%M:%S +0000")
+    return f"mondlexi ({version}) unstable; urgency=medium\n\n  * CHANGELOG.md in this folder tells what has changed.\n\n -- {maintainer}  {day}\n"

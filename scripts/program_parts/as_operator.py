@@ -13,20 +13,19 @@ import pwd
 import re
 import signal
 import socket
-import subprocess
 import sys
 import threading
 import time
 from pathlib import Path
 from typing import List
 
-from units import (LOCAL, OPTIONS, PAGE, PATIENCE, PROXY, PROXY_PAGE, ROOM, UNITS, DropIn, Unit, begin, blocks, client, end, ended, journal, main_process,
-                   refuses_to_start, run, same, section_of, servers, shown, state, try_to_talk, type_block, wait_until, word,
-                   wrong)
-from upkeep import KEPT, try_cron, try_page, try_upgrades
+from units import (HTTP_PAGE, LOCAL, OPTIONS, PAGE, PATIENCE, PROXY, PROXY_PAGE, ROOM, UNITS, Unit, away, begin, blocks, changed, client, commands_of,
+                   drop_in, end, ended, journal, main_process, refuses_to_start, run, same, section_of, served, servers, shown, state, try_to_talk,
+                   type_block, wait_until, word, wrong)
+from upkeep import COPY, KEPT, files_of, put_back, try_backup_while_serving, try_cron, try_page, try_upgrades
 
-
-# What clients and root see
+CHOSEN = "--clients 256 --workers 8 --wait 5 --idle 3600 --faults 1 --strict --verbose"
+"""The options of both units, as /etc/default/mondlexi (contrib/mondlexi.default) has them: change both."""
 
 
 def change_until_killed(unit: Unit) -> int:
@@ -51,14 +50,22 @@ def field(process: int, name: str) -> str:
     return " ".join(re.findall(rf"^{name}:\s*(.*)$", Path(f"/proc/{process}/status").read_text(), re.MULTILINE)[0].split())
 
 
+def made_as(*paths: str) -> str:
+    """Owner, group and mode of files."""
+    return run("stat", "-c", "%U %G %a", *paths)
+
+
 def inside(process: int, command: str) -> str:
     """What a shell of root prints in the mounts of a process."""
     return ended("nsenter", "--target", process, "--mount", "sh", "-c", command).stdout
 
 
 def try_process(unit: Unit) -> None:
-    """The process has the user, the limits and the sandbox of its unit."""
+    """The process has the options, the user, the limits and the sandbox of its unit."""
     process = main_process(unit.name)
+    words = Path(f"/proc/{process}/cmdline").read_text().split("\0")[:-1]
+    addresses = ["--listen", unit.listen, "--admin", unit.admin, "--http", "unix:/run/mondlexi/pages", "--mode", "660"]
+    same(words[1:], ["--journal", "--tenants", "tenants", *addresses, *CHOSEN.split()], f"the command line of {unit.name}")
     user, group = pwd.getpwnam("mw"), ended("getent", "group", unit.group).stdout.split(":")[2]
     same([field(process, it).split() for it in ("Uid", "Gid")], [4 * [str(user.pw_uid)], 4 * [group]], "user and group")
     same([field(process, it) for it in ("NoNewPrivs", "Seccomp", "Umask")], ["1", "2", "0077"], "NoNewPrivileges=, SystemCallFilter=, UMask=")
@@ -95,9 +102,6 @@ def denies_addresses() -> bool:
     """Whether IPAddressDeny= denies anything: a container may not be able to."""
     send = "import socket; socket.socket(socket.AF_INET, socket.SOCK_DGRAM).sendto(b'', ('127.0.0.1', 9))"
     return ended("systemd-run", "--wait", "--quiet", "--property=IPAddressDeny=any", "python3", "-c", send).returncode != 0
-
-
-# What is tried
 
 
 def try_unit(unit: Unit) -> None:
@@ -159,86 +163,80 @@ def errors_of(unit: Unit) -> List[str]:
 
 def try_failing_starts(unit: Unit) -> None:
     """`systemctl start` fails if nothing is served: without the tenants file, with a wrong option, and if no tenant is up. With one that is up it goes well."""
-    tenants, chosen = ROOM / "tenants", OPTIONS.read_text()
-    text = tenants.read_text()
-    tenants.rename(ROOM / "tenants.away")
-    refuses_to_start(unit, "refused 2 file", "without a tenants file")
+    with away("tenants"):
+        refuses_to_start(unit, "refused 2 file", "without a tenants file")
     same("mwserve: refused 2 file" in errors_of(unit), True, f"that journalctl -p err shows why {unit.name} doesn't start")
-    (ROOM / "tenants.away").rename(tenants)
-    OPTIONS.write_text(chosen.replace("--clients 256", "--clients none"))
-    refuses_to_start(unit, "none", "with a wrong option")
+    with changed(OPTIONS, "--clients 256", "--clients none"):
+        refuses_to_start(unit, "none", "with a wrong option")
     same(any("'none' for '--clients <1..4096>'" in line for line in errors_of(unit)), True, f"that journalctl -p err shows the wrong option of {unit.name}")
-    OPTIONS.write_text(chosen.replace(" --strict", ""))
-    (ROOM / "t.mw").rename(ROOM / "t.away")
-    refuses_to_start(unit, "mondlexi-ready: no tenant is up", "whose only tenant is down")
-    same("mondlexi-ready: no tenant is up" in errors_of(unit), True, f"that journalctl -p err shows that {unit.name} has no tenant that is up")
-    (ROOM / "t.away").rename(ROOM / "t.mw")
-    tenants.write_text(f"{text}away 2 1 away.mw\n")
-    begin(unit)
-    same(ended("mondlexi-health", "unix:/run/mondlexi/pages").stdout, "down away\n", "mondlexi-health of a unit with a tenant that is down")
-    same("tenant away: disk" in errors_of(unit), True, "that journalctl -p err shows which tenant isn't served")
-    end(unit)
-    tenants.write_text(text)
-    OPTIONS.write_text(chosen)
+    with changed(OPTIONS, " --strict", ""):
+        with away("t.mw"):
+            refuses_to_start(unit, "mondlexi-ready: no tenant is up", "whose only tenant is down")
+        same("mondlexi-ready: no tenant is up" in errors_of(unit), True, f"that journalctl -p err shows that {unit.name} has no tenant that is up")
+        text = (ROOM / "tenants").read_text()
+        with changed(ROOM / "tenants", text, f"{text}away 2 1 away.mw\n"), served(unit):
+            same(ended("mondlexi-health", "unix:/run/mondlexi/pages").stdout, "down away\n", "mondlexi-health of a unit with a tenant that is down")
+            same("tenant away: disk" in errors_of(unit), True, "that journalctl -p err shows which tenant isn't served")
     print(f"{unit.name}: systemctl start fails if nothing is served, and says why")
 
 
 def try_most_clients(unit: Unit) -> None:
     """The limits of a unit are enough for the most clients, with --wait."""
-    chosen, before = OPTIONS.read_text(), len(journal(unit.name))
-    OPTIONS.write_text(chosen.replace("--clients 256", "--clients 4096"))
-    begin(unit)
-    try_to_talk(unit)
-    same([it for it in journal(unit.name)[before:] if it.startswith("mwserve: ")], [], "the notes of a unit with --clients 4096")
-    end(unit)
-    OPTIONS.write_text(chosen)
+    before = len(journal(unit.name))
+    with changed(OPTIONS, "--clients 256", "--clients 4096"), served(unit):
+        try_to_talk(unit)
+        same([it for it in journal(unit.name)[before:] if it.startswith("mwserve: ")], [], "the notes of a unit with --clients 4096")
     print(f"{unit.name}: --clients 4096 within the limits of the unit")
 
 
 def try_command(unit: Unit, folder: Path) -> None:
     """The command mondlexi: a change, a word that is set and read, words that are dumped and loaded, and a file that is made of a dump."""
-    begin(unit)
-    run("mondlexi", unit.listen, "t", "set", "7:5")
-    run("mondlexi", unit.listen, "t", "cas", "7:5:6", "8:0:1")
-    same(run("mondlexi", unit.listen, "t", "read", "7", "8").split(), ["6", "1"], "what mondlexi read prints")
-    run("sh", "-c", f"mondlexi {unit.listen} t dump --words > {folder}/dump && mwinit --from {folder}/dump {folder}/again.mw 1000 4")
-    same("word 7 6" in run("mwshow", folder / "again.mw").splitlines(), True, "the word of a file that was made of a dump")
-    run("mondlexi", unit.listen, "t", "cas", "7:6:0", "8:1:0")
-    run("sh", "-c", f"mondlexi {unit.listen} t load {folder}/dump")
-    same(run("mondlexi", unit.listen, "t", "get", "7"), "6\n", "a word that was loaded")
-    run("mondlexi", unit.listen, "t", "cas", "7:6:0", "8:1:0")
-    end(unit)
+    with served(unit):
+        run("mondlexi", unit.listen, "t", "set", "7:5")
+        run("mondlexi", unit.listen, "t", "cas", "7:5:6", "8:0:1")
+        same(run("mondlexi", unit.listen, "t", "read", "7", "8").split(), ["6", "1"], "what mondlexi read prints")
+        run("sh", "-c", f"mondlexi {unit.listen} t dump --words > {folder}/dump && mwinit --from {folder}/dump {folder}/again.mw 1000 4")
+        same("word 7 6" in run("mwshow", folder / "again.mw").splitlines(), True, "the word of a file that was made of a dump")
+        run("mondlexi", unit.listen, "t", "cas", "7:6:0", "8:1:0")
+        run("sh", "-c", f"mondlexi {unit.listen} t load {folder}/dump")
+        same(run("mondlexi", unit.listen, "t", "get", "7"), "6\n", "a word that was loaded")
+        run("mondlexi", unit.listen, "t", "cas", "7:6:0", "8:1:0")
     print("the command mondlexi: set, cas, read, dump, load; mwinit makes a file of its dump")
 
 
 def try_full(unit: Unit) -> None:
     """A client for whom no session is free is told so, after the --wait of the units."""
     import mondlexi
-    chosen = OPTIONS.read_text()
-    OPTIONS.write_text(chosen.replace("--clients 256", "--clients 2"))
-    begin(unit)
-    with client(unit), client(unit):
+    with changed(OPTIONS, "--clients 256", "--clients 2"), served(unit), client(unit), client(unit):
         try:
             client(unit)
         except mondlexi.Full:
             pass
         else:
             wrong("a third client was served by --clients 2")
-    end(unit)
-    OPTIONS.write_text(chosen)
     print(f"{unit.name}: a server that is full says so")
 
 
 def try_strict(unit: Unit) -> None:
-    """With --strict the unit fails if a tenant's file doesn't open."""
-    chosen = OPTIONS.read_text()
-    OPTIONS.write_text(chosen.replace(" --strict", "").replace("--verbose", "--strict --verbose"))
-    (ROOM / "t.mw").rename(ROOM / "t.away")
-    refuses_to_start(unit, "tenant t: disk", "with --strict whose file isn't there")
-    same((*state(unit.name), shown(unit.name, "ExecMainStatus")), ("failed", "exit-code", "1"), "a unit with --strict whose file isn't there")
-    (ROOM / "t.away").rename(ROOM / "t.mw")
-    OPTIONS.write_text(chosen)
-    print("--strict: the unit fails, with status 1, if a file doesn't open")
+    """By its own --strict the unit fails if one tenant's file doesn't open, though another one is up."""
+    text = (ROOM / "tenants").read_text()
+    with changed(ROOM / "tenants", text, f"{text}away 2 1 away.mw\n"):
+        refuses_to_start(unit, "tenant away: disk", "one of whose files isn't there")
+        same((*state(unit.name), shown(unit.name, "ExecMainStatus")), ("failed", "exit-code", "1"), "a unit with --strict, one of whose files isn't there")
+    print(f"{unit.name}: by its own --strict it fails, with status 1, if one file of two doesn't open")
+
+
+def try_idle(unit: Unit) -> None:
+    """A session that is silent for as long as --idle of the unit's options ends."""
+    host, _, place = unit.listen.partition(":")
+    with changed(OPTIONS, "--idle 3600", "--idle 1"), served(unit):
+        at = socket.socket(socket.AF_UNIX if host == "unix" else socket.AF_INET)
+        with at, at.makefile("rb") as lines:
+            at.settimeout(PATIENCE)
+            at.connect(place if host == "unix" else (host, int(place)))
+            at.sendall(b"TENANT t\n")
+            same((lines.readline(), lines.readline()), (b"OK 1000\n", b""), f"what a silent client of {unit.name} hears")
+    print(f"{unit.name}: --idle ends a silent session")
 
 
 def try_own_administrators(unit: Unit) -> None:
@@ -246,13 +244,10 @@ def try_own_administrators(unit: Unit) -> None:
     lines = re.findall(r"^ +((?:Environment|ReadWritePaths|ExecStartPre)=.*)$", PAGE.read_text(), re.MULTILINE)
     same([it.split("=")[0] for it in lines], ["Environment", "ReadWritePaths", "ExecStartPre"], "the lines of OPERATING for another group")
     run("groupadd", "--system", "mwadmins")
-    with DropIn(unit.name, "\n".join([*lines, ""])):
-        begin(unit)
-        made = run("stat", "-c", "%U %G %a", "/run/mondlexi-admin", "/run/mondlexi-admin/socket")
-        same(made, "mw mwadmins 2750\nmw mwadmins 660\n", "folder and socket")
+    with drop_in(unit.name, "\n".join([*lines, ""])), served(unit):
+        same(made_as("/run/mondlexi-admin", "/run/mondlexi-admin/socket"), "mw mwadmins 2750\nmw mwadmins 660\n", "folder and socket")
         run("mondlexi-check", "unix:/run/mondlexi-admin/socket")
         try_to_talk(unit._replace(admin="unix:/run/mondlexi-admin/socket"))
-        end(unit)
     print("the administrator's socket for a group of its own")
 
 
@@ -263,8 +258,7 @@ def try_without_systemd(unit: Unit) -> None:
     server = int(run("bash", "-c", "\n".join([*lines, "echo $!"])))
     log = Path("/var/log/mwserve.log")
     wait_until("a server without systemd", lambda: f"ready {unit.listen}\n" in ended("cat", log).stdout)
-    made = run("stat", "-c", "%U %G %a", "/run/mondlexi", "/run/mondlexi/socket")
-    same((made, field(server, "Uid").split()[0]), ("mw mwclients 2755\nmw mwclients 660\n", str(pwd.getpwnam("mw").pw_uid)), "folder, socket and user")
+    same((made_as("/run/mondlexi", "/run/mondlexi/socket"), field(server, "Uid").split()[0]), ("mw mwclients 2755\nmw mwclients 660\n", str(pwd.getpwnam("mw").pw_uid)), "folder, socket and user")
     with client(unit) as at:
         same(at.words, 1000, "what a client hears without systemd")
     run("kill", server)
@@ -298,16 +292,34 @@ def try_move(unit: Unit) -> None:
 
 def try_pages(unit: Unit) -> None:
     """The pages of a unit, at its local socket and at the port of mondlexi-pages.socket; and what the timers start, with an alarm if it fails."""
-    begin(unit)
-    run("systemctl", "enable", "--now", "mondlexi-pages.socket")
-    for place in ("unix:/run/mondlexi/pages", "127.0.0.1:7002"):
-        same(run("mondlexi-health", place), "", f"mondlexi-health {place} at {unit.name}")
-    same('mondlexi_up{tenant="t"} 1\n' in run("curl", "-sS", "http://127.0.0.1:7002/metrics"), True, f"the figures of {unit.name} at a port")
-    same(run("stat", "-c", "%U %G %a", "/run/mondlexi/pages"), f"mw {unit.group} 660\n", "the socket of the pages")
-    run("systemctl", "start", "mondlexi-health")
-    end(unit)
+    with served(unit):
+        run("systemctl", "enable", "--now", "mondlexi-pages.socket")
+        for place in ("unix:/run/mondlexi/pages", "127.0.0.1:7002"):
+            same(run("mondlexi-health", place), "", f"mondlexi-health {place} at {unit.name}")
+        same('mondlexi_up{tenant="t"} 1\n' in run("curl", "-sS", "http://127.0.0.1:7002/metrics"), True, f"the figures of {unit.name} at a port")
+        same(made_as("/run/mondlexi/pages"), f"mw {unit.group} 660\n", "the socket of the pages")
+        run("systemctl", "start", "mondlexi-health")
+        try_commands_of_pages(unit)
+        try_backup_while_serving(unit)
     run("systemctl", "disable", "--now", "mondlexi-pages.socket")
-    print(f"{unit.name}: its pages at a local socket, and at a port by mondlexi-pages.socket")
+    print(f"{unit.name}: its pages at a local socket, and at a port by mondlexi-pages.socket, by the commands of HTTP and OPERATING")
+
+
+def try_commands_of_pages(unit: Unit) -> None:
+    """The lines with curl of HTTP, at the port of mondlexi-pages.socket, and the one of OPERATING, at the local socket."""
+    room = Path("/root/pages")
+    room.mkdir()
+    lines = [it for block in commands_of(HTTP_PAGE.read_text(), r"\$") for it in block if it[0].startswith("curl ")]
+    same([command.rpartition("7002/")[2] for command, _ in lines], ["healthz", "tenants/t/file", "tenants/t/words"], "the commands of HTTP")
+    # (the words that the page shows are those of its own tenant; scripts/check-package types all of the page for such a one)
+    health, file, words = (command for command, _ in lines)
+    type_block([(health, lines[0][1]), (file, ""), (f"{words} > words", "")], room, before='curl() { command curl -sS "$@"; }\n')
+    same((room / "t.copy").read_bytes(), (ROOM / "t.mw").read_bytes(), f"the copy of a file, by the command of HTTP, at {unit.name}")
+    same((room / "words").read_text(), run("mwshow", "--words", room / "t.copy"), f"the words by the command of HTTP, at {unit.name}")
+    figures = re.findall(r"`(curl [^`]*)`", section_of(PAGE, "What to watch"))
+    same(len(figures), 1, "the command of OPERATING for the figures")
+    same('mondlexi_up{tenant="t"} 1\n' in run("sh", "-c", figures[0]), True, f"the figures by the command of OPERATING, at {unit.name}")
+    run("rm", "-r", room)
 
 
 def fails_with_alarm(name: str, why: str, mail: Path) -> None:
@@ -319,23 +331,28 @@ def fails_with_alarm(name: str, why: str, mail: Path) -> None:
     mail.unlink()
 
 
-def try_timers(unit: Unit) -> None:
-    """What the timers start: the look at the health, and the backup with its figure for node_exporter. Each fails without a server, with an alarm."""
-    figures, mail, mailer = Path("/var/lib/prometheus/node-exporter"), Path("/root/mail"), Path("/usr/local/bin/mail")
+def end_timer() -> None:
+    """The timers that the page's commands have enabled run; the one of each minute has begun, and is stopped."""
     for name in ("mondlexi-health.timer", "mondlexi-backup.timer"):
         same((run("systemctl", "is-enabled", name), run("systemctl", "is-active", name)), ("enabled\n", "active\n"), name)
     wait_until("the first minute", lambda: shown("mondlexi-health.timer", "LastTriggerUSec") != "")
     run("systemctl", "stop", "mondlexi-health.timer")
-    figures.mkdir(parents=True)
+
+
+def try_timers(unit: Unit) -> None:
+    """What the timers start: the look at the health, and the backup with its figure for node_exporter. Each fails without a server, with an alarm."""
+    figures, mail, mailer = Path("/var/lib/prometheus/node-exporter"), Path("/root/mail"), Path("/usr/local/bin/mail")
+    figures.mkdir(parents=True, exist_ok=True)
+    (figures / "mondlexi.prom").unlink(missing_ok=True)
+    ended("systemctl", "reset-failed", "mondlexi-health", "mondlexi-backup")
     mailer.write_text(f"#!/bin/sh\n{{ echo \"$2 $3\" | cut -d: -f2-; cat; }} > {mail}.new; mv {mail}.new {mail}\n")
     mailer.chmod(0o755)
-    begin(unit)
-    value = try_to_talk(unit)
-    for name in ("mondlexi-health", "mondlexi-backup", "mondlexi-backup"):
-        run("systemctl", "start", name)
-    end(unit)
+    with served(unit):
+        value = try_to_talk(unit)
+        for name in ("mondlexi-health", "mondlexi-backup", "mondlexi-backup"):
+            run("systemctl", "start", name)
     copies = sorted(KEPT.iterdir())
-    same([sorted(it.name for it in copy.iterdir()) for copy in copies], 2 * [["t.mw", "tenants", "tenants.served"]], "the copies of mondlexi-backup")
+    same(files_of(copies), 2 * [COPY], "the copies of mondlexi-backup")
     same([f"word 0 {value}" in run("mwshow", copy / "t.mw").splitlines() for copy in copies], [True, True], "the word 0 of these copies")
     figure = (figures / "mondlexi.prom").read_text().split()
     same((figure[-2], time.time() - float(figure[-1]) < PATIENCE), ("mondlexi_backup_time_seconds", True), "the figure of the last backup")
@@ -343,7 +360,7 @@ def try_timers(unit: Unit) -> None:
     fails_with_alarm("mondlexi-backup", "mondlexi-backup: failed at tenant t", mail)
     same(sorted(KEPT.iterdir()), copies, "the copies after a backup that failed")
     run("rm", "-r", *copies, mailer)
-    print("the timers' health and backup: well with a server, with a figure of the last backup; without one an alarm in the journal and by mail")
+    print(f"{unit.name}: the timers' health and backup: well with a server, with a figure of the last backup; without one an alarm in the journal and by mail")
 
 
 def restart_elsewhere(unit: Unit) -> None:
@@ -356,9 +373,7 @@ def through_proxy(name: str, tenant: str, code: str) -> str:
     """What a client prints that has the certificate of a name, connected by the page's lines in Python for a tenant, as `client`."""
     connect = re.findall(r"^```python\n(.*?)^```", section_of(PROXY_PAGE, "Set up the proxy"), re.MULTILINE | re.DOTALL)[0]
     connect = connect.replace('"t.', f'"{name}.').replace('"t"', f'"{tenant}"')
-    told = subprocess.run(["python3", "-c", f"import mondlexi, ssl\n{connect}\n{code}"], cwd=PROXY, stdout=subprocess.PIPE, stderr=subprocess.STDOUT,
-                          universal_newlines=True, timeout=PATIENCE)
-    return told.stdout
+    return ended("python3", "-c", f"import mondlexi, ssl\n{connect}\n{code}", at=PROXY).stdout
 
 
 def try_proxy(unit: Unit) -> None:
@@ -372,9 +387,8 @@ def try_proxy(unit: Unit) -> None:
     type_block([(command, "") for command, _ in start], PROXY)
     wait_until("the proxy", lambda: through_proxy("t", "t", "print(client.words)") == "2000\n")
     same(through_proxy("t", "t", f"print(client.cas([(0, {value}, {value + 1})]).made, client.get(0))"), f"True {value + 1}\n", "a change through the proxy")
-    told = subprocess.run(["mondlexi", "words.example:7443", "t", "--ca", "clients.pem", "--cert", "t.pem", "--key", "t.key", "get", "0"], cwd=PROXY,
-                          stdin=subprocess.DEVNULL, stdout=subprocess.PIPE, stderr=subprocess.STDOUT, universal_newlines=True, timeout=PATIENCE).stdout
-    same(told, f"{value + 1}\n", "what the command mondlexi prints through the proxy")
+    told = ended("mondlexi", "words.example:7443", "t", "--ca", "clients.pem", "--cert", "t.pem", "--key", "t.key", "get", "0", at=PROXY)
+    same(told.stdout, f"{value + 1}\n", "what the command mondlexi prints through the proxy")
     for name, tenant in (("t", "u"), ("words.example", "t")):
         same("mondlexi.errors.Refused" in through_proxy(name, tenant, ""), True, f"that {name} doesn't speak for {tenant}")
     report = "print(mondlexi.Administrator('words.example:7444', tls=context).report().tenants[0].name)"
@@ -382,8 +396,8 @@ def try_proxy(unit: Unit) -> None:
     same(through_proxy("t", "t", report.replace("context", "ssl.create_default_context(cafile='clients.pem')")).count("mondlexi.errors."), 1, "a report without a certificate")
     context = "context.load_cert_chain('operator.pem', 'operator.key'); "
     same(through_proxy("t", "t", context + report), "t\n", "the report through the proxy")
-    made = run("stat", "-c", "%U %G %a", "/var/lib/haproxy/mondlexi", *(f"/var/lib/haproxy/mondlexi/{it}" for it in ("socket", "admin")), "/run/mondlexi/pages")
-    same(made, "mw haproxy 2750\n" + 2 * "mw haproxy 660\n" + "mw mw 660\n", "folder and sockets behind the proxy")
+    there = "/var/lib/haproxy/mondlexi"
+    same(made_as(there, f"{there}/socket", f"{there}/admin", "/run/mondlexi/pages"), "mw haproxy 2750\n" + 2 * "mw haproxy 660\n" + "mw mw 660\n", "folder and sockets behind the proxy")
     wait_until("the proxy's log", lambda: '"t" "t" server_a/a' in run("journalctl", "--boot", "--output", "cat", "--no-pager", "--identifier", "haproxy"))
     restart_elsewhere(unit)
     wait_until("the proxy, after a restart of the server", lambda: through_proxy("t", "t", "print(client.get(0))") == f"{value + 1}\n")
@@ -421,14 +435,20 @@ def first_boot(deb: str) -> None:
         try_failing_starts(unit)
         try_pages(unit)
         try_full(unit)
-    try_timers(port)
-    try_cron(port)
+        try_strict(unit)
+        try_idle(unit)
+    end_timer()
+    for unit in UNITS:
+        try_timers(unit)
+        try_cron(unit)
     try_most_clients(port)
     try_command(local, Path("/tmp"))
-    try_strict(local)
     try_own_administrators(local)
     try_without_systemd(local)
     try_move(port)
+    text = (ROOM / "tenants").read_text()
+    try_page(port)
+    put_back(port, text)
     try_page(local)
     try_proxy(local)
 

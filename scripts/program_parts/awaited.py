@@ -1,7 +1,7 @@
 """The client for asyncio with calls that block: what tries `mondlexi` tries `mondlexi.aio` by it, call for call.
 
 Used by: scripts/check-counts, scripts/check-programs, client_parts/play.py. The modules beside it that take `clients` are given this one or
-`mondlexi`. A call that the client gains is added here too. What only asyncio has is tried in tasks.py.
+`mondlexi`. A class that the client gains is added here too. What only asyncio has is tried in tasks.py.
 """
 import asyncio
 import atexit
@@ -26,12 +26,10 @@ def await_it(work):
 
 
 class Blocking:
-    """A client of `mondlexi.aio`, whose calls block."""
+    """A client, a count or a recipe for asyncio, whose calls block."""
 
-    def __init__(self, *arguments, **named):
-        self.awaited = self.kind(*arguments, **named)
-        self._session = self.awaited._session
-        await_it(self.awaited.__aenter__())
+    def __init__(self, awaited):
+        self.awaited = awaited
 
     def __enter__(self):
         return self
@@ -41,53 +39,39 @@ class Blocking:
 
     def __getattr__(self, name):
         found = getattr(self.awaited, name)
-        return (lambda *arguments: await_it(found(*arguments))) if callable(found) else found
+        return blocking(found) if callable(found) else found
 
 
-class Client(Blocking):
-    kind = mondlexi.aio.Client
+def blocking(call):
+    """A call that is awaited, as one that blocks."""
+    return lambda *arguments, **named: await_it(call(*map(plain, arguments), **named))
 
 
-class Administrator(Blocking):
-    kind = mondlexi.aio.Administrator
+def plain(argument):
+    """An argument as the client for asyncio takes it."""
+    return argument.awaited if isinstance(argument, Blocking) else argument
 
 
-class Counted:
-    def __init__(self, client, *arguments):
-        self.awaited = mondlexi.aio.Counted(client.awaited, *arguments)
-        await_it(self.awaited.begin())
-
-    def cas(self, entries):
-        return await_it(self.awaited.cas(entries))
-
-    def settle(self):
-        return await_it(self.awaited.settle())
-
-
-def snapshot(*arguments, **named):
-    return await_it(mondlexi.aio.snapshot(*arguments, **named))
-
-
-class Recipe:
-    """A recipe of `mondlexi.recipes.aio`, whose calls block."""
-
-    def __init__(self, kind, *arguments, **named):
-        self.recipe = kind(*(getattr(one, "awaited", one) for one in arguments), **named)
-
-    def __getattr__(self, name):
-        found = getattr(self.recipe, name)
-        return lambda *arguments, **named: await_it(found(*arguments, **named))
+def maker(kind, first=None):
+    """What makes objects of this kind, and then makes this call of theirs."""
+    def make(*arguments, **named):
+        made = Blocking(kind(*map(plain, arguments), **named))
+        if first:
+            await_it(first(made.awaited))
+        return made
+    return make
 
 
 class Recipes:
     """`mondlexi.recipes.aio`, whose calls block."""
 
     def __getattr__(self, name):
-        return lambda *arguments, **named: Recipe(getattr(mondlexi.recipes.aio, name), *arguments, **named)
-
-    @staticmethod
-    def resent(client, *arguments):
-        return await_it(mondlexi.recipes.aio.resent(client.awaited, *arguments))
+        found = getattr(mondlexi.recipes.aio, name)
+        return maker(found) if isinstance(found, type) else blocking(found)
 
 
+Client = maker(mondlexi.aio.Client, mondlexi.aio.Client.__aenter__)
+Administrator = maker(mondlexi.aio.Administrator, mondlexi.aio.Administrator.__aenter__)
+Counted = maker(mondlexi.aio.Counted, mondlexi.aio.Counted.begin)
+snapshot = blocking(mondlexi.aio.snapshot)
 recipes = Recipes()

@@ -7,16 +7,16 @@ Used by: scripts/check-programs. The loads take two seconds each; how much is se
 """
 import gzip
 import json
-import os
 import re
 import signal
 import subprocess
 import sys
 import time
 from itertools import takewhile
+from typing import Set
 from xml.etree import ElementTree
 
-from .common import BUILT, MWBENCH, MWINIT, MWSERVE, PROGRAMS, TOP, Peer, at, is_built, same
+from .common import BUILT, MWBENCH, MWINIT, MWSERVE, PROGRAMS, TOP, WITH_CLIENT, Peers, at, is_built, ran, same, well
 from .served import Served, make_tenants
 
 import mondlexi  # noqa: E402
@@ -46,21 +46,11 @@ MOST_BUSY = 2100
 WRONG_SUMS = "mwbench: the words are not the sums of the replies YES\n"
 
 
-def begin_load(*arguments):
-    return subprocess.Popen([MWBENCH, *arguments], stdin=subprocess.DEVNULL, stdout=subprocess.PIPE, stderr=subprocess.PIPE)
-
-
-def end_load(process):
-    """The status of mwbench, the lines that it has written, and its text on standard error."""
-    lines, errors = process.communicate()
-    return process.returncode, lines.decode().splitlines(), errors.decode()
-
-
 def try_wrong_sums(server, at):
     """While mwbench loads the server another client changes a word: that is no sum of the replies any more."""
     with mondlexi.Client(server.at, "load") as client:
         before = client.get(0)
-        process = begin_load(*at, "--clients", "2")
+        process = subprocess.Popen([MWBENCH, *at, "--clients", "2"], stdin=subprocess.DEVNULL, stdout=subprocess.DEVNULL, stderr=subprocess.PIPE)
         while client.get(0) == before and process.poll() is None:
             time.sleep(0.01)
         process.send_signal(signal.SIGSTOP)
@@ -69,8 +59,7 @@ def try_wrong_sums(server, at):
                 pass
         finally:
             process.send_signal(signal.SIGCONT)
-    status, _, errors = end_load(process)
-    same((status, errors), (1, WRONG_SUMS), "mwbench beside a client who changes a word")
+    same((process.communicate()[1].decode(), process.returncode), (WRONG_SUMS, 1), "mwbench beside a client who changes a word")
 
 
 def try_kinds(kinds, rates, what):
@@ -82,20 +71,35 @@ def try_kinds(kinds, rates, what):
         same((within == sorted(within), mean <= within[-1], count > 0 or within[-1] == 0), (True, True, True), f"times of {what}: {count, mean, within}")
 
 
+def try_text(at, more):
+    """The lines of mwbench. A client waits after BUSY."""
+    status, told, errors = ran(MWBENCH, *at, *more)
+    lines = told.splitlines()
+    same((status, len(lines), errors), (0, 2 + len(KINDS) + len(FIGURES), ""), f"mwbench {more}")
+    same([SECOND.fullmatch(line) is not None for line in lines[:2]], 2 * [True], "the seconds of mwbench")
+    kinds = [KIND.fullmatch(line) for line in lines[2:6]]
+    same([kind and kind.group(1) for kind in kinds], KINDS, f"the kinds of reply of mwbench {more}")
+    same([re.fullmatch(f"{re.escape(text)} \\d+( us)?", line) is not None for line, text in zip(lines[6:], FIGURES)], 8 * [True], "the figures of mwbench")
+    numbers = [[int(it) for it in kind.groups()[1:]] for kind in kinds if kind]
+    try_kinds(numbers, [int(line.split()[-1]) for line in lines[6:9]], f"mwbench {more}")
+    at_once = int(more[1]) * (int(more[3]) if more[2:3] == ("--pipeline",) else 1)
+    same(numbers[2][0] <= MOST_BUSY * at_once, True, f"that mwbench {more} waits after BUSY, which came {numbers[2][0]} times")
+
+
 def try_json(at, more):
     """With --json mwbench writes the same as one JSON object in one line."""
-    status, lines, errors = end_load(begin_load(*at, *more, "--json"))
-    same((status, len(lines), errors), (0, 1, ""), f"mwbench {more} --json")
-    told = json.loads(lines[0])
+    status, text, errors = ran(MWBENCH, *at, *more, "--json")
+    same((status, text.count("\n"), errors), (0, 1, ""), f"mwbench {more} --json")
+    told = json.loads(text)
     named = re.search(r"`--json` prints .*", (TOP / "docs/BENCH.md").read_text())
     names = set(told) | {name for it in told.values() if isinstance(it, dict) for name in it}
     same(sorted(names - set(re.findall(r"`(\w+)`", named[0] if named else ""))), [], "the names of --json that docs/BENCH.md doesn't have")
-    kinds = ["yes", "no", "busy", "val"]
-    same(list(told), ["changes_a_second", "reads_a_second", "refusals", *kinds, "all"], "the names in mwbench's JSON")
-    same([list(told[kind]) for kind in (*kinds, "all")], 5 * [["count", *TIMES]], "the names of a kind in mwbench's JSON")
-    numbers = [[told[kind][name] for name in ("count", *TIMES)] for kind in (*kinds, "all")]
+    rates, kinds = ["changes_a_second", "reads_a_second", "refusals"], ["yes", "no", "busy", "val", "all"]
+    same(list(told), [*rates, *kinds], "the names in mwbench's JSON")
+    same([list(told[kind]) for kind in kinds], 5 * [["count", *TIMES]], "the names of a kind in mwbench's JSON")
+    numbers = [list(told[kind].values()) for kind in kinds]
     same({type(it) for row in numbers for it in row}, {int}, "the numbers in mwbench's JSON")
-    try_kinds(numbers[:4], [told[name] for name in ("changes_a_second", "reads_a_second", "refusals")], f"mwbench {more} --json")
+    try_kinds(numbers[:4], [told[name] for name in rates], f"mwbench {more} --json")
     same(numbers[4][0], sum(row[0] for row in numbers[:4]), "all replies in mwbench's JSON")
 
 
@@ -104,19 +108,10 @@ def check_load(server):
     clients change at once than the quota allows they are told BUSY too."""
     at = ("--connect", server.at, "--tenant", "load", "--words", "2", "--seconds", "2")
     for more in (("--clients", "4"), ("--clients", "8", "--shared", "--reads", "50"), ("--clients", "2", "--pipeline", "8")):
-        status, lines, errors = end_load(begin_load(*at, *more))
-        same((status, len(lines), errors), (0, 2 + len(KINDS) + len(FIGURES), ""), f"mwbench {more}")
-        same([SECOND.fullmatch(line) is not None for line in lines[:2]], 2 * [True], "the seconds of mwbench")
-        kinds = [KIND.fullmatch(line) for line in lines[2:6]]
-        same([kind and kind.group(1) for kind in kinds], KINDS, f"the kinds of reply of mwbench {more}")
-        same([re.fullmatch(f"{re.escape(text)} \\d+( us)?", line) is not None for line, text in zip(lines[6:], FIGURES)], 8 * [True], "the figures of mwbench")
-        numbers = [[int(it) for it in kind.groups()[1:]] for kind in kinds]
-        try_kinds(numbers, [int(line.split()[-1]) for line in lines[6:9]], f"mwbench {more}")
-        at_once = int(more[1]) * (int(more[3]) if more[2:3] == ("--pipeline",) else 1)
-        same(numbers[2][0] <= MOST_BUSY * at_once, True, f"that mwbench {more} waits after BUSY, which came {numbers[2][0]} times")
+        try_text(at, more)
         try_json(at, more)
     for wrong_words, wanted in ((("--clients", "64"), 1), (("--clients", "0"), 2), (("--clients", "1", "--reads", "101"), 2)):
-        same(end_load(begin_load(*at, *wrong_words))[0], wanted, f"status of mwbench {wrong_words}")
+        same(ran(MWBENCH, *at, *wrong_words)[0], wanted, f"status of mwbench {wrong_words}")
     try_wrong_sums(server, at)
     print("mwbench: words are the sums of the replies, or it says that they aren't, and each status is as it should be")
 
@@ -128,14 +123,10 @@ def try_quota(folder):
     make_tenants(MWINIT, room, {"t": 1}, 10)
     for quota, is_busy in ((10, False), (4, True)):
         (room / "tenants").write_text(f"t 1 {quota} t.mw\n")
-        server = Served(MWSERVE, room, ("--workers", "8"), True)
-        try:
-            status, lines, errors = end_load(begin_load("--connect", server.at, "--tenant", "t", "--words", "1", "--clients", "8", "--shared",
-                                                        "--pipeline", "16", "--seconds", "2", "--json"))
-        finally:
-            server.kill()
-        same((status, errors), (0, ""), f"mwbench at a quota of {quota}")
-        same(json.loads(lines[0])["busy"]["count"] > 0, is_busy, f"whether BUSY came at a quota of {quota}: {lines}")
+        with Served(MWSERVE, room, ("--workers", "8"), True) as server:
+            told = well(MWBENCH, "--connect", server.at, "--tenant", "t", "--words", "1", "--clients", "8", "--shared", "--pipeline", "16",
+                        "--seconds", "2", "--json")
+        same(json.loads(told)["busy"]["count"] > 0, is_busy, f"whether BUSY came at a quota of {quota}: {told}")
     print("quota: a quarter above the clients that change at once keeps BUSY away")
 
 
@@ -146,36 +137,29 @@ def check_units(folder):
     for path in units:
         (folder / path.name).write_text(path.read_text().replace("/usr/local/bin/mwserve ", f"{MWSERVE} ").replace("/usr/local/bin/", f"{path.parent}/"))
     for path in units:
-        looked = subprocess.run(["systemd-analyze", "verify", folder / path.name], stdout=subprocess.PIPE, stderr=subprocess.STDOUT)
-        told_of = [line for line in looked.stdout.decode().splitlines() if "mondlexi" in line]
-        same((looked.returncode, told_of), (0, []), f"systemd-analyze verify contrib/{path.name}")
-    for path in SERVER_UNITS:
-        unit, exposed = path.read_text(), exposure(path)
-        same(unit.count("/usr/local/bin/mwserve "), 1, f"the program of {path.name}")
-        if exposed is not None:
-            same((exposed <= MOST_EXPOSED, f"{exposed} of 10" in unit), (True, True), f"the exposure of contrib/{path.name}, {exposed}")
-        print(f"contrib/{path.name}: systemd-analyze finds nothing; its exposure is {exposed}")
-    exposed = exposure(KEEPER_UNIT)
-    same(exposed is None or exposed <= MOST_EXPOSED, True, f"the exposure of {KEEPER_UNIT.name}, {exposed}")
-
-
-def exposure(unit):
-    """How exposed a unit is, by systemd-analyze: 0 to 10. None where it can't look at a file."""
-    looked = subprocess.run(["systemd-analyze", "security", "--offline=true", "--no-pager", unit], stdout=subprocess.PIPE, stderr=subprocess.DEVNULL)
-    told = re.search(r"exposure level for \S+: ([0-9.]+)", looked.stdout.decode())
-    return float(told[1]) if told else None
+        status, told, errors = ran("systemd-analyze", "verify", folder / path.name)
+        same((status, [line for line in (told + errors).splitlines() if "mondlexi" in line]), (0, []), f"systemd-analyze verify contrib/{path.name}")
+    for path in (*SERVER_UNITS, KEEPER_UNIT):
+        # (it tells nothing where it can't look at a file)
+        told = ran("systemd-analyze", "security", "--offline=true", "--no-pager", path)[1]
+        exposed = next(map(float, re.findall(r"exposure level for \S+: ([0-9.]+)", told)), None)
+        same(exposed is None or exposed <= MOST_EXPOSED, True, f"the exposure of {path.name}, {exposed}")
+        if path in SERVER_UNITS:
+            same(path.read_text().count("/usr/local/bin/mwserve "), 1, f"the program of {path.name}")
+            same(exposed is None or f"{exposed} of 10" in path.read_text(), True, f"the exposure that contrib/{path.name} tells, {exposed}")
+            print(f"contrib/{path.name}: systemd-analyze finds nothing; its exposure is {exposed}")
 
 
 def calls_of(group):
     """The system calls of a group of systemd's, with those of the groups in it."""
-    told = subprocess.run(["systemd-analyze", "syscall-filter", "--no-pager", group], stdout=subprocess.PIPE, check=True).stdout.decode()
+    told = well("systemd-analyze", "syscall-filter", "--no-pager", group)
     names = [line.strip() for line in told.splitlines()[1:] if line.strip() and not line.strip().startswith("#")]
     return {it for name in names for it in (calls_of(name) if name.startswith("@") else [name])}
 
 
 def allowed_by(unit):
     """The system calls that the lines SystemCallFilter= of a unit leave."""
-    allowed = set()
+    allowed: Set[str] = set()
     for line in re.findall(r"^SystemCallFilter=(.*)$", unit, re.MULTILINE):
         named = {it for group in line.lstrip("~").split() for it in calls_of(group)}
         allowed = allowed - named if line.startswith("~") else allowed | named
@@ -186,12 +170,12 @@ def try_system_calls(folder):
     """What a server calls of the system, from its start to its last session, is what the units allow."""
     room = folder / "calls"
     room.mkdir()
-    subprocess.run([MWINIT, "t.mw", "2", "1"], cwd=room, stdout=subprocess.DEVNULL, check=True)
-    (room / "tenants").write_text("t 2 1 t.mw\n")
-    found = set()
-    for at in ("127.0.0.1:0", "unix:socket"):
-        words = ["strace", "-f", "-qq", "-o", "log", MWSERVE, "--tenants", "tenants", "--listen", at, "--clients", "4", "--connections", "1", "--verbose"]
-        server = subprocess.Popen([*words, *(["--mode", "660"] if at == "unix:socket" else [])], cwd=room, stdout=subprocess.PIPE)
+    make_tenants(MWINIT, room, {"t": 2}, 1)
+    found: Set[str] = set()
+    for at, more in (("127.0.0.1:0", []), ("unix:socket", ["--mode", "660"])):
+        words = ["strace", "-f", "-qq", "-o", "log", str(MWSERVE), "--tenants", "tenants", "--listen", at, "--clients", "4", "--connections", "1", "--verbose"]
+        server = subprocess.Popen([*words, *more], cwd=room, stdout=subprocess.PIPE)
+        assert server.stdout
         ready = server.stdout.readline().split()[1].decode()
         with mondlexi.Client(f"unix:{room}/socket" if at == "unix:socket" else f"127.0.0.1:{ready}", "t") as client:
             client.cas([(0, client.get(0), 7)])
@@ -210,7 +194,7 @@ def try_rotation(folder):
     (room / "rules").write_text((TOP / "contrib/mondlexi.logrotate").read_text().replace("/var/log/mwserve.log", str(log)))
     with open(log, "a") as out:
         print("early", file=out, flush=True)
-        subprocess.run(["logrotate", "--force", "--state", room / "state", room / "rules"], check=True)
+        well("logrotate", "--force", "--state", room / "state", room / "rules")
         print("late", file=out, flush=True)
     same((log.read_text(), gzip.decompress((folder / "mwserve.log.1.gz").read_bytes())), ("late\n", b"early\n"), "the log and what was rotated")
     print("contrib/mondlexi.logrotate: the log goes on behind a rotation")
@@ -218,18 +202,16 @@ def try_rotation(folder):
 
 def watched(place):
     """The status of contrib/mondlexi-check, and what it says, without the line feed at its end."""
-    ended = subprocess.run([TOP / "contrib/mondlexi-check", place], stdout=subprocess.PIPE, stderr=subprocess.STDOUT,
-                           env={**os.environ, "PYTHONPATH": str(TOP / "clients/python")})
-    return ended.returncode, "\n".join(ended.stdout.decode().splitlines())
+    status, told, errors = ran(TOP / "contrib/mondlexi-check", place, env=WITH_CLIENT)
+    return status, (told + errors).rstrip("\n")
 
 
 def try_the_watch(server):
     same(watched(server.at), (1, "down: away"), "the watch, of a tenant that is down")
-    same(watched(Peer("OK ADMIN\n", f"{'t':16} {2:4} {1:2} {2:2} {0:2} up\nfree 1\n", "BYE\n").at), (0, ""), "the watch, where all are up")
-    status, said = watched(f"{server.at}-absent" if server.local else at(1))
-    same((status, said.startswith("no report: connecting to "), "\n" in said), (1, True, False), "the watch, where nobody listens")
-    status, said = watched("nowhere")
-    same((status, said.startswith("no report: a server listens at ")), (1, True), "the watch, of no address")
+    same(watched(Peers(["OK ADMIN\n", f"{'t':16} {2:4} {1:2} {2:2} {0:2} up\nfree 1\n", "BYE\n"]).at), (0, ""), "the watch, where all are up")
+    for place, said in ((f"{server.at}-absent" if server.local else at(1), "no report: connecting to "), ("nowhere", "no report: a server listens at ")):
+        status, told = watched(place)
+        same((status, told.startswith(said), "\n" in told), (1, True, False), f"the watch at {place}, which says {told}")
 
 
 def try_versions():
@@ -237,34 +219,37 @@ def try_versions():
     version = VERSION.read_text().split('"')[1]
     same(mondlexi.__version__, version, "the version of the client in Python")
     for program in filter(is_built, PROGRAMS):
-        ran = subprocess.run([BUILT[program], "--version"], stdin=subprocess.DEVNULL, capture_output=True)
-        same((ran.returncode, ran.stdout, ran.stderr), (0, f"{program} {version}\n".encode(), b""), f"{program} --version")
+        same(ran(BUILT[program], "--version"), (0, f"{program} {version}\n", ""), f"{program} --version")
     print("versions: each program tells the same, and so does the client")
 
 
 def try_help():
     """The help of a program has what a new user needs."""
     for program in filter(is_built, HELP):
-        ran = subprocess.run([BUILT[program], "--help"], stdin=subprocess.DEVNULL, capture_output=True, text=True)
-        missing = [it for it in HELP[program] if it not in ran.stdout]
-        same((ran.returncode, ran.stderr, missing), (0, "", []), f"{program} --help")
+        status, told, errors = ran(BUILT[program], "--help")
+        same((status, errors, [it for it in HELP[program] if it not in told]), (0, "", []), f"{program} --help")
     print("help: ranges, an example, the form of a tenants line, and where the documents are")
 
 
+def drawn(path):
+    """The texts of a chart, and how wide each of its bars is. It must be SVG."""
+    root = ElementTree.parse(path).getroot()
+    return ([it.text or "" for it in root.iter() if it.tag.endswith("text")],
+            [float(it.get("width", "")) for it in root.iter() if it.tag.endswith("rect") and it.get("height") == str(chart_module.BAR)])
+
+
 def try_chart(folder):
-    """The chart of bench-server is SVG, with a bar for each figure, and its names in it."""
-    chart = Chart()
+    """The charts of bench-server, also that of one tenant, have a bar for each figure, and its names in them."""
+    chart, of_one = Chart(), Chart()
     chart.add_store("a <store>", [(10, 90.5, 400), (2000, 300, 7000)])
     chart.add_gets("alone", [25.5, 0])
-    chart.write(folder / "chart.svg")
-    root = ElementTree.parse(folder / "chart.svg").getroot()
-    said = [it.text for it in root.iter() if it.tag.endswith("text")]
-    bars = [it for it in root.iter() if it.tag.endswith("rect") and it.get("height") == str(chart_module.BAR)]
-    wanted = ("a <store>", "alone", "2,000", "10", "90", "400", "300", "7,000", "26", "0.00")
-    same((len(bars), [it for it in wanted if it not in said]), (8, []), "a chart")
-    longest = float(bars[1].get("width"))
-    same((float(bars[0].get("width")), float(bars[7].get("width"))), (round(longest / 200, 1), 0.0), "the bars of a chart")
-    try_chart_of_one_tenant(folder)
+    of_one.add_one_tenant("a disk", ["1", "4", "16", "64", "one word"], {"a <store>": [(2000 + k, 50, 100 + k, 4.5 - k) for k in range(5)]})
+    for it, count, wanted in ((chart, 8, ("a <store>", "alone", "2,000", "10", "90", "400", "300", "7,000", "26", "0.00")),
+                              (of_one, 15, ("2,000", "2,004", "4.50", "0.50", "100", "104", "one word"))):
+        it.write(folder / "chart.svg")
+        said, bars = drawn(folder / "chart.svg")
+        same((len(bars), [text for text in wanted if text not in said]), (count, []), "a chart")
+        same(it is of_one or (bars[0], bars[7]) == (round(bars[1] / 200, 1), 0.0), True, f"the bars of a chart: {bars}")
     print("the chart of bench-server has a bar for each figure")
 
 
@@ -272,10 +257,8 @@ def try_bench(folder):
     """A short run of bench-server draws this server beside other stores. What it measured is not looked at."""
     room, chart = folder / "bench", folder / "measured.svg"
     room.mkdir()
-    ran = subprocess.run([TOP / "scripts/bench-server", "--seconds", "0.2", "--turns", "1", "--folder", room, "--chart", chart],
-                         stdin=subprocess.DEVNULL, stdout=subprocess.PIPE, stderr=subprocess.STDOUT)
-    same((ran.returncode, ran.stdout.decode() if ran.returncode else ""), (0, ""), "bench-server")
-    said = " ".join(it.text for it in ElementTree.parse(chart).getroot().iter() if it.tag.endswith("text"))
+    well(TOP / "scripts/bench-server", "--seconds", "0.2", "--turns", "1", "--folder", room, "--chart", chart)
+    said = " ".join(drawn(chart)[0])
     parts = ("Changes a second", "A change, microseconds", "A GET, microseconds", "Mondlexi (mwserve)", "SQLite")
     same(([it for it in parts if it not in said], list(room.iterdir())), ([], []), "the chart of a short run of bench-server, and what it leaves")
     print("bench-server: a short run is drawn beside other stores")
@@ -287,24 +270,9 @@ def try_bench_of_one_tenant(folder):
     wake the next, they would need 1.7 syncs. Nothing else is looked at."""
     room = folder / "bench-one-tenant"
     room.mkdir()
-    ran = subprocess.run([TOP / "scripts/bench-server", "--one-tenant", "--delay", "200", "--seconds", "0.3", "--turns", "1", "--folder", room],
-                         stdin=subprocess.DEVNULL, stdout=subprocess.PIPE, stderr=subprocess.STDOUT)
-    told = ran.stdout.decode()
-    same((ran.returncode, told if ran.returncode else ""), (0, ""), "bench-server --one-tenant")
+    told = well(TOP / "scripts/bench-server", "--one-tenant", "--delay", "200", "--seconds", "0.3", "--turns", "1", "--folder", room)
     ours = list(takewhile(lambda row: row.startswith("  clients: "), told.split("Mondlexi, ")[1].splitlines()[1:]))
     rates, syncs = ({row[:NAME].split(": ")[1].strip(): float(row.split()[at].replace(",", "")) for row in ours} for at in (-7, -4))
     same((syncs["1"], syncs["16"] < 1.5, list(room.iterdir())), (4.0, True, []), "the syncs of a change, and what a short run leaves")
     same(rates["16"] > 1.5 * rates["1"], True, f"more changes by sixteen clients than by one: {rates}")
     print("bench-server --one-tenant: a lone client needs four syncs a change, and sixteen fewer and make more")
-
-
-def try_chart_of_one_tenant(folder):
-    """That of one tenant has a bar of its own for each load, of changes a second, of syncs a change and of times."""
-    chart = Chart()
-    chart.add_one_tenant("a disk", ["1", "4", "16", "64", "one word"], {"a <store>": [(2000 + k, 50, 100 + k, 4.5 - k) for k in range(5)]})
-    chart.write(folder / "chart.svg")
-    root = ElementTree.parse(folder / "chart.svg").getroot()
-    said = [it.text for it in root.iter() if it.tag.endswith("text")]
-    bars = [it for it in root.iter() if it.tag.endswith("rect") and it.get("height") == str(chart_module.BAR)]
-    wanted = ("2,000", "2,004", "4.50", "0.50", "100", "104", "one word")
-    same((len(bars), [it for it in wanted if it not in said]), (15, []), "a chart of one tenant")

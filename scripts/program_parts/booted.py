@@ -1,7 +1,8 @@
-"""Boots a folder with a Debian in a container, and lets as_operator.py do there what an operator does.
+"""Where a new Debian comes from, and whether one can be made and booted here. Boots a folder with one in a container, and lets
+as_operator.py do there what an operator does.
 
-Used by: scripts/check-package, as root. The container has systemd as its first process, a network of its own and a limit of time, and
-ends when this process does, however that ends. Nothing stays mounted.
+Used by: scripts/check-package, as root; scripts/check-programs, which tells that this was left out. The container has systemd as its
+first process, a network of its own and a limit of time, and ends when this process does, however that ends. Nothing stays mounted.
 """
 import ctypes
 import os
@@ -9,12 +10,19 @@ import shutil
 import signal
 import subprocess
 import time
+import urllib.request
 from pathlib import Path
 from typing import Callable, List
 
-from .common import wrong
-from .debian import GROUPS
+from .common import PATIENCE, has, wrong
 
+MIRROR = "http://deb.debian.org/debian"
+RELEASE = "bookworm"
+TO_BOOT = "systemd,dbus,python3,haproxy,openssl,procps"
+"""What it needs further to be booted, for the package's client, and for a proxy in front, whose reload calls kill."""
+TO_TALK = "netcat-openbsd,curl"
+"""What the pages' commands and the package need further."""
+GROUPS = Path("/sys/fs/cgroup")
 LIMIT = 300
 """For how many seconds one boot may go on; it takes some two minutes on four cores."""
 GRACE = 10
@@ -36,6 +44,25 @@ PROPAGATED = Path("/run/systemd/nspawn/propagate")
 """Where systemd-nspawn makes a folder for each container, and leaves it."""
 END_WITH_PARENT = 1
 """prctl's PR_SET_PDEATHSIG."""
+
+
+def no_debian() -> str:
+    """Why no new Debian can be made here; nothing if one can."""
+    if not has("debootstrap"):
+        return "there is no debootstrap"
+    try:
+        urllib.request.urlopen(f"{MIRROR}/dists/{RELEASE}/Release", timeout=PATIENCE).close()
+    except OSError as error:
+        return f"{MIRROR} can't be reached: {error}"
+    return ""
+
+
+def no_boot() -> str:
+    """Why no Debian can be booted in a container here; nothing if one can."""
+    if not has("systemd-nspawn"):
+        return "there is no systemd-nspawn (package systemd-container)"
+    groups = GROUPS / "systemd" if (GROUPS / "systemd").is_dir() else GROUPS
+    return "" if os.access(groups, os.W_OK) else f"no control group can be made in {groups}"
 
 
 def own_groups(name: str) -> List[Path]:

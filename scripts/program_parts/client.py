@@ -1,7 +1,9 @@
-"""The client in Python at servers and at peers: each of its calls, each exception, connections that break. `clients` is
-`mondlexi`, or `awaited` for its asyncio twin.
+"""The client in Python at servers and at peers, in what only this language has, or what no machine is too slow for: each of its calls
+and exceptions, arguments that are refused, connections that break, replies that are late, and snapshots. `clients` is `mondlexi`, or
+`awaited` for its asyncio twin. What a client sends and tells in any language is a case of clients/cases, which scripts/check-programs
+plays beside these.
 
-Used by: scripts/check-programs, reads.py. Nothing here passes or fails by how fast the machine is.
+Used by: scripts/check-programs. Nothing here passes or fails by how fast the machine is.
 """
 import asyncio
 import contextlib
@@ -10,12 +12,38 @@ import socket
 import threading
 import time
 from concurrent.futures import ThreadPoolExecutor
+from unittest import mock
 
-from .common import HOST, PATIENCE, QUOTA, WORDS, Peer, at, raises, same
+from .common import HOST, PATIENCE, QUOTA, RESET, SILENT, WORDS, Peers, at, raises, same, wrong
 
 import mondlexi  # noqa: E402
 
 BIG = mondlexi.MAX_VALUE
+AT_ONCE = 512
+"""How many lines a client sends before it reads their replies."""
+BROKEN, VALUE = ["OK 9\n", ""], ["OK 9\n", "VAL 5\n", "BYE\n"]
+"""A connection that breaks at the first call, and one that answers a read."""
+WRONG_CALLS = (
+    *((ValueError, "cas", entries) for entries in ([], [(a, 0, 0) for a in range(17)], [(1, 0, 0), (1, 0, 1)], [(WORDS, 0, 0)],
+                                                   [(-1, 0, 0)], [(0, -1, 0)], [(0, 0, BIG + 1)])),
+    *((ValueError, "read", addresses) for addresses in ([], range(17), [WORDS], [-1])),
+    (ValueError, "get", WORDS), (ValueError, "get_many", [0, WORDS]), (ValueError, "stable", [WORDS]),
+    (TypeError, "get", "0"), (TypeError, "get_many", ["0"]), (TypeError, "cas", [(0, 0, 1.0)]))
+"""Calls that are refused before anything is sent."""
+WRONG_CLIENTS = (
+    *((ValueError, at(1), tenant, {}) for tenant in ("", "T", 17 * "a", "t t", "t\n")),
+    *((ValueError, text, "t", {}) for text in ("", HOST, at(0), at(65536), at("a"), "::1:7000", f" {at(1)}", "unix:", "unix:" + 108 * "s",
+                                               "unix:a\0")),
+    *((ValueError, at(1), "t", {name: seconds}) for name in ("timeout", "patience", "within", "reads_within")
+      for seconds in (-1.0, float("nan"), float("inf"))),
+    *((ValueError, at(1), "t", {"reconnects": count}) for count in (-1, 1001)),
+    *((TypeError, at(1), "t", {name: wrong_one}) for name, wrong_one in (("within", "1"), ("within", None), ("reconnects", "1"))),
+    (TypeError, 5, "t", {}), (TypeError, at(1), b"t", {}))
+"""Arguments of a client that are refused before it connects."""
+WRONG_SNAPSHOTS = ((ValueError, "t", "t", 1), (ValueError, HOST, "t", 1), (ValueError, at(1), "T", 1), (ValueError, at(1), "t/", 1),
+                   (ValueError, at(1), "t", 0), (TypeError, 5, "t", 1), (TypeError, at(1), b"t", 1), (TypeError, at(1), "t", "1"))
+"""The same of a snapshot, with its seconds."""
+PAGE = "words 2\nplaces 1\nopen 0 1 7\nword 0 5\nword 1 7\n"
 for kind in (mondlexi.Client, mondlexi.Administrator):
     kind.__init__.__kwdefaults__["timeout"] = PATIENCE
 
@@ -29,6 +57,9 @@ def impatient(client, seconds=1):
         yield
     finally:
         session.options = before
+
+
+# At a server
 
 
 def try_calls(clients, server):
@@ -46,16 +77,10 @@ def try_calls(clients, server):
         same(client.read(several), [1] + 15 * [0], "read of sixteen")
         same(client.cas([(a, int(a == 0), BIG - a) for a in several]).made, True, "cas of sixteen")
         same(client.read(several), [BIG - a for a in several], "read behind a cas of sixteen")
-        for entries in ([], [(a, 0, 0) for a in range(17)], [(1, 0, 0), (1, 0, 1)], [(WORDS, 0, 0)], [(-1, 0, 0)],
-                        [(0, -1, 0)], [(0, 0, BIG + 1)]):
-            raises(ValueError, f"cas of {entries}", client.cas, entries)
-        for kind, entry in ((ValueError, (0, 1)), (ValueError, (0, 0, 1, 2)), (TypeError, 0)):
-            same(str(raises(kind, f"cas of {entry}", client.cas, [entry])), f"an entry is (address, expected, new), not {entry!r}", "what it says")
-        for addresses in ([], range(17), [WORDS], [-1]):
-            raises(ValueError, f"read of {addresses}", client.read, addresses)
-        raises(ValueError, "get past the end", client.get, WORDS)
-        raises(TypeError, "get of a text", client.get, "0")
-        raises(TypeError, "cas of a fraction", client.cas, [(0, 0, 1.0)])
+        for error, call, argument in WRONG_CALLS:
+            raises(error, f"{call} of {argument}", getattr(client, call), argument)
+        for error, entry in ((ValueError, (0, 1)), (ValueError, (0, 0, 1, 2)), (TypeError, 0)):
+            same(str(raises(error, f"cas of {entry}", client.cas, [entry])), f"an entry is (address, expected, new), not {entry!r}", "what it says")
         same(client.get(0), BIG, "get behind refused arguments")
     client.close()
     raises(mondlexi.Lost, "get when closed", client.get, 0)
@@ -66,27 +91,16 @@ def try_calls(clients, server):
     with clients.Administrator(server.at) as administrator:
         report = administrator.report()
         same(report.free, 256, "free of the report")
-        same([t.name for t in report.tenants], ["t", "load", "locks", "blocks", "away"], "tenants of the report")
+        same([t.name for t in report.tenants], ["t", "load", "away"], "tenants of the report")
         same(report.tenants[0], mondlexi.TenantReport("t", WORDS, QUOTA, 2 * QUOTA, 0, True), "a line of the report")
-        same((report.tenants[4].places, report.tenants[4].up), (0, False), "a tenant without its file")
+        same((report.tenants[2].places, report.tenants[2].up), (0, False), "a tenant without its file")
 
 
 def try_failures(clients, server):
     same(raises(mondlexi.Refused, "no tenant", clients.Client, server.at, "nobody").number, 5, "its number")
     with clients.Client(server.at, "away") as client:
-        raises(mondlexi.Fault, "get of a tenant that is down", client.get, 0)
-        raises(mondlexi.Fault, "cas of a tenant that is down", client.cas, [(0, 0, 1)])
-        raises(mondlexi.Fault, "read of a tenant that is down", client.read, [0, 1])
-    for name in ("", "T", "a" * 17, "t t", "t\n"):
-        raises(ValueError, f"tenant {name!r}", clients.Client, server.at, name)
-    for text in ("", HOST, at(0), at(65536), at("a"), "::1:7000", f" {server.at}", "unix:", "unix:" + "s" * 108, "unix:a\0"):
-        raises(ValueError, f"a server at {text!r}", clients.Client, text, "t")
-    for seconds in (-1.0, float("nan"), float("inf")):
-        raises(ValueError, f"timeout {seconds}", clients.Client, server.at, "t", timeout=seconds)
-        raises(ValueError, f"patience {seconds}", clients.Client, server.at, "t", patience=seconds)
-        raises(ValueError, f"within {seconds}", clients.Client, server.at, "t", within=seconds)
-    for at_server, tenant, within in ((5, "t", 0), (server.at, b"t", 0), (server.at, "t", "1"), (server.at, "t", None)):
-        raises(TypeError, f"a client of {at_server!r}, {tenant!r}, {within!r}", clients.Client, at_server, tenant, within=within)
+        for call, argument in (("get", 0), ("cas", [(0, 0, 1)]), ("read", [0, 1]), ("get_many", [0, 1, 0]), ("get", 1)):
+            raises(mondlexi.Fault, f"{call} of a tenant that is down", getattr(client, call), argument)
 
 
 def try_threads(clients, server):
@@ -96,14 +110,20 @@ def try_threads(clients, server):
             while not caller.cas([(8, value := client.get(8), value + 1)]):
                 pass
 
-    with clients.Client(server.at, "t") as client:
-        callers = (client, client, clients.Counted(client, 6), clients.Counted(client, 7))
-        threads = [threading.Thread(target=count, args=(caller,)) for caller in callers]
-        for thread in threads:
-            thread.start()
-        for thread in threads:
-            thread.join()
+    with clients.Client(server.at, "t") as client, ThreadPoolExecutor(4) as threads:
+        list(threads.map(count, (client, client, clients.Counted(client, 6), clients.Counted(client, 7))))
         same(client.get(8), 40, "what four threads counted")
+
+
+def try_many(clients, server):
+    """Many words are what they are one by one, in the order that was asked for."""
+    with clients.Client(server.at, "t") as client:
+        one_by_one = [client.get(address) for address in range(WORDS)]
+        same(len(set(one_by_one)) > 5, True, "values that differ")
+        for addresses in (range(WORDS), iter([9, 0, 9]), [], (k % WORDS for k in range(2 * AT_ONCE + 1))):
+            asked = list(addresses)
+            same(client.get_many(iter(asked)), [one_by_one[k] for k in asked], f"get_many of {len(asked)}")
+            same(client.stable(asked), [one_by_one[k] for k in asked], f"stable of {len(asked)}")
 
 
 def try_a_killed_server(clients, server):
@@ -127,39 +147,6 @@ def try_a_killed_server(clients, server):
     first.close()
 
 
-def try_a_connection_to_itself(clients):
-    """Where nobody listens, a socket may be given the very port that it connects to; here it asks for it."""
-    with socket.create_server((HOST, 0)) as listener:
-        port = listener.getsockname()[1]
-    connect, stream = socket.create_connection, asyncio.open_connection
-    socket.create_connection = lambda at, timeout: connect(at, timeout, at)
-    asyncio.open_connection = lambda host, port, **more: stream(host, port, local_addr=(host, port), **more)
-    try:
-        error = raises(mondlexi.Lost, "a connection to itself", clients.Client, at(port), "t")
-    finally:
-        socket.create_connection, asyncio.open_connection = connect, stream
-    same("nobody listens" in str(error), True, f"what is said of a connection to itself: {error}")
-
-
-def try_a_host_of_several_addresses(clients):
-    """A host's name may have several addresses: of a machine that says nothing, of one that refuses, and of one that serves."""
-    with socket.create_server((HOST, 0)) as unused:
-        port = unused.getsockname()[1]
-    peer = Peer("OK 9\n", "VAL 7\n", "B", host="127.0.0.3", port=port)
-    with socket.socket() as silent, socket.socket() as first:
-        silent.bind(("127.0.0.2", port))
-        silent.listen(0)
-        first.connect(("127.0.0.2", port))
-        found = [(socket.AF_INET, socket.SOCK_STREAM, 6, "", (f"127.0.0.{number}", port)) for number in (1, 2, 3)]
-        look = socket.getaddrinfo
-        socket.getaddrinfo = lambda host, *rest, **more: found if host == "several" else look(host, *rest, **more)
-        try:
-            with clients.Client(f"several:{port}", "t", timeout=2.0) as client:
-                same(client.get(0), 7, "get at the third address of a host")
-        finally:
-            socket.getaddrinfo = look
-
-
 def try_a_late_change(clients, server):
     """A change on which its client has given up is made all the same, once the server goes on."""
     client = clients.Client(server.at, "t")
@@ -176,127 +163,148 @@ def try_a_late_change(clients, server):
     client.close()
 
 
-def try_a_full_local_socket(clients, folder):
-    """A client waits for room where as many connections wait as the system lets wait."""
-    path = str(folder / "full")
-    with socket.socket(socket.AF_UNIX) as listener, socket.socket(socket.AF_UNIX) as first:
-        listener.bind(path)
-        listener.listen(0)
-        first.connect(path)
-        started = time.monotonic()
-        raises(mondlexi.Lost, "a local socket without room", clients.Client, f"unix:{path}", "t", timeout=0.3)
-        same(0.3 <= time.monotonic() - started, True, "how long a client waits for room")
-        with ThreadPoolExecutor() as others:
-            lost = others.submit(raises, mondlexi.Full, "a local socket with room and no reply", clients.Client, f"unix:{path}", "t")
-            time.sleep(0.3)
-            listener.accept()[0].close()
-            connection, _ = listener.accept()
-            with connection:
-                same(connection.recv(100), b"TENANT t\n", "what is sent where there is room again")
-            lost.result()
-    for text in (path, str(folder / "absent"), str(folder)):
-        raises(mondlexi.Lost, f"nobody listens at {text}", clients.Client, f"unix:{text}", "t")
+# At peers
 
 
-def told(clients, kind, *texts, call="cas", lines=None, holds=False, waits=PATIENCE, **named):
-    """A peer that says these texts behind the greeting brings about this exception, having been sent so many lines. The client
-    waits for so many seconds for each."""
-    peer = Peer("OK 4096\n", *texts, holds=holds)
-    client = clients.Client(peer.at, "t", **named)
-    arguments = {"cas": [[(0, 1, 2)]], "get": [0], "read": [[0, 1]]}[call]
-    with impatient(client, waits):
-        error = raises(kind, f"{call} answered {texts}", getattr(client, call), *arguments)
-    client.close()
-    peer.thread.join(PATIENCE)
-    if lines is not None:
-        same(len(peer.lines) - 1, lines, f"lines of a {call} answered {texts}")
-    return error
+def try_connections(clients, folder):
+    """Servers that can't be connected to: arguments that are refused, a connection to itself, no local socket, a reset at once."""
+    for error, server_at, tenant, options in WRONG_CLIENTS:
+        raises(error, f"a client of {server_at!r}, {tenant!r}, {options}", clients.Client, server_at, tenant, **options)
+    with socket.create_server((HOST, 0)) as listener:
+        port = listener.getsockname()[1]
+    # Where nobody listens, a socket may be given the very port that it connects to; here it asks for it.
+    connect, stream = socket.create_connection, asyncio.open_connection
+    with mock.patch("socket.create_connection", lambda at, timeout: connect(at, timeout, at)), \
+            mock.patch("asyncio.open_connection", lambda host, port, **more: stream(host, port, local_addr=(host, port), **more)):
+        error = raises(mondlexi.Lost, "a connection to itself", clients.Client, at(port), "t")
+    same("nobody listens" in str(error), True, f"what is said of a connection to itself: {error}")
+    reset = ConnectionResetError("reset")
+    with mock.patch("socket.create_connection", side_effect=reset), mock.patch("asyncio.open_connection", side_effect=reset):
+        raises(mondlexi.Full, "a server that resets while the client connects", clients.Client, at(1), "t")
+    same(issubclass(mondlexi.Full, mondlexi.Lost), True, "Full is a kind of Lost")
+    with socket.socket(socket.AF_UNIX) as closed:
+        closed.bind(str(folder / "closed"))
+    for path in (folder / "closed", folder / "absent", folder):
+        raises(mondlexi.Lost, f"nobody listens at {path}", clients.Client, f"unix:{path}", "t")
 
 
-def try_peers(clients, folder):
-    """What no server says today, or not at will, is said by a peer; and where there is none."""
-    try_a_connection_to_itself(clients)
-    try_a_host_of_several_addresses(clients)
-    try_a_full_local_socket(clients, folder)
-    peer = Peer("OK 9\n", "BUSY\n", "BUSY\n", "YES\n", "B")
-    with clients.Client(peer.at, "t") as client:
-        same(client.cas([(8, 0, 1), (2, 3, 4)]).made, True, "cas that is busy at first")
-    peer.thread.join(PATIENCE)
-    same(peer.lines, [b"TENANT t\n"] + 3 * [b"CAS 2:3:4 8:0:1\n"] + [b"QUIT\n"], "what a client sends")
-    started = time.monotonic()
-    told(clients, mondlexi.Busy, *300 * ["BUSY\n"], patience=0.3)
-    same(0.3 <= time.monotonic() - started, True, "patience")
-    told(clients, mondlexi.Busy, "BUSY\n", "BYE\n", lines=2, patience=0)
-    told(clients, mondlexi.Worn, "WORN\n")
-    told(clients, mondlexi.Fault, "FAULT\n", call="get")
-    same(told(clients, mondlexi.Refused, "ERR 6\n").number, 6, "the number of a refusal")
-    for text in ("", "YE", "yes\n", "YES\r\n", "YES\nYES\n", "NO 0 1\n", "NO 5 1\n", "NO 0 01\n", "VAL 1\n", "Y" * 99):
-        told(clients, mondlexi.Unknown, text)
-    for text in ("", "VAL", "VAL -1\n", "VAL 281474976710656\n", "YES\n", "BUSY \n"):
-        told(clients, mondlexi.Lost, text, call="get")
-    told(clients, mondlexi.Lost, "VAL 1\n", "VAL 2\n", "", call="read", lines=3)
-    told(clients, mondlexi.Unknown, holds=True, waits=0.2)
-    same(str(told(clients, mondlexi.Lost, call="get", holds=True, waits=0.2)), "GET 0: no reply, for 0.2 seconds", "what a client says of a late reply")
-    silent = Peer(holds=True)
-    said = str(raises(mondlexi.Lost, "a peer without a greeting", clients.Client, silent.at, "t", timeout=0.2))
-    same(said, "TENANT t: no reply yet, as when all sessions are taken, for 0.2 seconds", "what a client says of a peer without a greeting")
-    raises(mondlexi.Full, "a peer that closes without a greeting", clients.Client, Peer("").at, "t")
-    for text in ("O", "OK\n", "OK 0\n", "OK 4097\n", "OK ADMIN\n"):
-        raises(mondlexi.Lost, f"greeting {text!r}", clients.Client, Peer(text).at, "t")
-    try_a_count(clients)
-    try_reads_and_reports(clients)
+def try_a_host_of_several_addresses(clients):
+    """A host's name may have several addresses: of a machine that says nothing, of one that refuses, and of one that serves."""
+    with socket.create_server((HOST, 0)) as unused:
+        port = unused.getsockname()[1]
+    Peers(["OK 9\n", "VAL 7\n", "B"], host="127.0.0.3", port=port)
+    with socket.socket() as silent, socket.socket() as first:
+        silent.bind(("127.0.0.2", port))
+        silent.listen(0)
+        first.connect(("127.0.0.2", port))
+        found = [(socket.AF_INET, socket.SOCK_STREAM, 6, "", (f"127.0.0.{number}", port)) for number in (1, 2, 3)]
+        look = socket.getaddrinfo
+        with mock.patch("socket.getaddrinfo", lambda host, *rest, **more: found if host == "several" else look(host, *rest, **more)):
+            with clients.Client(f"several:{port}", "t", timeout=2.0) as client:
+                same(client.get(0), 7, "get at the third address of a host")
 
 
-def unknown_from(kind, what, call, *arguments):
-    """The call raises Unknown, because of an exception of just this kind."""
-    same(type(raises(mondlexi.Unknown, what, call, *arguments).__cause__), kind, f"the cause of {what}")
+def try_late_replies(clients):
+    """A late reply ends a connection, and says so. A read asks again over a new one; it doesn't wait twice, and a change isn't sent again."""
+    for call, argument, error in (("get", 7, mondlexi.Lost), ("get_many", [7, 8], mondlexi.Lost), ("cas", [(0, 1, 2)], mondlexi.Unknown)):
+        with clients.Client(Peers(["OK 9\n", SILENT], VALUE).at, "t") as client:
+            with impatient(client):
+                told = str(raises(error, f"{call} without a reply", getattr(client, call), argument))
+            same(told.endswith(", for 0.2 seconds"), True, f"what a client says of a late reply: {told}")
+            same(call != "get" or told == "GET 7: no reply, for 0.2 seconds", True, f"what it says of a get: {told}")
+            same(client.get(7), 5, "get after a late reply")
+    with clients.Client(Peers(["OK 9\n", "VAL 1\n", "VAL 2\n", SILENT], VALUE).at, "t") as client:
+        with impatient(client):
+            raises(mondlexi.Lost, "read whose change has no reply", client.read, [1, 2])
+    with clients.Administrator(Peers(["OK ADMIN\n", SILENT]).at) as administrator:
+        with impatient(administrator):
+            raises(mondlexi.Lost, "report without a reply", administrator.report)
+    told = str(raises(mondlexi.Lost, "a peer without a greeting", clients.Client, Peers([SILENT]).at, "t", timeout=0.2))
+    same(told, "TENANT t: no reply yet, as when all sessions are taken, for 0.2 seconds", "what a client says of a peer without a greeting")
 
 
-def try_a_count(clients):
-    """By how much a count moves, and what is found out by it."""
-    peer = Peer("OK 9\n", "NO 5 4\n", "YES\n", "YES\n", "NO 2 3\n", "FAULT\n", "FAULT\n", "NO 5 9\n",
-                "WORN\n", "WORN\n", "NO 5 11\n", "BUSY\n", "NO 5 12\n", "BYE\n")
-    with clients.Client(peer.at, "t", patience=0) as client:
+def try_reads_within(clients):
+    """For so many seconds a read asks again whatever was lost: a late reply, or connections that break again and again."""
+    peers = Peers(["OK 9\n", SILENT], BROKEN, [], [""], BROKEN, VALUE)
+    with clients.Client(peers.at, "t", reconnects=0, reads_within=PATIENCE) as client:
+        with impatient(client):
+            same(client.get(7), 5, "get that is asked again for a while")
+    same(peers.heard()[-1], ["TENANT t", "GET 7", "QUIT"], "what is sent at last")
+    with clients.Client(Peers(BROKEN).at, "t", reads_within=0.1) as client:
+        raises(mondlexi.Lost, "get that is asked again for too short a while", client.get, 7)
+    with clients.Client(Peers(BROKEN, VALUE).at, "t", reads_within=PATIENCE) as client:
+        raises(mondlexi.Unknown, "a change whose connection breaks", client.cas, [(0, 1, 2)])
+        raises(mondlexi.Lost, "a change after that", client.cas, [(0, 1, 2)])
+        same(client.get(7), 5, "get after that")
+
+
+def try_what_is_told(clients):
+    """What failures say, and of what kind their causes are."""
+    with clients.Client(Peers(["OK 9\n", "VAL 1\n", "FAULT\n", "VAL 2\n", "BYE\n"]).at, "t") as client:
+        error = raises(mondlexi.Fault, "get_many with a FAULT among the replies", client.get_many, [0, 1, 2])
+        same(str(error).startswith("GET 1: "), True, f"what is said of it: {error}")
+    with clients.Client(Peers(["OK 9\n", "YES\n", "FAULT\n", "BYE\n"]).at, "t") as client:
         own = clients.Counted(client, 5)
-        said = str(raises(ValueError, "a counted change of sixteen", own.cas, 16 * [(2, 0, 1)]))
-        same(said, "a change has up to 15 entries beside its count, not 16", "what it says")
-        same(own.settle(), False, "settle where there was no change")
-        same(own.cas([(2, 0, 1)]), mondlexi.Outcome(True), "a counted change")
-        same(own.cas([(2, 0, 1)]), mondlexi.Outcome(False, 2, 3), "a counted change that fails")
-        unknown_from(mondlexi.Fault, "a counted change of a tenant that is down", own.cas, [(2, 3, 4)])
-        unknown_from(mondlexi.Fault, "settle of a tenant that is down", own.settle)
-        same((own.settle(), own.settle()), (True, True), "settle of a change that was made")
-        unknown_from(mondlexi.Worn, "a counted change of a server that is worn", own.cas, [(2, 4, 5)])
-        raises(mondlexi.Worn, "a counted change before which another can't be settled", own.cas, [(2, 4, 6)])
-        same(own.settle(), False, "settle of a change before which another was settled")
-        raises(mondlexi.Busy, "a counted change that is busy", own.cas, [(2, 5, 7)])
-        same(own.settle(), False, "settle of a change that was busy")
-        raises(RuntimeError, "a count that something else moves", own.cas, [(2, 5, 7)])
-    peer.thread.join(PATIENCE)
-    same([line[4:-1].decode() for line in peer.lines[1:-1]],
-         ["5:0:1", "5:4:5", "2:0:1 5:5:7", "2:0:1 5:7:9", "2:3:4 5:7:9", "5:7:8", "5:7:8", "2:4:5 5:9:11", "5:9:10", "5:9:10",
-          "2:5:7 5:11:13", "2:5:7 5:11:13"], "what is sent for a count")
-    own = clients.Counted(clients.Client(Peer("OK 9\n", "YES\n").at, "t"), 5, 0.3)
-    for call, arguments in ((own.cas, [[(2, 0, 1)]]), (own.settle, [])):
-        unknown_from(mondlexi.Lost, f"{call.__name__} where nobody listens any more", call, *arguments)
-
-
-def try_reads_and_reports(clients):
-    peer = Peer("OK 9\n", "VAL 1\n", "VAL 2\n", "NO 7 3\n", "NO 2 0\n", "BUSY\n", "YES\n", "BYE\n")
-    with clients.Client(peer.at, "t") as client:
-        same(client.read([7, 2]), [3, 0], "read of words that change")
-    peer = Peer("OK 9\n", "VAL 1\n", "VAL 2\n", "NO 7 3\n", "BYE\n")
-    with clients.Client(peer.at, "t", patience=0) as client:
-        raises(mondlexi.Busy, "read without patience", client.read, [2, 7])
-    lines = [f"free{k:<12} {4096:4} {32:2} {64:2} {k:2} {'down' if k else 'up'}\n" for k in range(10, 26)]
-    peer = Peer("OK ADMIN\n", "".join(lines) + "free 0\n", "BYE\n")
-    with clients.Administrator(peer.at) as administrator:
+        told = str(raises(ValueError, "a counted change of sixteen", own.cas, 16 * [(2, 0, 1)]))
+        same(told, "a change has up to 15 entries beside its count, not 16", "what it says")
+        error = raises(mondlexi.Unknown, "a counted change of a tenant that is down", own.cas, [(2, 3, 4)])
+        same(type(error.__cause__), mondlexi.Fault, "the cause of a counted change that is unknown")
+    lines = "".join(f"free{k:<12} {4096:4} {32:2} {64:2} {k:2} {'down' if k else 'up'}\n" for k in range(10, 26))
+    with clients.Administrator(Peers(["OK ADMIN\n", f"{lines}free 0\n", "BYE\n"]).at) as administrator:
         report = administrator.report()
         same((len(report.tenants), report.free), (16, 0), "a full report")
         same(report.tenants[15], mondlexi.TenantReport("free25", 4096, 32, 64, 25, False), "its last tenant")
-    for text in ("free 1\n", "t 2 1 2 0 up\nfree 1\n", f"{'t':16} {2:4} {1:2} {0:2} up\nfree 1\n", 20 * lines[0], lines[0], "ERR\n"):
-        peer = Peer("OK ADMIN\n", text)
-        raises(mondlexi.Lost, f"report {text!r}", clients.Administrator(peer.at).report)
-    peer = Peer("OK ADMIN\n", "ERR 3\n", "BYE\n")
-    with clients.Administrator(peer.at) as administrator:
-        raises(mondlexi.Refused, "report that is refused", administrator.report)
+
+
+def try_an_interrupt(clients):
+    """What interrupts a call ends the connection, so that no later call takes its reply."""
+    with clients.Client(Peers(["OK 9\n", "YES\n", SILENT], VALUE).at, "t") as client:
+        with mock.patch.object(client._session._link, "receive", side_effect=KeyboardInterrupt):
+            with contextlib.suppress(KeyboardInterrupt):
+                wrong(f"cas that is interrupted: {client.cas([(0, 1, 2)])}")
+        raises(mondlexi.Lost, "cas after an interrupt", client.cas, [(0, 1, 2)])
+        same(client.get(7), 5, "get after an interrupt")
+
+
+def try_refused(clients):
+    """A client that is refused leaves nothing open, although its exception is kept. An administrator hears too that a server is full."""
+    for kind in (lambda at: clients.Client(at, "t"), clients.Administrator):
+        peers = Peers(["ERR 5\n", SILENT])
+        error = raises(mondlexi.Refused, "a client that is refused", kind, peers.at)
+        peers.heard()
+        same(peers.thread.is_alive(), False, f"the connection of a client that was told {error}")
+        for texts in ([], [""], [RESET]):
+            raises(mondlexi.Full, f"a server that says {texts}", kind, Peers(texts).at)
+
+
+def answer_of(body, status="200 OK", length=None):
+    """What a server of pages is sent, three lines of a request, and its answer by HTTP."""
+    length = len(body) if length is None else length
+    return ["", "", f"HTTP/1.1 {status}\r\nContent-Length: {length}\r\nConnection: close\r\n\r\n{body}"]
+
+
+def try_snapshots(clients):
+    """Answers that are right, broken, wrong or late. At a server scripts/check-http tries it."""
+    pages = Peers(answer_of(PAGE))
+    same(clients.snapshot(pages.at, "t", timeout=PATIENCE), [5, 7], "a snapshot")
+    same(pages.heard(), [["GET /tenants/t/words HTTP/1.0", f"Host: {pages.at}", ""]], "what is sent for it")
+    whole = answer_of(PAGE)[2]
+    for what, answer in (("no answer", ""), ("half a head", whole[:30]), ("half of the words", whole[:-9]), ("another protocol", "ERR 2\n"),
+                         ("a word too few", answer_of(PAGE.replace("word 1 7\n", ""))[2]), ("another page", answer_of("ok\n")[2]),
+                         ("a word twice", answer_of(f"{PAGE}word 1 7\n")[2])):
+        raises(mondlexi.Lost, what, clients.snapshot, Peers(["", "", answer]).at, "t", timeout=PATIENCE)
+    raises(mondlexi.Fault, "a tenant that is down", clients.snapshot, Peers(answer_of("", "503 Service Unavailable")).at, "t")
+    error = raises(mondlexi.Refused, "no tenant", clients.snapshot, Peers(answer_of("", "404 Not Found")).at, "u")
+    same((error.line, error.number), ("GET /tenants/u/words", 404), "what is refused")
+    raises(mondlexi.Lost, "an answer that does not end", clients.snapshot, Peers([*answer_of(PAGE, length=999), SILENT]).at, "t", timeout=0.2)
+    raises(mondlexi.Lost, "a silent server", clients.snapshot, Peers([SILENT]).at, "t", timeout=0.2)
+    raises(mondlexi.Lost, "nobody there", clients.snapshot, "unix:nobody", "t")
+    for error, where, tenant, seconds in WRONG_SNAPSHOTS:
+        raises(error, f"a snapshot of {where!r}, {tenant!r}, {seconds!r}", clients.snapshot, where, tenant, timeout=seconds)
+
+
+def try_peers(clients, folder):
+    """What no server says today, or not at will, is said by peers; and where there is none."""
+    try_connections(clients, folder)
+    for trial in (try_a_host_of_several_addresses, try_late_replies, try_reads_within, try_what_is_told, try_an_interrupt, try_refused, try_snapshots):
+        trial(clients)

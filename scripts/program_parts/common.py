@@ -1,19 +1,21 @@
 """What each part of scripts/check-programs needs: the built programs, a server over tenants' files, a peer that says what it is
 told to, and how a difference is told.
 
-Used by: scripts/check-counts, scripts/check-failover, scripts/check-map, scripts/check-move, scripts/check-package, scripts/check-programs,
-scripts/check-proxy, scripts/check-recipes, scripts/check-volume, many of this folder, failover_parts/cuts.py, failover_parts/keepers.py,
-failover_parts/speed.py, recipe_parts/running.py. A further program is a row of PROGRAMS here and in scripts/package.
+Used by: scripts/check-failover, scripts/check-package, scripts/check-programs, scripts/check-recipes, many of this folder,
+failover_parts/cuts.py, failover_parts/hosts.py, failover_parts/keepers.py, failover_parts/speed.py, recipe_parts/running.py. A further
+program is a row of PROGRAMS here, in lib/checks.py and in scripts/package.
 """
+import contextlib
 import importlib.util
 import os
 import shutil
 import socket
+import struct
+import subprocess
 import sys
 import threading
-import time
 from pathlib import Path
-from typing import NoReturn
+from typing import Dict, NoReturn, Optional, Tuple
 
 from .served import HOST, Served, make_tenants
 
@@ -27,6 +29,25 @@ QUOTA = 5
 WORDS = 26
 PATIENCE = 60
 """For how many seconds what has to come is waited for. What needs longer hangs."""
+WITH_CLIENT = {**os.environ, "PYTHONPATH": str(TOP / "clients/python"), "PYTHONDONTWRITEBYTECODE": "1"}
+"""The environment of a program in Python that imports the client."""
+RESET, SILENT = "reset", "silent"
+"""What a peer does in place of saying a text."""
+
+
+def ran(*words: object, at: Optional[Path] = None, given: str = "", timeout: Optional[float] = None, env: Optional[Dict[str, str]] = None) \
+        -> Tuple[int, str, str]:
+    """The status of a command, and what it writes to both streams. `given`: its standard input."""
+    ended = subprocess.run([str(word) for word in words], cwd=at, input=given.encode(), capture_output=True, timeout=timeout, env=env)
+    return ended.returncode, ended.stdout.decode(errors="replace"), ended.stderr.decode(errors="replace")
+
+
+def well(*words: object, at: Optional[Path] = None, timeout: Optional[float] = None, env: Optional[Dict[str, str]] = None) -> str:
+    """What a command prints; it must go well."""
+    status, told, errors = ran(*words, at=at, timeout=timeout, env=env)
+    if status:
+        wrong(f"{' '.join(map(str, words))}: {told}{errors}")
+    return told
 
 
 def wrong(text: str) -> NoReturn:
@@ -87,23 +108,37 @@ class Server(Served):
         super().__init__(MWSERVE, folder, ("--workers", "32"), local)
 
 
-class Peer:
-    """A server of one connection, which says the texts given, one for each line that it is sent; then it closes, or, where
-    it is to hold, is silent until the client closes."""
+class Peers:
+    """A server of one connection after the other. To each line of a connection it says the next text of that one. Then it closes,
+    or resets the connection, or is silent until the client closes. After the last one nobody listens."""
 
-    def __init__(self, *texts, holds=False, host=HOST, port=0):
+    def __init__(self, *connections, host=HOST, port=0):
         self.listener = socket.create_server((host, port))
         self.at = f"{host}:{self.listener.getsockname()[1]}"
-        self.lines = []
-        self.thread = threading.Thread(target=self.serve, args=(texts, holds), daemon=True)
+        self.lines = [[] for _ in connections]
+        self.thread = threading.Thread(target=self.serve, args=(connections,), daemon=True)
         self.thread.start()
 
-    def serve(self, texts, holds):
-        connection, _ = self.listener.accept()
-        self.listener.close()
-        with connection, connection.makefile("rb") as lines:
-            for text in texts:
-                self.lines.append(lines.readline())
-                connection.sendall(text.encode())
-            if holds:
+    def serve(self, connections):
+        for number, (texts, heard) in enumerate(zip(connections, self.lines), 1):
+            connection, _ = self.listener.accept()
+            if number == len(connections):
+                self.listener.close()
+            with connection, connection.makefile("rb") as lines, contextlib.suppress(OSError):
+                self.serve_one(connection, lines, texts, heard)
+
+    def serve_one(self, connection, lines, texts, heard):
+        for text in texts:
+            if text == SILENT:
                 lines.read()
+                return
+            if text == RESET:
+                connection.setsockopt(socket.SOL_SOCKET, socket.SO_LINGER, struct.pack("ii", 1, 0))
+                return
+            heard.append(lines.readline().decode().strip())
+            connection.sendall(text.encode())
+
+    def heard(self):
+        """The lines of each connection, once all have ended."""
+        self.thread.join(PATIENCE)
+        return self.lines

@@ -1,4 +1,5 @@
-"""What contrib/ha does without a volume: the times by the rule, the start of the unit that is refused, and locks that are waited for with a limit.
+"""What contrib/ha does without a volume: it serves nothing, times by the rule, the start of the unit that is refused, and locks that are waited
+for with a limit.
 
 Used by: scripts/check-programs, scripts/check-failover. TIMES is by the rule of docs/MANY-MACHINES.md: change both, and mondlexi-volume.
 """
@@ -6,15 +7,15 @@ import contextlib
 import fcntl
 import io
 import re
-import subprocess
 import sys
 import time
 from importlib.machinery import SourceFileLoader
 from pathlib import Path
-from types import ModuleType
-from typing import Dict, Iterator, List
+from typing import Dict, List
+from unittest import mock
 
-from .common import MWINIT, MWSERVE, PATIENCE, TOP, same
+from .common import MWINIT, MWSERVE, PATIENCE, TOP, ran, same
+from .served import make_tenants
 
 HA = TOP / "contrib/ha"
 UNIT, KEEPER, VOLUME = (HA / name for name in ("mondlexi-ha@.service", "mondlexi-ha", "mondlexi-volume"))
@@ -26,41 +27,37 @@ the server's lease needs not: 5/8 + 2 * 2 + 0.5 is more than 5."""
 SHAPE = {"replica_count": "3", "arbiter_count": "0", "thin_arbiter_count": "0", "disperse_count": "0"}
 LIMITED = "beat 0.5\nlimit 6\nrelease 7\n"
 WAITS = 1.0
-
-
-def loaded() -> ModuleType:
-    """mondlexi-volume."""
-    return SourceFileLoader("mondlexi_volume", str(VOLUME)).load_module()
+MOUNTS = """+/bin/sh -c 'systemctl start "$(systemd-escape -p --suffix=mount "$MOUNTED")"'"""
+"""What the unit runs first at each start: a host that was the first to come back couldn't mount the volume at boot."""
+ON_VOLUME = """import sys
+from importlib.machinery import SourceFileLoader
+sys.dont_write_bytecode = True
+ha = SourceFileLoader("ha", sys.argv.pop(1)).load_module()
+ha.kind_of = lambda folder: ha.VOLUME
+ha.main()
+"""
+"""mondlexi-ha, for which each folder is on a volume."""
 
 
 def before_start(times: Path) -> List[str]:
     """What the unit of a server of the volume mw runs before it starts, and which must go well; the times go to this file."""
-    command, = re.findall(r"^ExecStartPre=\+(/usr/local/bin/.*)$", UNIT.read_text(), re.MULTILINE)
-    found = command.replace("/usr/local/bin", str(HA)).replace("$VOLUME", "mw").replace("/run/mondlexi-ha-%i/times", str(times)).split(" ")
+    mounts, command = re.findall(r"^ExecStartPre=(.*)$", UNIT.read_text(), re.MULTILINE)
+    same(mounts, MOUNTS, "what the unit runs first")
+    found = command[1:].replace("/usr/local/bin", str(HA)).replace("$VOLUME", "mw").replace("/run/mondlexi-ha-%i/times", str(times)).split(" ")
     same(found, [str(VOLUME), "times", "mw", "--write", str(times)], "what the unit runs before it starts")
     return found
 
 
-@contextlib.contextmanager
-def arguments(words: List[str]) -> Iterator[None]:
-    """A command line, for a while."""
-    before, sys.argv = sys.argv, words
-    try:
-        yield
-    finally:
-        sys.argv = before
-
-
 def try_times(folder: Path) -> None:
     """The unit is not started where times don't fit; else mondlexi-ha gets these."""
-    volume, times = loaded(), folder / "times"
-    volume.STATE = folder
+    volume, times = SourceFileLoader("mondlexi_volume", str(VOLUME)).load_module(), folder / "times"
+    setattr(volume, "STATE", folder)
     (folder / "mw").mkdir()
     options: Dict[str, str] = {**SHAPE, **volume.pairs((HA / "volume-options").read_text().splitlines(), " ")}
     for ping, release, wanted in TIMES:
         options.update({"network.ping-timeout": str(ping), "server.tcp-user-timeout": str(release)})
         (folder / "mw/info").write_text("".join(f"{name}={value}\n" for name, value in options.items()))
-        with arguments(before_start(times)), contextlib.redirect_stderr(io.StringIO()) as told:
+        with mock.patch.object(sys, "argv", before_start(times)), contextlib.redirect_stderr(io.StringIO()) as told:
             status = volume.main()
         found = times.read_text() if times.exists() else REFUSED
         same((status, found, bool(told.getvalue())), (int(wanted == REFUSED), wanted, wanted == REFUSED), f"ping timeout {ping}, release {release}")
@@ -73,23 +70,38 @@ def try_patience(folder: Path) -> None:
     times, first = folder / "limited", folder / "a/first"
     times.write_text(LIMITED)
     first.mkdir(parents=True)
-    subprocess.run([MWINIT, "t.mw", "2", "1"], cwd=first, stdout=subprocess.DEVNULL, check=True)
-    (first / "tenants").write_text("t 2 1 t.mw\n")
-    (folder / "a/lease").touch()
-    for path in (first / "t.mw", folder / "a/lease"):
+    make_tenants(MWINIT, first, {"t": 2}, 1)
+    (first / ".lease").touch()
+    for path in (first / "t.mw", first / ".lease"):
         with open(path, "r+b") as held:
             fcntl.flock(held, fcntl.LOCK_EX)
             begun = time.monotonic()
-            words = [KEEPER, folder / "a", "--times", times, "--patience", str(WAITS), "--", MWSERVE, "--listen", "127.0.0.1:0"]
-            ended = subprocess.run([str(word) for word in words], stdin=subprocess.DEVNULL, capture_output=True, text=True, timeout=PATIENCE)
-            same((ended.returncode, ended.stderr.splitlines()[-1:], ended.stdout), (1, [f"mondlexi-ha: {path} is locked by another"], ""),
-                 f"mondlexi-ha where {path.name} is locked")
+            words = (sys.executable, "-c", ON_VOLUME, KEEPER, folder / "a", "--times", times, "--patience", WAITS, "--", MWSERVE, "--listen", "127.0.0.1:0")
+            status, told, errors = ran(*words, timeout=PATIENCE)
+            same((status, errors.splitlines()[-1:], told), (1, [f"mondlexi-ha: {path} is locked by another"], ""), f"mondlexi-ha where {path.name} is locked")
             same(time.monotonic() - begun > WAITS, True, "that mondlexi-ha waits for a lock")
     print("contrib/ha: mondlexi-ha ends if a tenant's file or the lease stays locked for longer than its patience")
+
+
+def try_no_volume(folder: Path) -> None:
+    """With --times mondlexi-ha refuses a folder that isn't there, or isn't on a volume, and makes nothing; so the unit is started again."""
+    times, local, away = folder / "times-of-a-volume", folder / "local", folder / "away"
+    times.write_text(LIMITED)
+    (local / "first").mkdir(parents=True)
+    make_tenants(MWINIT, local / "first", {"t": 2}, 1)
+    before = sorted(local.rglob("*"))
+    for it, text in ((local, rf"{local} is on [\w. ]+, and must be on a volume of GlusterFS: mount the volume, or leave --times out"),
+                     (away, f"{away} is not there: is the volume mounted[?]")):
+        status, told, errors = ran(KEEPER, it, "--times", times, "--", MWSERVE, "--listen", "127.0.0.1:0", timeout=PATIENCE)
+        same((status, told, bool(re.fullmatch(f"mondlexi-ha: {text}\n", errors))), (1, "", True), f"mondlexi-ha without a volume: {errors}")
+    same((sorted(local.rglob("*")), away.exists()), (before, False), "the folders that mondlexi-ha refused")
+    same(re.findall("^Restart=.*", UNIT.read_text(), re.MULTILINE), ["Restart=always"], "that the unit is started again")
+    print("contrib/ha: with --times mondlexi-ha refuses a folder that isn't there, or isn't on a volume")
 
 
 def try_all(folder: Path) -> None:
     """Does what the head says."""
     folder.mkdir()
+    try_no_volume(folder)
     try_times(folder)
     try_patience(folder)

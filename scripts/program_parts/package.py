@@ -6,10 +6,9 @@ Used by: scripts/check-programs, but for --gate: this takes half a minute, and n
 import functools
 import re
 import shutil
-import subprocess
 import sys
 
-from .common import TOP, has, same, wrong
+from .common import TOP, has, ran, same, well
 
 import mondlexi  # noqa: E402
 
@@ -31,17 +30,9 @@ sys.exit(major < 61)
 def builder():
     """A Python that can build the package; None if there is none."""
     for python in (sys.executable, "/usr/bin/python3"):
-        if has(python) and not subprocess.run([python, "-c", NEEDED], stdout=subprocess.DEVNULL, stderr=subprocess.DEVNULL).returncode:
+        if has(python) and ran(python, "-c", NEEDED)[0] == 0:
             return python
     return None
-
-
-def ran(*words, folder):
-    """What a command prints; it has to go well."""
-    ended = subprocess.run(words, cwd=folder, stdin=subprocess.DEVNULL, stdout=subprocess.PIPE, stderr=subprocess.STDOUT)
-    if ended.returncode:
-        wrong(f"{' '.join(map(str, words))}: {ended.stdout.decode()}")
-    return ended.stdout.decode()
 
 
 def try_package(folder):
@@ -51,14 +42,14 @@ def try_package(folder):
     shutil.copytree(SOURCE, source, ignore=shutil.ignore_patterns("__pycache__", "build", "*.egg-info"))
     typed = [line.split() for line in re.findall(r"^ {4}\$ ([^#\n]*)", PAGE.read_text(), re.MULTILINE)]
     same([words[:2] for words in typed], [["python3", "-m"], ["env/bin/pip", "install"]], f"the commands of {PAGE.name}")
-    ran(builder(), *typed[0][1:], folder=folder)
-    ran(*typed[1], *OFFLINE, folder=folder)
-    told = ran("env/bin/python3", "-W", "error", "-m", "mondlexi", "--version", folder=folder)
+    well(builder(), *typed[0][1:], at=folder)
+    well(*typed[1], *OFFLINE, at=folder)
+    told = well("env/bin/python3", "-W", "error", "-m", "mondlexi", "--version", at=folder)
     same(told, f"mondlexi {mondlexi.__version__}\n", "the version of the package that was installed")
-    same(ran("env/bin/mondlexi", "--version", folder=folder), told, "the version of the command that was installed")
-    ran("env/bin/pip", "wheel", *OFFLINE, "-w", "wheels", source, folder=folder)
+    same(well("env/bin/mondlexi", "--version", at=folder), told, "the version of the command that was installed")
+    well("env/bin/pip", "wheel", *OFFLINE, "-w", "wheels", source, at=folder)
     wheel = folder / f"wheels/mondlexi-{mondlexi.__version__}-py3-none-any.whl"
-    listed = ran(builder(), "-m", "zipfile", "-l", wheel, folder=folder)
+    listed = well(builder(), "-m", "zipfile", "-l", wheel, at=folder)
     found = sorted(line.split()[0] for line in listed.splitlines() if line.startswith("mondlexi/"))
     files = [path for path in SOURCE.glob("mondlexi/**/*") if path.is_file() and "__pycache__" not in path.parts]
     same(found, sorted(str(path.relative_to(SOURCE)) for path in files), "the files of the wheel")
@@ -67,5 +58,5 @@ def try_package(folder):
 
 def try_types():
     """mypy finds nothing."""
-    ran("mypy", "--cache-dir", "/dev/null", folder=SOURCE)
+    well("mypy", "--cache-dir", "/dev/null", at=SOURCE)
     print("the client's types: mypy --strict finds nothing")

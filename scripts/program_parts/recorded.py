@@ -1,22 +1,23 @@
-"""The record that the gate leaves for scripts/package: what is recorded, what is not packed, and which commit is a release.
+"""The record that the gate leaves for scripts/package: what is recorded, what is not packed, and which commit is a release. And what
+scripts/package says itself, in a clone of this repository.
 
 Used by: scripts/check-programs, in a repository of its own, in a folder.
 """
-import subprocess
+import shutil
 import time
 from pathlib import Path
+from unittest import mock
 
 from package_parts import record
 
-from .common import same
+from .common import BUILT, TOP, is_built, ran, same, well
 
 LINE = "3 passed, 0 failed"
 
 
 def git(folder: Path, *words: str) -> str:
     """What git prints; it must go well."""
-    given = ("-c", "user.name=a", "-c", "user.email=a@example")
-    return subprocess.run(["git", *given, *words], cwd=folder, stdin=subprocess.DEVNULL, stdout=subprocess.PIPE, check=True).stdout.decode().strip()
+    return well("git", "-c", "user.name=a", "-c", "user.email=a@example", *words, at=folder).strip()
 
 
 def refusal(program: Path) -> str:
@@ -67,16 +68,34 @@ def try_releases(folder: Path) -> None:
     same("+unreleased." in record.release_of("1"), True, "the name of the next commit")
 
 
+def try_package(clone: Path) -> None:
+    """In a clone with the built programs, scripts/package packs nothing without a record, and nothing but the programs of one."""
+    well("git", "clone", "--quiet", "--shared", TOP, clone)
+    built = {name: clone / path.relative_to(TOP) for name, path in BUILT.items()}
+    for name, path in built.items():
+        path.parent.mkdir(parents=True, exist_ok=True)
+        shutil.copy(BUILT[name], path)
+
+    def refuses(line: str, what: str) -> None:
+        told = ran(clone / "scripts/package", "--to", clone / "out/packages", at=clone)
+        same((told, (clone / "out/packages").exists()), ((1, "", f"package: {line}\n"), False), f"scripts/package {what}")
+
+    refuses("no gate has left a record here: run .ci/run first, on a commit from which no file differs", "without a record")
+    with mock.patch.multiple(record, TOP=clone, RECORD=clone / "out/gate-record"):
+        same(record.write(git(clone, "rev-parse", "HEAD"), {**built, "mwshow": built["mwinit"]}, LINE), "", "the record of a clone")
+    refuses("mwshow: not the program that the gate tried: run .ci/run again", "with the record of another mwshow")
+
+
 def try_record(folder: Path) -> None:
-    """The cases, in place of this repository."""
-    before = record.TOP, record.RECORD
+    """The cases, in place of this repository; and the script, if this repository can be cloned and all programs are built."""
+    is_tried = bool(record.git("rev-parse", "HEAD")) and all(map(is_built, BUILT))
+    if is_tried:
+        try_package(folder / "clone")
     (folder / "out").mkdir(parents=True)
     program = folder / "out/p"
     program.write_bytes(b"one")
-    record.TOP, record.RECORD = folder, folder / "out/gate-record"
-    try:
+    with mock.patch.multiple(record, TOP=folder, RECORD=folder / "out/gate-record"):
         try_cases(folder, program)
         try_releases(folder)
-    finally:
-        record.TOP, record.RECORD = before
-    print("the record of the gate: of one commit and its programs, and nothing else is packed; a tag makes a release")
+    script = "by scripts/package too" if is_tried else "scripts/package itself not tried: there is no repository, or a program is not built"
+    print(f"the record of the gate: of one commit and its programs, and nothing else is packed ({script}); a tag makes a release")

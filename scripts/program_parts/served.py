@@ -1,17 +1,18 @@
 """mwserve as a process that is killed (SIGKILL), started again and held up.
 
-Used by: beside.py, common.py, eight.py, client_parts/readme.py, client_parts/twelve.py, recipe_parts/running.py.
+Used by: beside.py, common.py, machines.py, recipes.py, client_parts/runs.py, recipe_parts/running.py.
 """
 import random
 import signal
 import subprocess
 import time
 from pathlib import Path
-from typing import Dict, Sequence
+from typing import Dict, Sequence, TypeVar
 
 HOST = "127.0.0.1"
 HOLD_UP = 0.5
 """For how many seconds a server is held up."""
+Self = TypeVar("Self", bound="Served")
 STEP = 2
 """Between the ports that are tried: a network may be at the one after the server's."""
 
@@ -28,7 +29,8 @@ def make_tenants(mwinit: Path, folder: Path, tenants: Dict[str, int], quota: int
 
 
 class Served:
-    """mwserve over the tenants of a folder, at its local socket, or at a port that isn't among those given to clients."""
+    """mwserve over the tenants of a folder, at its local socket, or at a port that isn't among those given to clients. It is killed at
+    the end of a block that begins with it."""
 
     def __init__(self, mwserve: Path, folder: Path, options: Sequence[str], is_local: bool = False) -> None:
         self.folder, self.local = folder, is_local
@@ -67,6 +69,12 @@ class Served:
         assert self.process.stdout
         self.process.stdout.close()
 
+    def __enter__(self: Self) -> Self:
+        return self
+
+    def __exit__(self, *_: object) -> None:
+        self.kill()
+
     def restart(self, most: float = 0.0) -> None:
         """Kills it, and starts it again up to so many seconds later."""
         self.kill()
@@ -75,11 +83,8 @@ class Served:
             time.sleep(0.05)
 
 
-def kill_often(server: Served, kills: int, between: float, holds_up: bool) -> None:
-    """Kills a server so many times and starts it again, about so many seconds apart. `holds_up`: whether it is held up too, between."""
+def kill_often(server: Served, kills: int, between: float) -> None:
+    """Kills a server so many times and starts it again, about so many seconds apart."""
     for _ in range(kills):
         time.sleep(between * random.uniform(0.5, 1.5))
         server.restart(0.2)
-        if holds_up:
-            time.sleep(between * random.uniform(0.5, 1.5))
-            server.hold_up()

@@ -5,8 +5,7 @@ Used by: scripts/check-programs. Nothing here passes or fails by how fast the ma
 import asyncio
 import unittest.mock
 
-from .common import PATIENCE, same, wrong
-from .reads import SILENT, Peers
+from .common import PATIENCE, SILENT, Peers, same, wrong
 
 import mondlexi.aio  # noqa: E402
 
@@ -47,8 +46,8 @@ async def lose_together():
         same(sorted(await asyncio.gather(client.get(1), client.get(2))), [5, 6], "two reads whose connection breaks")
 
 
-async def cancel_a_change():
-    """A change that is cancelled ends the connection. A read connects anew then, a change doesn't."""
+async def cancel_calls():
+    """A call that is cancelled, here a change, and a read by a limit of time, ends the connection. A read connects anew then, a change doesn't."""
     peers = Peers(["OK 9\n", SILENT], VALUE)
     async with client_of(peers) as client:
         change = asyncio.ensure_future(client.cas([(0, 1, 2)]))
@@ -58,22 +57,20 @@ async def cancel_a_change():
         await raises(mondlexi.Lost, "cas after that", client.cas([(0, 1, 2)]))
         same(await client.get(7), 5, "get after that")
     same(peers.heard()[1], ["TENANT t", "GET 7", "QUIT"], "what is sent after a change that was cancelled")
-
-
-async def cancel_a_read():
-    """A read that is cancelled, here by a limit of time, ends the connection too; one that waits for its turn doesn't."""
     async with client_of(Peers(["OK 9\n", SILENT], VALUE)) as client:
         await raises(asyncio.TimeoutError, "get within a limit of time", asyncio.wait_for(client.get(7), 0.1))
         same(await client.get(7), 5, "get after that")
+
+
+async def cancel_a_waiting_read():
+    """A read that is cancelled while it waits for its turn ends no connection."""
     peers = Peers(["OK 9\n", "", "VAL 5\nVAL 6\n", "VAL 7\n", "BYE\n"])
     async with client_of(peers) as client:
-        first = asyncio.ensure_future(client.get_many([1, 2]))
-        second = asyncio.ensure_future(client.get(3))
+        first, second = (asyncio.ensure_future(call) for call in (client.get_many([1, 2]), client.get(3)))
         await asyncio.sleep(0)
         second.cancel()
         await raises(asyncio.CancelledError, "get that is cancelled before its turn", second)
-        same(await first, [5, 6], "get_many that goes on")
-        same(await client.get(4), 7, "get after that")
+        same((await first, await client.get(4)), ([5, 6], 7), "get_many that goes on, and get after that")
     same(len(peers.heard()[0]), 5, "the lines of this connection")
 
 
@@ -108,9 +105,9 @@ async def wait_after_a_reply():
 
 async def call_before_connecting():
     """A client that was only made raises Lost, and `reconnect` connects it."""
-    client = client_of(Peers(["OK 9\n", "VAL 5\n", "BYE\n"]))
-    for name, *arguments in (("get", 0), ("get_many", [0]), ("read", [0]), ("cas", [(0, 1, 2)])):
-        await raises(mondlexi.Lost, f"{name} of a client that isn't connected", getattr(client, name)(*arguments))
+    client = client_of(Peers(VALUE))
+    for name, argument in (("get", 0), ("get_many", [0]), ("read", [0]), ("cas", [(0, 1, 2)])):
+        await raises(mondlexi.Lost, f"{name} of a client that isn't connected", getattr(client, name)(argument))
     same(client.words, 0, "words of a client that isn't connected")
     await client.reconnect()
     same((client.words, await client.get(7)), (9, 5), "a client that was connected")
@@ -128,16 +125,12 @@ async def cancel_a_counted_change():
     same(peers.heard(), [["TENANT t", "CAS 5:0:1"], ["TENANT t", "CAS 5:1:2", "QUIT"]], "what is sent for a count")
 
 
-async def try_all():
-    for trial in (lose_together, cancel_a_change, cancel_a_read, cancel_a_connect, cancel_a_counted_change, wait_beside_others,
-                  wait_after_a_reply, call_before_connecting):
-        await asyncio.wait_for(trial(), PATIENCE)
-
-
 def try_tasks():
     """All of these that need no server. No call may sleep while other tasks wait for it."""
     with unittest.mock.patch("time.sleep", side_effect=AssertionError("a task sleeps in place of waiting")):
-        asyncio.run(try_all())
+        for trial in (lose_together, cancel_calls, cancel_a_waiting_read, cancel_a_connect, cancel_a_counted_change, wait_beside_others,
+                      wait_after_a_reply, call_before_connecting):
+            asyncio.run(asyncio.wait_for(trial(), PATIENCE))
 
 
 def try_shared(server):

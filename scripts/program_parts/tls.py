@@ -7,12 +7,10 @@ import contextlib
 import select
 import socket
 import ssl
-import subprocess
 import threading
 
-from .common import HOST, PATIENCE, at, raises, same, wrong
 from . import shell
-from .reads import Peers
+from .common import HOST, PATIENCE, Peers, at, raises, same, well, wrong
 
 import mondlexi  # noqa: E402
 
@@ -51,9 +49,7 @@ def new_key(kind):
 
 
 def openssl(folder, *words):
-    made = subprocess.run(["openssl", *words], cwd=folder, stdin=subprocess.DEVNULL, stdout=subprocess.PIPE, stderr=subprocess.STDOUT)
-    if made.returncode:
-        wrong(f"openssl can't make certificates: {made.stdout.decode()}")
+    well("openssl", *words, at=folder)
 
 
 class Front:

@@ -1,13 +1,17 @@
 """A unit as systemd shows it, and the commands of a page, in a Debian that systemd has booted.
 
-Used by: as_operator.py, upkeep.py; booted.py, which puts all into the container. It needs no file of this repository.
+Used by: as_operator.py, upkeep.py; booted.py, which puts all into the container; scripts/check-package. It needs no file of this repository.
 """
+import contextlib
 import re
 import subprocess
+import sys
 import time
 from pathlib import Path
-from typing import Any, Callable, List, NamedTuple, NoReturn, Tuple
+from typing import Any, Callable, Iterator, List, NamedTuple, NoReturn, Optional, Sequence, Tuple
 
+Block = List[Tuple[str, str]]
+"""Commands of a page, each with what the page says that it prints."""
 PATIENCE = 60
 """For how many seconds what has to come is waited for."""
 LOCAL, PORT = "mondlexi-local", "mondlexi"
@@ -15,6 +19,7 @@ ROOM = Path("/srv/mw")
 PAGE = Path("/usr/share/doc/mondlexi/docs/OPERATING.md")
 PROXY_PAGE = PAGE.with_name("MANY-MACHINES.md")
 PROXY = Path("/etc/haproxy/mondlexi")
+HTTP_PAGE = PAGE.with_name("HTTP.md")
 OPTIONS = Path("/etc/default/mondlexi")
 
 
@@ -31,7 +36,7 @@ UNITS = (Unit(LOCAL, "unix:/run/mondlexi/socket", "unix:/run/mondlexi/admin", "m
 
 
 def wrong(text: str) -> NoReturn:
-    raise SystemExit(f"as_operator: {text}")
+    raise SystemExit(f"{Path(sys.argv[0]).stem}: {text}")
 
 
 def same(found: object, wanted: object, what: str) -> None:
@@ -39,9 +44,9 @@ def same(found: object, wanted: object, what: str) -> None:
         wrong(f"{what}: {found!r} in place of {wanted!r}")
 
 
-def ended(*words: object) -> "subprocess.CompletedProcess[str]":
+def ended(*words: object, at: Optional[Path] = None) -> "subprocess.CompletedProcess[str]":
     """A command that has ended, with all that it printed."""
-    return subprocess.run([str(it) for it in words], stdin=subprocess.DEVNULL, stdout=subprocess.PIPE, stderr=subprocess.STDOUT,
+    return subprocess.run([str(it) for it in words], cwd=at, stdin=subprocess.DEVNULL, stdout=subprocess.PIPE, stderr=subprocess.STDOUT,
                           universal_newlines=True, timeout=PATIENCE)
 
 
@@ -89,21 +94,35 @@ def journal(unit: str) -> List[str]:
     return run("journalctl", "--boot", "--unit", unit, "--output", "cat", "--no-pager").splitlines()
 
 
-class DropIn:
+@contextlib.contextmanager
+def drop_in(unit: str, lines: str) -> Iterator[None]:
     """A file beside the unit that adds lines to its section [Service], while a block runs."""
+    path = Path(f"/etc/systemd/system/{unit}.service.d/tried.conf")
+    path.parent.mkdir(exist_ok=True)
+    path.write_text(f"[Service]\n{lines}")
+    run("systemctl", "daemon-reload")
+    yield
+    path.unlink()
+    path.parent.rmdir()
+    run("systemctl", "daemon-reload")
 
-    def __init__(self, unit: str, lines: str):
-        self.path, self.lines = Path(f"/etc/systemd/system/{unit}.service.d/tried.conf"), lines
 
-    def __enter__(self) -> None:
-        self.path.parent.mkdir(exist_ok=True)
-        self.path.write_text(f"[Service]\n{self.lines}")
-        run("systemctl", "daemon-reload")
+@contextlib.contextmanager
+def changed(path: Path, old: str, new: str) -> Iterator[None]:
+    """A file with another text in place of this one, while a block runs."""
+    text = path.read_text()
+    same(text.count(old), 1, f"how often {path} has {old!r}")
+    path.write_text(text.replace(old, new))
+    yield
+    path.write_text(text)
 
-    def __exit__(self, *_: object) -> None:
-        self.path.unlink()
-        self.path.parent.rmdir()
-        run("systemctl", "daemon-reload")
+
+@contextlib.contextmanager
+def away(name: str) -> Iterator[None]:
+    """Without a file of the tenants' folder, while a block runs."""
+    (ROOM / name).rename(ROOM / "away")
+    yield
+    (ROOM / "away").rename(ROOM / name)
 
 
 # The page's commands
@@ -115,29 +134,30 @@ def section_of(page: Path, section: str) -> str:
     return re.split(r"^##", text, flags=re.MULTILINE)[0]
 
 
-def blocks(section: str, page: Path = PAGE) -> List[List[Tuple[str, str]]]:
-    """The indented blocks of a section of a page that have commands of root: each command, with what the page says that it prints."""
-    text = section_of(page, section)
+def commands_of(text: str, prompt: str = "#") -> List[Block]:
+    """The indented blocks of a text that have commands, each behind this prompt, with what the text says that it prints."""
     found = []
     for block in re.findall(r"(?:^ {4}.*\n)+", text + "\n", re.MULTILINE):
-        block = re.sub(r"&&\n +", "&& ", block)
-        parts = re.split(r"^ +# ", block, flags=re.MULTILINE)[1:]
+        parts = re.split(rf"^ +{prompt} ", re.sub(r"&&\n +", "&& ", block), flags=re.MULTILINE)[1:]
         found.append([(first.split("   ")[0], "".join(f"{it.strip()}\n" for it in rest.splitlines()))
                       for first, _, rest in (part.partition("\n") for part in parts)])
     return [it for it in found if it]
 
 
-def type_block(block: List[Tuple[str, str]], folder: Path) -> None:
+def blocks(section: str, page: Path = PAGE) -> List[Block]:
+    """Those of a section of a page that have commands of root."""
+    return commands_of(section_of(page, section))
+
+
+def type_block(block: Block, folder: Optional[Path], shell: Sequence[str] = ("bash",), before: str = "") -> None:
     """Gives a block's commands to one shell, one by one. Each must go well, and print what the page says, if it says something."""
-    script = "".join(f"{command}\nprintf '\\n:%d\\n' $?\n" for command, _ in block)
-    told = subprocess.run(["bash"], input=script, cwd=folder, stdout=subprocess.PIPE, stderr=subprocess.STDOUT,
-                          universal_newlines=True, timeout=PATIENCE).stdout
+    script = before + "".join(f"{command}\nprintf '\\n:%d\\n' $?\n" for command, _ in block)
+    told = subprocess.run(shell, input=script, cwd=folder, stdout=subprocess.PIPE, stderr=subprocess.STDOUT, universal_newlines=True,
+                          timeout=PATIENCE).stdout
     parts = re.split(r"\n:(\d+)\n", told)
     same(len(parts), 2 * len(block) + 1, f"the commands that ended, in {told!r}")
     for (command, wanted), printed, status in zip(block, parts[::2], parts[1::2]):
-        same(status, "0", f"the status of `{command}`, which prints {printed!r}")
-        if wanted:
-            same(printed, wanted, f"what `{command}` prints")
+        same((status, printed if wanted else ""), ("0", wanted), f"`{command}`, which prints {printed!r}")
 
 
 # A server that is asked, started and stopped
@@ -196,3 +216,11 @@ def end(unit: Unit) -> None:
     """Stops a unit; it has not failed then."""
     run("systemctl", "stop", unit.name)
     same((*state(unit.name), main_process(unit.name)), ("inactive", "success", 0), f"{unit.name} after systemctl stop")
+
+
+@contextlib.contextmanager
+def served(unit: Unit) -> Iterator[None]:
+    """A unit that runs, while a block does."""
+    begin(unit)
+    yield
+    end(unit)

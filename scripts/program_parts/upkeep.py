@@ -2,24 +2,27 @@
 
 Used by: as_operator.py; booted.py, which puts both into the container. It needs units.py, and no other file of this repository.
 """
+import contextlib
 import re
 from pathlib import Path
-from typing import List, Tuple
+from typing import Iterable, List
 
-from units import (OPTIONS, PAGE, ROOM, Unit, begin, blocks, client, end, ended, main_process, run, same, section_of, servers, state, try_to_talk,
-                   type_block, wait_until, word)
+from units import (OPTIONS, PAGE, ROOM, UNITS, Block, Unit, away, begin, blocks, client, end, ended, main_process, run, same, section_of, served, servers,
+                   state, try_to_talk, type_block, wait_until, word)
 
-Block = List[Tuple[str, str]]
-"""Commands of a page, each with what the page says that it prints."""
 KEPT = Path("/backup")
+COPY = ["t.mw", "tenants", "tenants.served"]
+"""The files of a backup."""
 
 
-def is_up(unit: Unit) -> bool:
-    """Whether the server answers, and all tenants are up."""
-    return ended("mondlexi-check", unit.admin).returncode == 0
+def wait_for(unit: Unit, when: str) -> None:
+    """Waits until the server answers, and all tenants are up."""
+    wait_until(f"the server {when}", lambda: ended("mondlexi-check", unit.admin).returncode == 0)
 
 
-# What cron runs
+def files_of(copies: Iterable[Path]) -> List[List[str]]:
+    """The names of the files of some copies."""
+    return [sorted(it.name for it in copy.iterdir()) for copy in copies]
 
 
 def cron_lines() -> List[List[str]]:
@@ -31,29 +34,43 @@ def cron_lines() -> List[List[str]]:
     return [["runuser", "-u", user, "--", "env", "-i", paths[0], "sh", "-c", command] for user, command in lines]
 
 
+def serving_block() -> Block:
+    """The page's block that makes a backup while the server serves."""
+    return next(it for it in blocks("Backup") if any("--unix-socket" in command for command, _ in it))
+
+
+def try_backup_while_serving(unit: Unit) -> None:
+    """The page's commands for a backup of a server that serves, at this unit. Its copies go after."""
+    value = word(unit)
+    type_block(serving_block(), ROOM)
+    copy = KEPT / "today"
+    same((f"word 0 {value}" in run("mwshow", copy / "t.mw").splitlines(), files_of([copy])), (True, [["t.mw", "tenants.served"]]), f"a backup while {unit.name} serves")
+    run("rm", "-r", copy)
+
+
 def try_cron(unit: Unit) -> None:
     """The page's lines for cron, run as cron runs them. They are silent with a server, and fail without one."""
     before = set(KEPT.iterdir())
     for is_served in (True, False):
-        if is_served:
-            begin(unit)
-        for words in cron_lines():
-            told = ended(*words)
-            same((told.returncode == 0, told.stdout == ""), (is_served, is_served), f"`{words[-1]}` of cron, which prints {told.stdout!r}")
-        if is_served:
-            end(unit)
+        with served(unit) if is_served else contextlib.nullcontext():
+            for words in cron_lines():
+                told = ended(*words)
+                same((told.returncode == 0, told.stdout == ""), (is_served, is_served), f"`{words[-1]}` of cron, which prints {told.stdout!r}")
     new = set(KEPT.iterdir()) - before
-    same([sorted(file.name for file in it.iterdir()) for it in new], [["t.mw", "tenants", "tenants.served"]], "the copy that cron has made")
+    same(files_of(new), [COPY], "the copy that cron has made")
     run("rm", "-r", *new)
-    print("the page's lines for cron: silent with a server; without one each says so")
+    print(f"{unit.name}: the page's lines for cron: silent with a server; without one each says so")
 
 
-# Backups and drills
+def blocks_at(unit: Unit, section: str) -> List[Block]:
+    """The blocks of a section of the page, with this unit and its address in place of the one that the page names."""
+    named = UNITS[0]
+    return [[(command.replace(named.name, unit.name).replace(named.listen, unit.listen), wanted) for command, wanted in it] for it in blocks(section)]
 
 
-def stopping_blocks() -> List[Block]:
+def stopping_blocks(unit: Unit) -> List[Block]:
     """The page's blocks that stop the server: for a backup, to restore a tenant, and for a drill in the service."""
-    found = [it for it in blocks("Backup") if any("systemctl stop" in command for command, _ in it)]
+    found = [it for it in blocks_at(unit, "Backup") if any(f"systemctl stop {unit.name}" in command for command, _ in it)]
     same(len(found), 3, "the blocks of the section Backup that stop the server")
     return found
 
@@ -91,41 +108,46 @@ def try_tenants_file(unit: Unit, restore: Block, value: int) -> None:
            for command, wanted in restore]
     same("mv tenants.new tenants &&" in "".join(command for command, _ in way), True, f"the way of the tenants file in {way}")
     type_block(way, ROOM)
-    wait_until("the server after its tenants file was restored", lambda: is_up(unit))
+    wait_for(unit, "after its tenants file was restored")
     same(((ROOM / "tenants").read_text(), word(unit)), (text, value), "the tenants file that was restored, and the word")
 
 
 def try_page(unit: Unit) -> None:
     """The page's commands for a backup of a server that serves, and of a stopped one, for drills, to restore it, when a tenant is down,
-    and for more words. The tenants file has an absolute path."""
+    and for more words, at this unit. The tenants file has an absolute path."""
     text = (ROOM / "tenants").read_text()
     (ROOM / "tenants").write_text(text.replace(" t.mw\n", f" {ROOM}/t.mw\n"))
     begin(unit)
     try_to_talk(unit)
     value = word(unit)
-    backup, restore, second = stopping_blocks()
-    serving, drill = (next(it for it in blocks("Backup") if any(word_of in command for command, _ in it)) for word_of in ("--unix-socket", "--script"))
-    type_block(serving, ROOM)
+    backup, restore, second = stopping_blocks(unit)
+    drill = next(it for it in blocks("Backup") if any("--script" in command for command, _ in it))
+    type_block(serving_block(), ROOM)
     same(f"word 0 {value}" in run("mwshow", "/backup/today/t.mw").splitlines(), True, "the word 0 of a backup while it serves")
     type_block(backup, ROOM)
-    wait_until("the server after a backup", lambda: is_up(unit))
+    wait_for(unit, "after a backup")
     try_drill(unit, drill, value)
     try_to_talk(unit)
     type_block(restore, ROOM)
-    wait_until("the server after that was restored", lambda: is_up(unit))
+    wait_for(unit, "after that was restored")
     same(word(unit), value, "the word of a backup that was restored")
     try_tenants_file(unit, restore, value)
     try_drill_in_service(unit, second, value)
-    type_block(blocks("When a tenant is down")[0], ROOM)
+    type_block(blocks_at(unit, "When a tenant is down")[0], ROOM)
     same(state(unit.name), ("inactive", "success"), "the unit while a tenant is mended")
-    type_block(blocks("Changing tenants")[0], ROOM)
-    wait_until("the server after the tenant has grown", lambda: is_up(unit))
+    type_block(blocks_at(unit, "Changing tenants")[0], ROOM)
+    wait_for(unit, "after the tenant has grown")
     with client(unit) as at:
         same((at.words, at.get(0)), (2000, value), "the tenant that has grown")
-    print("the page's commands for a backup of a server that serves, and of a stopped one, for drills, to restore it, when a tenant is down, and for more words")
+    print(f"{unit.name}: the page's commands for a backup of a server that serves, and of a stopped one, for drills, to restore it, when a tenant is down, "
+          "and for more words")
 
 
-# Upgrades
+def put_back(unit: Unit, text: str) -> None:
+    """Stops a unit, and puts back a tenant's file that has grown, and the tenants file with this text."""
+    end(unit)
+    (ROOM / "t.old").rename(ROOM / "t.mw")
+    (ROOM / "tenants").write_text(text)
 
 
 BEFORE = """#!/bin/sh
@@ -150,15 +172,15 @@ def package_before(deb: str) -> str:
 
 def try_way_back(unit: Unit, before: str) -> None:
     """By the page: copies of a stopped server, the package of the version before, and the copies again. What was changed since is gone."""
-    backup, restore, _ = stopping_blocks()
+    backup, restore, _ = stopping_blocks(unit)
     type_block(backup, ROOM)
-    wait_until("the server after copies for the way back", lambda: is_up(unit))
+    wait_for(unit, "after copies for the way back")
     value = word(unit)
     try_to_talk(unit)
     end(unit)
     run("dpkg", "--install", before)
     type_block(restore, ROOM)
-    wait_until("the server of the version before", lambda: is_up(unit))
+    wait_for(unit, "of the version before")
     same((run("dpkg-query", "--show", "--showformat", "${Version}", "mondlexi"), word(unit)), ("0.1", value), "the version before, and its word")
 
 
@@ -180,10 +202,9 @@ def try_upgrades(unit: Unit, deb: str) -> None:
     run("dpkg", "--install", deb)
     same((state(unit.name), servers()), (("inactive", "success"), []), "a unit that was stopped, after an upgrade")
     begin(unit)
-    (ROOM / "t.mw").rename(ROOM / "t.away")
-    told = ended("dpkg", "--install", deb)
-    same((told.returncode, f"mondlexi: {unit.name}.service doesn't start" in told.stdout), (0, True), f"an upgrade whose server doesn't start: {told.stdout}")
-    (ROOM / "t.away").rename(ROOM / "t.mw")
+    with away("t.mw"):
+        told = ended("dpkg", "--install", deb)
+        same((told.returncode, f"mondlexi: {unit.name}.service doesn't start" in told.stdout), (0, True), f"an upgrade whose server doesn't start: {told.stdout}")
     begin(unit)
     try_way_back(unit, before)
     run("dpkg", "--install", deb)

@@ -1,6 +1,6 @@
 """What the checks share: calls with their begin and end, and whether an order of calls of one key explains what they told.
 
-Used by: scripts/check-recipes, blocks.py, keys.py, queues.py.
+Used by: keys.py, leases.py, queues.py, table.py.
 """
 from typing import Any, FrozenSet, Iterable, Iterator, List, NamedTuple, Optional, Set, Tuple
 
@@ -42,15 +42,19 @@ def calls_of(logs: Logs, names: Iterable[str]) -> Iterator[Call]:
             for line, following in zip(lines, [*lines[1:], None]) if line[1] in wanted)
 
 
+def lines_of(logs: Logs) -> Iterator[Tuple[int, Line]]:
+    """Each line, with the number of its process."""
+    return ((number, line) for number, lives in logs.items() for lines in lives for line in lines)
+
+
 def raised_in(logs: Logs) -> List[str]:
     """What the processes raised: the last line of each text."""
-    return [f"process {number} raised {line[2].strip().splitlines()[-1]}" for number, lives in logs.items() for lines in lives
-            for line in lines if line[1] == "raised"]
+    return [f"process {number} raised {line[2].strip().splitlines()[-1]}" for number, line in lines_of(logs) if line[1] == "raised"]
 
 
 def too_little(logs: Logs) -> List[str]:
     """A line if the processes told too little to find anything."""
-    count = sum(len(lines) for lives in logs.values() for lines in lives)
+    count = sum(1 for _ in lines_of(logs))
     return [] if count >= ENOUGH else [f"{count} lines were told, and {ENOUGH} are enough"]
 
 

@@ -1,7 +1,7 @@
 """Checks what processes told of queues, counters and values of bytes: each element once and in order, each addition once, no value
 of two halves.
 
-Used by: scripts/check-recipes, leases.py.
+Used by: leases.py, table.py.
 """
 from typing import Dict, List, Set
 

@@ -1,6 +1,6 @@
 """Runs a recipe in many processes, through a network that loses and delays, while the server and the processes are killed.
 
-Used by: scripts/check-recipes, blocks.py, histories.py, keys.py, leases.py, queues.py, work.py.
+Used by: scripts/check-programs, scripts/check-recipes, histories.py, keys.py, leases.py, queues.py, table.py, work.py.
 """
 import json
 import multiprocessing
@@ -12,14 +12,14 @@ from pathlib import Path
 from typing import Any, Callable, Dict, List, NamedTuple, Optional
 
 from program_parts.common import BUILT
-from program_parts.served import Served, make_tenants
+from program_parts.served import HOST, Served, make_tenants
 
 import mondlexi
 
-from .network import HOST, run_network
+from .network import Network
 
 FORK = multiprocessing.get_context("fork")
-TENANT, WORDS, QUOTA = "a", 4096, 32
+TENANT, WORDS = "a", 4096
 PATIENCE, WITHIN = 120.0, 120.0
 LONGEST = 180.0
 """For how many seconds the processes may go on until they told enough, and then after they were told to stop."""
@@ -33,12 +33,16 @@ Logs = Dict[int, List[List[Line]]]
 
 class Size(NamedTuple):
     """How large a run is. `kills`: how often the server, and as often a process, is killed. `timeout`: for how many seconds a
-    process waits for a reply. `is_lossy`: whether the network is between that loses and delays."""
+    process waits for a reply. `is_lossy`: whether the network is between that loses and delays. `is_local`: whether the server is at a
+    local socket; then nothing is between. `holds_up`: whether the server is held up too, as often as it is killed."""
     processes: int
     seconds: float
     kills: int
     timeout: float = 1.0
     is_lossy: bool = True
+    is_local: bool = False
+    quota: int = 32
+    holds_up: bool = False
 
 
 class Life:
@@ -90,54 +94,55 @@ class Run:
         """`lacks`: what is too little in what was told. `spoil`: what makes the recipe wrong, in each process."""
         self.folder, self.size, self.work, self.lacks, self.spoil = folder, size, work, lacks, spoil
         (folder / "logs").mkdir(parents=True)
-        make_tenants(BUILT["mwinit"], folder, {TENANT: WORDS}, QUOTA)
-        self.server = Served(BUILT["mwserve"], folder, ("--workers", "16", "--clients", str(2 * size.processes + 40)))
-        self.network = FORK.Process(target=run_network, args=(self.server.port + 1, self.server.port))
+        make_tenants(BUILT["mwinit"], folder, {TENANT: WORDS}, size.quota)
+        options = ("--workers", "16", "--clients", str(2 * size.processes + 40))
+        self.server = Served(BUILT["mwserve"], folder, options, size.is_local)
+        self.at = f"{HOST}:{self.server.port + 1}" if size.is_lossy else self.server.at
         self.stop = FORK.Event()
         self.lives = [0] * size.processes
         self.words: List[int] = []
 
     def whole(self) -> List[str]:
         """The run. What went wrong with its processes."""
-        self.network.start()
+        network = Network(self.server.port + 1, self.server.port, "recipes") if self.size.is_lossy else None
         try:
             processes = [self.begin(number) for number in range(self.size.processes)]
-            self.kill_some(processes)
+            self.disturb(processes)
             self.go_on(processes)
             self.stop.set()
             faults = ended(processes)
-            with mondlexi.Client(f"{HOST}:{self.server.port}", TENANT, within=WITHIN) as client:
+            with mondlexi.Client(self.server.at, TENANT, within=WITHIN) as client:
                 self.words = client.get_many(range(WORDS))
             return faults
         finally:
-            self.network.terminate()
-            self.network.join()
+            if network:
+                network.end()
             self.server.kill()
 
     def begin(self, number: int) -> "multiprocessing.process.BaseProcess":
         """Begins the next life of a process."""
         life = Life(number, self.lives[number], self.size.timeout, self.folder / "logs", self.stop)
         self.lives[number] += 1
-        place = f"{HOST}:{self.server.port + self.size.is_lossy}"
-        process = FORK.Process(target=life.live, args=(place, self.work, self.spoil), daemon=True)
+        process = FORK.Process(target=life.live, args=(self.at, self.work, self.spoil), daemon=True)
         process.start()
         os.close(life._log)
         return process
 
-    def kill_some(self, processes: List["multiprocessing.process.BaseProcess"]) -> None:
+    def disturb(self, processes: List["multiprocessing.process.BaseProcess"]) -> None:
         """Kills the server, and processes, at any moments until the time is over. Each begins again at once."""
         begun = time.monotonic()
-        moments = [(random.uniform(0.1, 0.95) * self.size.seconds, is_server)
-                   for is_server in (True, False) for _ in range(self.size.kills)]
-        for moment, is_server in sorted(moments):
+        kinds = ("server", "process", "hold up") if self.size.holds_up else ("server", "process")
+        for moment, kind in sorted((random.uniform(0.1, 0.95) * self.size.seconds, kind) for kind in kinds for _ in range(self.size.kills)):
             time.sleep(max(0.0, begun + moment - time.monotonic()))
-            if is_server:
+            if kind == "server":
                 self.server.restart()
-                continue
-            number = random.randrange(self.size.processes)
-            processes[number].kill()
-            processes[number].join()
-            processes[number] = self.begin(number)
+            elif kind == "hold up":
+                self.server.hold_up()
+            else:
+                number = random.randrange(self.size.processes)
+                processes[number].kill()
+                processes[number].join()
+                processes[number] = self.begin(number)
         time.sleep(max(0.0, begun + self.size.seconds - time.monotonic()))
 
     def go_on(self, processes: List["multiprocessing.process.BaseProcess"]) -> None:

@@ -1,12 +1,12 @@
 """What each process does with a recipe, and what it tells of it, line by line: before a call what it asks for, after it what it was
 told. A life whose last line is of the first kind was killed in between.
 
-Used by: scripts/check-recipes, blocks.py, keys.py, leases.py, queues.py. All but the first read these lines: change both.
+Used by: keys.py, leases.py, queues.py, table.py. All but the last read these lines: change both.
 """
 import asyncio
 import hashlib
 import time
-from typing import List, Union
+from typing import Callable, Dict, Sequence, Union
 
 import mondlexi
 import mondlexi.aio
@@ -18,6 +18,9 @@ from .running import PATIENCE, TENANT, WITHIN, Life
 LOCKS, LEASE = 6, 1.0
 BLOCKS = 200
 KEYS, RANGE = 24, 8
+"""The keys are 1 to KEYS."""
+FIRST, SECOND = 0, KEYS + 1
+"""Process 0 gives a number to the first key, then the same one to the second, and then the next number."""
 INDEX_AT, PAIRS = 100, 400
 HASH_AT, SLOTS = 100, 32
 QUEUE_AT, ROOM = 100, 40
@@ -25,6 +28,8 @@ COUNTER_AT, WIDE_AT = 100, 200
 PLACES, REGISTRY_AT = 8, 300
 MOST_HELD = 30
 """How many blocks a process has at most before it gives some back."""
+Call = Callable[[int, int], object]
+"""A call of an index, with a key and a value."""
 
 
 def own_count(life: Life) -> mondlexi.Counted:
@@ -77,36 +82,44 @@ def use_blocks(life: Life) -> None:
             life.log("given", given)
 
 
-Index = Union[recipes.SortedIndex, recipes.HashIndex]
-
-
 def use_sorted_index(life: Life) -> None:
-    """Reads and changes few keys of a sorted index, and ranges of them."""
-    _use_index(life, recipes.SortedIndex(life.client, own_count(life), PAIRS, INDEX_AT, WITHIN), "pppddgggr")
+    """Reads and changes few keys of a sorted index, and ranges of them. Process 0 moves two keys, one after the other; all others read
+    both by one range, with all keys between."""
+    index = recipes.SortedIndex(life.client, own_count(life), PAIRS, INDEX_AT, WITHIN)
+    if life.number == 0:
+        _move_two(life, index)
+        return
+    more: Dict[str, Call] = {"r": lambda key, _: index.range(key, key + RANGE),
+                             "both": lambda *_: [pair for pair in index.range() if pair[0] in (FIRST, SECOND)]}
+    _use_index(life, index, more, [*"pppddgggr", "both"])
+
+
+def _move_two(life: Life, index: recipes.SortedIndex) -> None:
+    """Moves the first key, and then the second one. It begins where the process before it was killed."""
+    number = index.get(FIRST) or 0
+    index.put(SECOND, number)
+    while life.goes_on():
+        number += 1
+        index.put(FIRST, number)
+        index.put(SECOND, number)
 
 
 def use_hash_index(life: Life) -> None:
     """Reads and changes few keys of a hash index."""
-    _use_index(life, recipes.HashIndex(life.client, own_count(life), SLOTS, HASH_AT, WITHIN), "pppddggg")
+    _use_index(life, recipes.HashIndex(life.client, own_count(life), SLOTS, HASH_AT, WITHIN), {}, [*"pppddggg"])
 
 
-def _use_index(life: Life, index: Index, calls: str) -> None:
-    """Makes random ones of these calls: put, delete, get, range."""
+def _use_index(life: Life, index: Union[recipes.SortedIndex, recipes.HashIndex], more: Dict[str, Call],
+               names: Sequence[str]) -> None:
+    """Makes random ones of these calls: put, delete, get, and more."""
+    calls: Dict[str, Call] = {"p": index.put, "d": lambda key, _: index.delete(key), "g": lambda key, _: index.get(key), **more}
     count = 0
     while life.goes_on():
-        key, call = life.dice.randrange(KEYS), life.dice.choice(calls)
+        key, name = life.dice.randint(1, KEYS), life.dice.choice(names)
         count += 1
         value = life.unique(count)
-        life.log(call, key, value)
-        if call == "p":
-            life.log("told", index.put(key, value))
-        elif call == "d":
-            life.log("told", index.delete(key))
-        elif call == "g":
-            life.log("told", index.get(key))
-        else:
-            assert isinstance(index, recipes.SortedIndex)
-            life.log("told", index.range(key, key + RANGE))
+        life.log(name, key, value)
+        life.log("told", calls[name](key, value))
         life.think()
 
 
@@ -191,16 +204,12 @@ def use_registry(life: Life) -> None:
 def _add_some(life: Life, place: recipes.Place, is_held_up: bool) -> None:
     """Adds to the counter with the count of a place, perhaps after its lease: then another process may have it."""
     try:
-        own = mondlexi.Counted(life.client, place.address, WITHIN)
-        counter = recipes.Counter(life.client, own, COUNTER_AT, WITHIN)
-        additions: List[int] = []
-        while len(additions) < 3 and place.left() > 0:
-            life.log("add")
-            additions.append(counter.add())
-            life.log("told", additions[-1])
-        if is_held_up:
-            time.sleep(1.5 * LEASE)
-            life.log("add")
-            life.log("told", counter.add())
+        counter = recipes.Counter(life.client, mondlexi.Counted(life.client, place.address, WITHIN), COUNTER_AT, WITHIN)
+        for is_late in (*3 * (False,), *is_held_up * (True,)):
+            if is_late:
+                time.sleep(1.5 * LEASE)
+            if is_late or place.left() > 0:
+                life.log("add")
+                life.log("told", counter.add())
     except RuntimeError:
         life.log("moved")

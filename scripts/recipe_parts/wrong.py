@@ -3,9 +3,10 @@
 Used by: scripts/check-recipes. A mistake is made in the processes of one run alone.
 """
 import random
-from typing import Any, Callable, Iterable, List, NamedTuple
+from typing import Any, Callable, Iterable, List, NamedTuple, Tuple
 
 from mondlexi import Busy, Entry, Lost, Outcome, Unknown
+from mondlexi._protocol import MAX_VALUE
 from mondlexi._session import Count, TenantSession
 from mondlexi.recipes import _leases, locks, sorted_index, wide
 from mondlexi.recipes._base import blocking
@@ -43,6 +44,19 @@ def trust_what_is_known() -> None:
         self._forget(numbers)
     setattr(sorted_index.AwaitedSortedIndex, "_are_all_so", are_all_so)
     setattr(sorted_index.AwaitedSortedIndex, "_forget_stale", forget_stale)
+
+
+def range_without_a_look() -> None:
+    """A range reads its nodes one after the other, and doesn't look whether all were so at one moment."""
+    async def all_pairs(self: sorted_index.AwaitedSortedIndex, low: int = 0, high: int = MAX_VALUE + 1) -> List[Tuple[int, int]]:
+        self._known.clear()
+        try:
+            return await self._pairs_from(await self._path_to(low), high)
+        except sorted_index._Stale:
+            return await right(self, low, high)
+    right = sorted_index.AwaitedSortedIndex.range
+    setattr(sorted_index.AwaitedSortedIndex, "range", all_pairs)
+    setattr(sorted_index.SortedIndex, "range", blocking(all_pairs))
 
 
 def compare_less() -> None:
@@ -98,6 +112,7 @@ WRONG = (
     Wrong("locks", "a lock taken over before its lease is over", hurry),
     Wrong("blocks", BELIEVED, without_a_count(False)),
     Wrong("sorted-index", "an index that does not validate", trust_what_is_known),
+    Wrong("sorted-index", "a range of several moments", range_without_a_look),
     Wrong("hash-index", "an insertion that compares its own slot alone", compare_less),
     Wrong("queue", SENT_AGAIN, without_a_count(True)),
     Wrong("counter", BELIEVED, without_a_count(False)),

@@ -1,10 +1,11 @@
-"""Reads the edits of the crates, in the gate and by rounds, and the wrong bodies that are kept by hand in wrong_bodies.txt.
+"""Reads the edits of the crates, in the gate and by rounds, and the wrong bodies that are kept by hand in wrong_bodies.txt, whose head tells
+its form.
 
-Used by: scripts/check-names, page.py. KEYS are those that the head of wrong_bodies.txt explains, and the columns that page.py writes: a
-further one is added in all three.
+Used by: scripts/check-names, page.py. A further column changes the text, `Row`, and `told_line` of page.py.
 """
 import os
 import re
+from collections import Counter
 from pathlib import Path
 
 from edit_parts.edits import BadEdit, apply, read_edit
@@ -12,25 +13,11 @@ from register_parts.source import TOP, files_below, read
 
 # Where the edits of a crate are, in words and as a folder: `rt ci` tries the first, scripts/check-wrong-bodies the others.
 FOLDERS = {"in the gate": "crates/{}/must-fail", "by rounds": "wrong-bodies/{}"}
-BODIES = os.path.join("scripts", "register_parts", "wrong_bodies.txt")
+BODIES = "scripts/register_parts/wrong_bodies.txt"
 # The name of a row in a table of tests.
 ROW = re.compile(r'"([a-z][\w -]*)"')
 # Tests and schedules that a cell names: tests `a`, `b` and `c`.
 PROSE = re.compile(r"\b(tests?|schedules?) (`[\w-]+`(?:(?:, | and )`[\w-]+`)*)")
-KEYS = {
-    "named": ("name does edits tests call besides".split(), "name does".split()),
-    "headline": ("name code both test".split(),) * 2,
-    "survivors": ("function body refused".split(),) * 2,
-    "programs": ("mistake law clause schedules".split(),) * 2,
-    "planted": ("crate refused survive which".split(),) * 2,
-    "inside": ("edit call".split(),) * 2,
-}
-
-
-def edited(source, old):
-    """The first function of a source whose body has this text, if one has."""
-    places = [found.start() for found in re.finditer(re.escape(old.strip()), source.text)]
-    return next(filter(None, map(source.function_at, places)), None)
 
 
 def where(edit):
@@ -39,127 +26,108 @@ def where(edit):
     return [words for words, folder in FOLDERS.items() if os.path.isfile(os.path.join(TOP, folder.format(crate), name + ".edit"))]
 
 
+def edited(crate, change):
+    """The first function whose body has the text that a change of a crate replaces, if one has."""
+    sources = [it for it in crate.sources if it.path == f"crates/{crate.name}/{change.path}"]
+    places = [(it, found.start()) for it in sources for found in re.finditer(re.escape(change.old.strip()), it.text)]
+    return next(filter(None, (source.function_at(at) for source, at in places)), None)
+
+
 def edits(crates):
-    """The function whose body each edit changes first, by `crate/edit`; None if no body has that text."""
-    found = {}
+    """The function whose body each edit changes first, by `crate/edit`; and what is wrong with the edits: those that can't be made, whose text is in
+    no body, that are in both folders, or that are of no crate."""
+    found, wrong = {}, []
     for crate in crates:
-        sources = {source.path: source for source in crate.sources}
         for path in [it for folder in FOLDERS.values() for it in files_below(folder.format(crate.name), ".edit")]:
-            text = read(path)
-            file = re.search(r"^file: (.*)$", text, re.M).group(1)
-            old = re.search(r"^old: (.*)$", text, re.M).group(1)
-            source = sources.get(f"crates/{crate.name}/{file}")
-            found[f"{crate.name}/{os.path.basename(path)[:-5]}"] = edited(source, old) if source else None
-    return found
+            edit = f"{crate.name}/{os.path.basename(path)[:-5]}"
+            wrong += [f"{edit}: it is in the gate and by rounds"] if edit in found else []
+            found[edit] = None
+            try:
+                given = read_edit(Path(TOP, path), crate.name)
+                found[edit] = edited(crate, given.changes[0])
+                apply(given, Path(TOP, "crates", crate.name), {})
+            except BadEdit as fault:
+                wrong.append(str(fault))
+    wrong += [f"{edit}: its text is in no body" for edit, function in found.items() if function is None]
+    rounds = ["/".join(path.split(os.sep)[1:]) for path in files_below("wrong-bodies", ".edit")]
+    return found, wrong + [f"wrong-bodies/{it}: crates.txt has no such crate" for it in rounds if it[:-5] not in found]
 
 
-def tables():
-    """The tables of wrong_bodies.txt: for each its rows, in order, by key."""
-    found, table, row = {name: [] for name in KEYS}, None, None
-    for number, line in enumerate(read(BODIES).split("\n"), 1):
-        heading = re.fullmatch(r"\[(\w+)\]", line)
-        if heading:
-            table, row = heading.group(1), None
-        elif not line:
-            row = None
-        elif not line.startswith("#"):
-            key, _, value = line.partition(": ")
-            if table not in KEYS or key not in KEYS[table][0] or not value:
-                raise ValueError(f"{BODIES}:{number}: no such table or key, or no value")
-            if row is None:
-                row = {}
-                found[table].append(row)
-            row[key] = value
-    return found
+class Row:
+    """A row of a table: its cells. One of a wrong body has edits as `crate/edit`, tests as a crate with names, the public call of the edits as
+    `crate/call`, and what is said besides. An edit without such a row has a call. Other rows name tests and schedules in their words alone."""
+
+    def __init__(self, cells, heading):
+        self.cells, self.edits, self.tests, self.besides, call = cells, [], [], "", ""
+        self.is_named = heading[:2] == ["wrong body", "what it does"]
+        self.is_whole = len(cells) == len(heading) and all(cells[:3] if self.is_named else cells)
+        if heading[0] == "edit":
+            self.edits, call = cells[:1], cells[-1]
+        elif self.is_named and self.is_whole:
+            named, _, self.besides = cells[2].partition(". ")
+            for item in filter(None, named.split("; ")):
+                crate, is_test, tests = item.partition(": ")
+                if is_test:
+                    self.tests.append((crate, tests.split(", ")))
+                else:
+                    self.edits.append(item if "/" in item else f"{item}/{cells[0]}")
+            self.is_whole, call = bool(named), cells[3]
+        self.call = "".join(edit.split("/")[0] for edit in self.edits[:1]) + f"/{call}" if call else ""
 
 
-def tests_told(row):
-    """The tests of a row: crates, each with the names of its tests."""
-    parts = [part.split(": ") for part in row.get("tests", "").split("; ") if part]
-    return [(crate, tests.split(", ")) for crate, tests in parts]
+def lines_told():
+    """The lines of wrong_bodies.txt, of which those of tables below their headings are rows."""
+    heading = None
+    for line in read(BODIES).split("\n"):
+        cells = [cell.strip() for cell in line[1:-1].split("|")]
+        if heading and line.startswith("|") and not line.startswith("|---"):
+            yield Row(cells, heading)
+        else:
+            heading = (heading or cells) if line.startswith("|") else None
+            yield line
 
 
-def edits_told(row):
-    """The edits of a row, as `crate/edit`."""
-    return [edit for edit in row.get("edits", "").split(", ") if edit]
+def rows_of(lines):
+    """The rows among the lines of wrong_bodies.txt."""
+    return [line for line in lines if isinstance(line, Row)]
 
 
 class There:
     """What the rows may name: edits, tests with their crates, public calls; rows of tests' tables, by the name that such a row
     has as a text, with a hyphen for each space; and the text of the tests, which has schedules."""
 
-    def __init__(self, crates, edit_places):
-        sources = [source for crate in crates for source in crate.sources]
-        functions = [function for source in sources for function in source.functions]
-        self.edits = edit_places
+    def __init__(self, crates):
+        functions = [function for crate in crates for source in crate.sources for function in source.functions]
+        tests = [source for crate in crates for source in crate.sources if crate.is_test(source)]
+        self.edits, self.wrong_edits = edits(crates)
         self.tests = {(f.source.crate, f.name) for f in functions if f.is_test}
-        self.tests |= {(source.crate, row.replace(" ", "-")) for crate in crates for source in crate.sources if crate.is_test(source)
-                       for row in ROW.findall(source.text)}
+        self.tests |= {(source.crate, row.replace(" ", "-")) for source in tests for row in ROW.findall(source.text)}
         self.test_names = {name for _, name in self.tests}
-        self.calls = {f"{f.source.path}: {f.label()}" for f in functions if f.is_open}
-        self.test_text = "\n".join(source.text for crate in crates for source in crate.sources if crate.is_test(source))
+        calls = [(f"{f.source.crate}/{f.label()}", f"{f.source.path}: {f.label()}") for f in functions if f.is_open]
+        count = Counter(call for call, _ in calls)
+        self.calls = {call: place for call, place in calls if count[call] == 1}
+        self.test_text = "\n".join(source.text for source in tests)
 
     def has(self, kind, name):
         """Whether there is such a test, or such a schedule."""
         return name in self.test_names or kind.startswith("schedule") and f'"{name}"' in self.test_text
 
+    def faults_of(self, row):
+        """What a row names though it isn't there, or leaves out."""
+        found = [] if row.is_whole else ["a cell is empty, or missing"]
+        found += [f"no edit {edit}" for edit in row.edits if edit not in self.edits]
+        found += [f"no test {name} of {crate}" for crate, names in row.tests for name in names if (crate, name) not in self.tests]
+        told = [(kind, name) for kind, names in PROSE.findall(" ".join(row.cells)) for name in re.findall(r"`([\w-]+)`", names)]
+        found += [f"no test or schedule {name}" for kind, name in told if not self.has(kind, name)]
+        return found + ([f"no public call {row.call}, or several"] if row.call and row.call not in self.calls else [])
 
-def told_in_words(row):
-    """The tests and schedules that the words of a row name, each with what it is said to be."""
-    parts = PROSE.findall(" ".join(row.values()))
-    return [(kind, name) for kind, names in parts for name in re.findall(r"`([\w-]+)`", names)]
-
-
-def row_faults(table, row, there):
-    """What a row names though it isn't there, or leaves out."""
-    found = [f"no {key}" for key in KEYS[table][1] if key not in row]
-    named = edits_told(row) + ([row["edit"]] if "edit" in row else [])
-    found += [f"no edit {edit}" for edit in named if edit not in there.edits]
-    for crate, names in tests_told(row):
-        found += [f"no test {name} of {crate}" for name in names if (crate, name) not in there.tests]
-    found += [f"no test or schedule {name}" for kind, name in told_in_words(row) if not there.has(kind, name)]
-    if "call" in row and row["call"] not in there.calls:
-        found.append(f"no public call {row['call']}")
-    if table == "named" and not ("edits" in row or "tests" in row):
-        found.append("no edit and no test")
-    return found
+    def public_calls(self, rows):
+        """The public call at which each edit is refused: of an edit in a public function that one, else the one that is told."""
+        found = {edit: f"{f.source.path}: {f.label()}" for edit, f in self.edits.items() if f and f.is_open}
+        found.update({edit: self.calls[row.call] for row in rows if row.call in self.calls for edit in row.edits})
+        return found
 
 
-def unfit(edit):
-    """Why an edit, told as `crate/edit`, can't be made, as of a text that isn't in its file once; nothing if it can."""
-    crate, name = edit.split("/")
-    try:
-        for words in where(edit):
-            apply(read_edit(Path(TOP, FOLDERS[words].format(crate), f"{name}.edit"), crate), Path(TOP, "crates", crate), {})
-    except BadEdit as fault:
-        return str(fault)
-    return ""
-
-
-def edit_faults(edit_places):
-    """Edits that can't be made, whose text is in no body, that are in both folders, or that are of no crate."""
-    found = [why for why in map(unfit, edit_places) if why]
-    found += [f"{edit}: its text is in no body" for edit, function in edit_places.items() if function is None]
-    found += [f"{edit}: it is in the gate and by rounds" for edit in edit_places if len(where(edit)) > 1]
-    rounds = [path.split(os.sep)[1:] for path in files_below("wrong-bodies", ".edit")]
-    return found + [f"wrong-bodies/{'/'.join(it)}: crates.txt has no such crate" for it in rounds if "/".join(it)[:-5] not in edit_places]
-
-
-def faults(told, edit_places, crates):
-    """What the tables name though it isn't there, or leave out; and what is wrong with the edits."""
-    there = There(crates, edit_places)
-    found = edit_faults(edit_places)
-    for table, rows in told.items():
-        for row in rows:
-            name = next(iter(row.values()))
-            found += [f"{BODIES}: {name}: {fault}" for fault in row_faults(table, row, there)]
-    return found
-
-
-def public_calls(told, edit_places):
-    """The public call at which each edit is refused: of an edit in a public function that one, else the one that is told."""
-    found = {edit: f"{f.source.path}: {f.label()}" for edit, f in edit_places.items() if f and f.is_open}
-    found.update({row["edit"]: row["call"] for row in told["inside"]})
-    for row in told["named"]:
-        found.update({edit: row["call"] for edit in edits_told(row) if "call" in row})
-    return found
+def faults(rows, there):
+    """What the rows name though it isn't there, or leave out; and what is wrong with the edits."""
+    return there.wrong_edits + [f"{BODIES}: {row.cells[0]}: {fault}" for row in rows for fault in there.faults_of(row)]

@@ -1,7 +1,7 @@
 """Makes the text of docs/REGISTER.md.
 
 Used by: scripts/register, which writes the page; scripts/check-names, which compares it. After a change here run scripts/register. head.md
-explains the columns, and bodies.py has the keys of wrong_bodies.txt: a further column is told there.
+explains the columns, and wrong_bodies.txt has the second part.
 """
 from register_parts import bodies
 from register_parts.citing import cited
@@ -11,70 +11,7 @@ from register_parts.testing import Tests
 # How many tests a line names.
 TESTS = 6
 HEAD = "scripts/register_parts/head.md"
-# Of each table of wrong bodies its heading, the words before it, its columns, and the words after it.
-PARTS = {
-    "named": (
-        "## Wrong bodies",
-        """
-{count} mistakes that a server of this kind might make, each under a name. An edit makes the change, and its proof must be
-refused. Those *in the gate* are files `NAME.edit` in the folder `must-fail` of the crate, and `rt ci` tries them. Those
-*by rounds* are in the crate's folder below `wrong-bodies/`, and `scripts/check-wrong-bodies` tries them, many at once.
-""",
-        ("wrong body", "what it does", "refused by", "at the contract of"),
-        "",
-    ),
-    "headline": (
-        "### Bodies that break the headline",
-        """
-An edit of mw_actor or mw_simulator changes the code against the definition that it cites, so a contract refuses it
-whatever [the theorem](THEOREM.md) says. If the definition has the mistake too, the proof of a law must fail. *Tried*: the
-check of that law was run on such a definition, and failed ([wrong programs](#wrong-programs) has what was planted).
-*By thought*: the statement of that law is false of such a definition, and nobody ran it. Laws have no edits, so `rt ci`
-doesn't check the third column.
-""",
-        ("wrong body", "in the code alone", "in code and definition", "by a test, in both"),
-        """
-The test `schedules_that_end_well` of mw_player_tests plays the schedules.
-""",
-    ),
-    "survivors": (
-        "## Bodies that no clause refuses",
-        """
-Wrong bodies that every proof lets through, as far as they were found and judged; there may be others. Each has the test
-that refuses it, or the word *nothing*. [What `rt plant` lets through](#what-rt-plant-lets-through) counts what was
-tried. Bodies that always answer out of memory, or never answer, are in the first table (always_memory, endless_serve).
-""",
-        ("function", "wrong body", "refused by"),
-        "",
-    ),
-    "programs": (
-        "## Wrong programs",
-        """
-These mistakes were planted in the definition, so that code and definition agree. *Tried*: this law's check was run and
-refused, because the law is false of the program. *By thought*: the law's statement is false of the program, but its check
-was not run. A schedule is a test that prints something else. The clauses are those of `Invariant.antt` and
-`Headline.antt` in `crates/mw_world/specs/Claim`.
-""",
-        ("mistake", "law", "false clause", "schedule"),
-        """
-Two are not wrong. BUSY after a round over the gates that claims none is never said while numbers are left. By hand, and not
-proved: for each k, at most pool - k admitted requests are at gate k or after it, and each step keeps that. A decision after
-a round that began before the last plant is right too: an open change's held word stays held until the decision.
-""",
-    ),
-    "planted": (
-        "## What `rt plant` lets through",
-        """
-Counts of single runs; some crates have changed since. Refused, and none survived: mw_words 71, mw_pool 28, mw_look 23,
-mw_actor 123, mw_plain 35, mw_core 11, mw_simulator 20, mw_lone 83, mw_line 40, mw_record 48, mw_report 3, mw_file 52.
-""",
-        ("crate", "refused", "survive", "which"),
-        """
-Laws, mw_init, mw_opening, mw_programs and mw_world_trials were not planted in. A body that always reports that memory is
-out is refused by tests only.
-""",
-    ),
-}
+SECOND = "## Wrong bodies"
 
 
 def quoted(names):
@@ -152,28 +89,17 @@ def file_part(crate, source, places, calls, tests):
     return f"\n### {source.path}\n\n" + "".join(lines) if lines else ""
 
 
-def refused(row):
-    """The cell of a named wrong body that says what refuses it."""
-    edits = by_place([it for it in bodies.edits_told(row) if bodies.where(it)], lambda edit: "{}/`{}`".format(*edit.split("/")))
-    told = bodies.tests_told(row)
-    tests = "; ".join(f"{crate}: test{'s' if len(names) > 1 else ''} {quoted(names)}" for crate, names in told)
-    besides = row.get("besides", "")
-    return "; ".join(part for part in (edits, tests) if part) + (f". {besides}" if besides else "")
-
-
-def cells(table, row, calls):
-    """The cells of one row of a table of wrong bodies."""
-    if table == "named":
-        at = dict.fromkeys(calls[edit].split(": ")[1] for edit in bodies.edits_told(row) if edit in calls)
-        return row["name"], row["does"], refused(row), quoted(at)
-    return tuple(row[key] for key in bodies.KEYS[table][0])
-
-
-def table_part(table, rows, calls):
-    """A table of wrong bodies, with its heading and its words."""
-    heading, before, columns, after = PARTS[table]
-    out = f"\n{heading}\n{before.format(count=len(rows))}\n| " + " | ".join(columns) + " |\n" + "|---" * len(columns) + "|\n"
-    return out + "".join("| " + " | ".join(cells(table, row, calls)) + " |\n" for row in rows) + after
+def told_line(line, calls):
+    """A line of the second part: a row of the first table says where its edits are, and at which calls they are refused."""
+    if not isinstance(line, bodies.Row):
+        return line
+    if not line.is_named or not line.is_whole:
+        return f"| {' | '.join(line.cells)} |"
+    edits = by_place([it for it in line.edits if bodies.where(it)], lambda edit: "{}/`{}`".format(*edit.split("/")))
+    tests = "; ".join(f"{crate}: test{'s' if len(names) > 1 else ''} {quoted(names)}" for crate, names in line.tests)
+    refused = "; ".join(part for part in (edits, tests) if part) + (f". {line.besides}" if line.besides else "")
+    at = dict.fromkeys(calls[edit].split(": ")[1] for edit in line.edits if edit in calls)
+    return f"| {line.cells[0]} | {line.cells[1]} | {refused} | {quoted(at)} |"
 
 
 def tests_there(crate):
@@ -187,13 +113,14 @@ def tests_there(crate):
 
 def register():
     """The text of the page, and what its parts kept by hand name though it isn't there."""
-    found = [Crate(name, uses) for name, uses in crates().items()]
-    tests, places, told = Tests(found), bodies.edits(found), bodies.tables()
-    calls = bodies.public_calls(told, places)
+    found = [Crate(name) for name in crates()]
+    tests, lines = Tests(found), list(bodies.lines_told())
+    rows, there = bodies.rows_of(lines), bodies.There(found)
+    calls = there.public_calls(rows)
     out = read(HEAD)
     for crate in found:
-        parts = [file_part(crate, s, places, calls, tests) for s in crate.sources if not crate.is_test(s)]
+        parts = [file_part(crate, s, there.edits, calls, tests) for s in crate.sources if not crate.is_test(s)]
         text = "".join(parts) + tests_there(crate)
         out += f"\n## {crate.name}\n" + text if text else ""
-    out += "".join(table_part(table, told[table], calls) for table in PARTS)
-    return out, bodies.faults(told, places, found)
+    second = "\n".join(told_line(line, calls) for line in lines[lines.index(SECOND):])
+    return f"{out}\n{second.replace('{count}', str(sum(row.is_named for row in rows)))}", bodies.faults(rows, there)

@@ -1,7 +1,8 @@
 """Reads the functions of the crates out of their sources: contracts, documents, bodies, and what they call.
 
-Used by: scripts/check-wrong-bodies, scripts/register, bodies.py, citing.py, page.py, edit_parts/edits.py, edit_parts/rounds.py. Its patterns
-are of the sources as `rt fmt` leaves them. After a change here run scripts/register.
+Used by: scripts/check-memory, scripts/check-names, scripts/check-wrong-bodies, scripts/register, bodies.py, citing.py, page.py,
+edit_parts/edits.py, edit_parts/rounds.py, name_parts/heads.py. Its patterns are of the sources as `rt fmt` leaves them. After a change here run
+scripts/register.
 """
 import functools
 import os
@@ -16,7 +17,9 @@ OPAQUE = re.compile(
 )
 FUNCTION = re.compile(r"^[ \t]*(pub(?:\([a-z]+\))? )?(?:const )?(?:unsafe )?(?:extern +)?fn (\w+)", re.M)
 OWNER = re.compile(r"^[ \t]*(pub(?:\([a-z]+\))? )?(?:unsafe )?(impl|trait)\b([^{;]*)\{", re.M)
-CLAUSE = re.compile(r"(requires|ensures)\b\s*(\w+)?\s*\{")
+BRACKET = re.compile(r"[{}]")
+# What tells where a contract has its clauses and its end.
+SIGN = re.compile(r"\b(requires|ensures)\b\s*(\w+)?\s*\{|[()\[\];{]")
 GHOST_USE = re.compile(r"^([ \t]*)ghost use Rattle\.([\w.]+?)(?:\.\{([^}]*)\}| as (\w+));", re.M)
 TEST_MODULE = re.compile(r"#\[cfg\(test\)\]\s*(?:pub )?mod (\w+);")
 EXPORT = re.compile(r"^pub use ([^;]*);", re.M)
@@ -28,15 +31,14 @@ CALL = re.compile(r"(?:(\.)|((?:\w+(?:::<[^()]*?>)?::)+))?\b(\w+)(?:::<[^()]*?>)
 @functools.cache
 def read(path):
     """The text of a file, named from the top of the repository."""
-    with open(os.path.join(TOP, path), encoding="utf-8") as file:
+    with open(os.path.join(TOP, path), encoding="utf-8", errors="replace") as file:
         return file.read()
 
 
 def crates():
-    """The crates in the order of crates.txt, each with the crates and libraries that it uses."""
-    lines = [line for line in read("crates.txt").split("\n") if ":" in line and not line.startswith("#")]
+    """The names of the crates, in the order of crates.txt."""
     # (a name may have more words behind it, as `staticlib`)
-    return {line.split()[0].rstrip(":"): line.split(":")[1].split() for line in lines}
+    return [line.split()[0].rstrip(":") for line in read("crates.txt").split("\n") if ":" in line and not line.startswith("#")]
 
 
 def files_below(folder, ending):
@@ -56,10 +58,10 @@ def masked(text):
 def block_end(code, start):
     """The place after the bracket that closes the one at `start`."""
     depth = 0
-    for at in range(start, len(code)):
-        depth += (code[at] == "{") - (code[at] == "}")
+    for bracket in BRACKET.finditer(code, start):
+        depth += 1 if bracket.group() == "{" else -1
         if depth == 0:
-            return at + 1
+            return bracket.end()
     return len(code)
 
 
@@ -119,21 +121,15 @@ class Function:
 def contract(code, at):
     """The clauses of a function, as (kind, name, start, end), and where its body is, if it has one."""
     clauses, depth = [], 0
-    while at < len(code):
-        sign = code[at]
-        depth += (sign in "([") - (sign in ")]")
-        if depth == 0:
-            clause = CLAUSE.match(code, at) if not code[at - 1].isalnum() and code[at - 1] != "_" else None
-            if clause:
-                end = block_end(code, clause.end() - 1)
-                clauses.append((clause.group(1), clause.group(2) or "", clause.end(), end - 1))
-                at = end
-                continue
-            if sign == ";":
-                return clauses, None
-            if sign == "{":
-                return clauses, (at, block_end(code, at))
-        at += 1
+    while sign := SIGN.search(code, at):
+        at, text = sign.end(), sign.group()
+        if text in ("(", "[", ")", "]"):
+            depth += 1 if text in "([" else -1
+        elif depth == 0 and sign.group(1):
+            at = block_end(code, sign.end() - 1)
+            clauses.append((sign.group(1), sign.group(2) or "", sign.end(), at - 1))
+        elif depth == 0 and text in (";", "{"):
+            return clauses, (sign.start(), block_end(code, sign.start())) if text == "{" else None
     return clauses, None
 
 
@@ -185,8 +181,8 @@ class Source:
 class Crate:
     """A crate with its sources, and which names it shows to others."""
 
-    def __init__(self, name, uses):
-        self.name, self.uses = name, uses
+    def __init__(self, name):
+        self.name = name
         self.sources = [Source(name, path) for path in files_below(f"crates/{name}/src", ".rt")]
         self.exported = {word for s in self.sources for use in EXPORT.findall(s.code) for word in re.findall(r"\w+", use)}
         self.open_modules = {module for s in self.sources for module in OPEN_MODULE.findall(s.code)} | {"lib"}

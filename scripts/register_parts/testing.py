@@ -20,12 +20,10 @@ class Tests:
             by_name.setdefault(function.name, []).append(function)
         for test in functions:
             if test.is_test:
-                reached, last = [test], 0
-                while last < len(reached):
-                    helpers = helped(reached[last], by_name)
-                    reached += [helper for helper in helpers if helper not in reached]
-                    last += 1
+                reached = [test]
+                # (the list grows meanwhile)
                 for function in reached:
+                    reached += [helper for helper in helped(function, by_name) if helper not in reached]
                     for call in function.calls:
                         found = (function is not test, test.name, function.source, call)
                         self.calls.setdefault(call[2], []).append(found)

@@ -5,20 +5,18 @@ the moment at which it was asked for and that at which it had come.
 
 Used by: scripts/check-backup.
 """
-import itertools
 import random
 import subprocess
 import threading
 import time
 from dataclasses import dataclass
 from pathlib import Path
-from typing import Dict, Iterable, List, Sequence, Tuple
+from typing import Dict, Iterable, List, NamedTuple, Sequence, Tuple
 
 from http_parts import server as pages
 
 from .checker import judge
-from .crowd import Crowd, View, undecided_until
-from .found import Found
+from .crowd import Crowd, Found, undecided_until, views_of
 from .history import Answer, Entry, Epoch, Reply, Request
 from .server import Plan, Programs, Server, Tenant, Wrong, make_files
 
@@ -31,6 +29,7 @@ A_LIFE = 50
 """How many backups are taken in one life of the server, at most."""
 MOST_CALLS = 40
 """More calls than an opening and a copy make on a file."""
+Words = Tuple[int, ...]
 
 
 class PagedServer(Server):
@@ -51,14 +50,27 @@ class PagedServer(Server):
         """What is answered to whoever asks for a tenant's file."""
         return pages.get(self.pages, f"/tenants/{tenant.name}/file")
 
+    def words_of(self, tenants: Iterable[Tenant]) -> Dict[Tenant, Words]:
+        """All words of tenants that are up, once it listens."""
+        self.wait_until_ready()
+        found = {tenant: self.words(tenant) for tenant in tenants}
+        for tenant, words in found.items():
+            if words is None:
+                raise Wrong(f"tenant {tenant.name} did not open")
+        return found
 
-@dataclass
-class Backup:
+
+class Backup(NamedTuple):
     """A tenant's file as it came, and when it was asked for and had come."""
     tenant: Tenant
     sent: int
     told: int
     file: bytes
+
+    def seen(self, session: int, words: Words) -> Request:
+        """As the checker judges it: a change that only compares all words, and was answered YES."""
+        entries = tuple(Entry(address, word, word) for address, word in enumerate(words))
+        return Request(session, self.sent, entries=entries, until=self.told, told=self.told, reply=Reply(Answer.YES))
 
 
 @dataclass
@@ -82,9 +94,8 @@ class Backups:
     def __init__(self, programs: Programs, mwshow: Path, folder: Path, dice: random.Random) -> None:
         self.programs, self.mwshow, self.folder, self.dice = programs, mwshow, folder, dice
         self.found = FoundInBackups()
-        values = itertools.count(1)
-        self.views = {tenant: View(tenant, values, [0] * tenant.words) for tenant in TENANTS}
-        self.last: Dict[Tenant, Tuple[bytes, Tuple[int, ...]]] = {}
+        self.views = views_of(TENANTS)
+        self.last: Dict[Tenant, Tuple[bytes, Words]] = {}
         make_files(programs, folder, TENANTS)
 
     def run(self, count: int) -> None:
@@ -98,35 +109,30 @@ class Backups:
         except (Wrong, pages.Wrong, OSError) as wrong:
             self.found.complaints.append(str(wrong))
 
+    def server(self, options: Sequence[str]) -> PagedServer:
+        """One life of a server over all files."""
+        return PagedServer(self.programs, self.folder, TENANTS, options, Plan({}))
+
+    def words_of(self, tenants: Iterable[Tenant]) -> Dict[Tenant, Words]:
+        """The words that a server tells which is started for that alone."""
+        with self.server(OPTIONS[0]) as server:
+            return server.words_of(tenants)
+
     def live(self, count: int) -> None:
         """One life, in which clients change words while so many backups are taken, and what is wrong with what was told."""
-        server = PagedServer(self.programs, self.folder, TENANTS, self.dice.choice(OPTIONS), Plan({}))
         backups: List[Backup] = []
-        try:
-            server.wait_until_ready()
-            epochs = {tenant: Epoch(tenant.name, words_at(server, tenant), [], quota=tenant.quota) for tenant in TENANTS}
-            for tenant, epoch in epochs.items():
-                self.views[tenant].words = list(epoch.first)
+        with self.server(self.dice.choice(OPTIONS)) as server:
+            first = server.words_of(TENANTS)
+            for tenant, words in first.items():
+                self.views[tenant].words = list(words)
             self.take(server, count, backups)
-        finally:
-            server.kill()
-        for view in self.views.values():
-            undecided_until(view.requests, server.died)
         last = self.words_of(TENANTS)
         self.found.lives += 1
-        for tenant, epoch in epochs.items():
-            epoch.last = last[tenant]
-            epoch.requests, self.views[tenant].requests = self.views[tenant].requests, []
+        for tenant, view in self.views.items():
+            undecided_until(view.requests, server.died)
+            epoch = Epoch(tenant.name, first[tenant], view.requests, last[tenant], tenant.quota)
+            view.requests = []
             self.look_at(epoch, [backup for backup in backups if backup.tenant is tenant])
-
-    def words_of(self, tenants: Iterable[Tenant]) -> Dict[Tenant, Tuple[int, ...]]:
-        """The words that a server tells which is started for that alone."""
-        server = PagedServer(self.programs, self.folder, TENANTS, OPTIONS[0], Plan({}))
-        try:
-            server.wait_until_ready()
-            return {tenant: words_at(server, tenant) for tenant in tenants}
-        finally:
-            server.kill()
 
     def take(self, server: PagedServer, count: int, backups: List[Backup]) -> None:
         """Takes so many backups by one client, one after the other, while the others change words."""
@@ -170,16 +176,16 @@ class Backups:
             self.found.backups += 1
             self.found.in_midst += words not in (epoch.first, epoch.last)
             self.last[backup.tenant] = backup.file, words
-            epoch.requests.append(seen(-number, backup, words))
+            epoch.requests.append(backup.seen(-number, words))
         verdict = judge(epoch)
         self.found.made += verdict.made
         self.found.complaints += verdict.complaints
 
-    def opened(self, backup: Backup) -> Tuple[int, ...]:
+    def opened(self, backup: Backup) -> Words:
         """The words of a backup, as mwshow tells them; Wrong if it opens with damage."""
         path = self.folder / "backup.mw"
         path.write_bytes(backup.file)
-        told = subprocess.run([self.mwshow, "--words", path], stdout=subprocess.PIPE, stderr=subprocess.PIPE, text=True)
+        told = subprocess.run([self.mwshow, "--words", path], capture_output=True, text=True)
         lines = [line.split() for line in told.stdout.splitlines()]
         words = tuple(int(line[2]) for line in lines if line[0] == "word")
         if told.returncode or told.stderr or len(words) != backup.tenant.words:
@@ -191,23 +197,8 @@ class Backups:
         for tenant, (file, _) in self.last.items():
             tenant.path(self.folder).write_bytes(file)
         found = self.words_of(self.last)
-        for tenant, (_, words) in self.last.items():
-            if found[tenant] != words:
-                self.found.complaints.append(f"tenant {tenant.name}: a restored backup has other words than mwshow told")
-
-
-def words_at(server: Server, tenant: Tenant) -> Tuple[int, ...]:
-    """All words of a tenant that is up."""
-    words = server.words(tenant)
-    if words is None:
-        raise Wrong(f"tenant {tenant.name} did not open")
-    return words
-
-
-def seen(session: int, backup: Backup, words: Tuple[int, ...]) -> Request:
-    """A backup as the checker judges it: a change that only compares all words, and was answered YES."""
-    entries = tuple(Entry(address, word, word) for address, word in enumerate(words))
-    return Request(session, backup.sent, entries=entries, until=backup.told, told=backup.told, reply=Reply(Answer.YES))
+        self.found.complaints += [f"tenant {tenant.name}: a restored backup has other words than mwshow told"
+                                  for tenant, (_, words) in self.last.items() if found[tenant] != words]
 
 
 def failing_reads(programs: Programs, folder: Path) -> str:
@@ -215,8 +206,7 @@ def failing_reads(programs: Programs, folder: Path) -> str:
     tenant = TENANTS[0]
     make_files(programs, folder, [tenant])
     for number in range(MOST_CALLS):  # at 0 no call fails, and the file is made longer
-        server = PagedServer(programs, folder, [tenant], OPTIONS[0], Plan({tenant.name: number}))
-        try:
+        with PagedServer(programs, folder, [tenant], OPTIONS[0], Plan({tenant.name: number})) as server:
             server.wait_until_ready()
             if server.words(tenant) is None:
                 pages.same(server.copy(tenant).status, 503, "the file of a tenant that didn't open")
@@ -229,6 +219,4 @@ def failing_reads(programs: Programs, folder: Path) -> str:
             said = server.ask(f"TENANT {tenant.name}\nCAS 0:0:1\nQUIT\n").splitlines()
             pages.same(said[1], "YES", "a change after a copy that failed")
             return f"a read that fails in a copy, call {number} on the file: 500, and the tenant goes on; 503 of a file that didn't open"
-        finally:
-            server.kill()
     raise Wrong("no call on a file failed in a copy of it")

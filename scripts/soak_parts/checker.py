@@ -9,15 +9,15 @@ stay right.) Each made change follows, at each of its words, the change that wro
 seen was seen behind the change that wrote it and before the next one of its word. With the orders of time and of sessions
 these are all the conditions, so there is a serial order just where they have no circle.
 
-Used by: backups.py, lives.py, planted.py, planted_slots.py, power.py, searched.py, failover_parts/load.py. A further condition has a planted
-fault in planted.py, and a case in the search of searched.py.
+Used by: backups.py, lives.py, planted.py, power.py, searched.py, failover_parts/load.py. A further condition has a planted fault in
+planted.py, and a case in the search of searched.py.
 """
 import heapq
-from collections import deque
+from collections import Counter
 from dataclasses import dataclass, field
-from typing import Deque, Dict, Iterator, List, NamedTuple, Optional, Sequence, Set, Tuple
+from typing import Dict, List, NamedTuple, Optional, Sequence, Set, Tuple
 
-from .history import UNDECIDED, Answer, Entry, Epoch, Request
+from .history import UNDECIDED, Answer, Entry, Epoch, Request, begins_and_ends
 from .slots import wrongly_busy
 
 Place = Tuple[int, int]
@@ -66,10 +66,14 @@ class Judge:
     def run(self) -> Verdict:
         """The verdict."""
         self.look_at_single_replies()
-        self.look_at_busy()
+        for request in wrongly_busy(self.epoch.requests, self.epoch.quota):
+            self.complain(f"BUSY though fewer than {self.epoch.quota} slots can have been taken", request.text())
         nodes = self.nodes()
         self.verdict.made = sum(1 for node in nodes if node.writes)
-        self.look_at_faults(nodes)
+        # Of the changes that were answered FAULT one at most is in doubt, so one at most is found.
+        found = [node.text() for node in nodes if node.writes and node.request.reply.answer is Answer.FAULT]
+        if len(found) > 1:
+            self.complain("more than one change was found that was answered FAULT", *found)
         followers = self.followers(nodes)
         if not self.verdict.complaints:
             self.look_for_circle(nodes, followers)
@@ -87,37 +91,26 @@ class Judge:
             if answer is Answer.WORN:
                 self.complain("WORN long before numbers are used up", request.text())
 
-    def look_at_busy(self) -> None:
-        """BUSY needs as many slots that may have been taken as the tenant's quota."""
-        for request in wrongly_busy(self.epoch.requests, self.epoch.quota):
-            self.complain(f"BUSY though fewer than {self.epoch.quota} slots can have been taken", request.text())
-
     def nodes(self) -> List[Node]:
         """Every request that has a place in the order: replies that tell words, and the changes that were made."""
-        nodes, made = [], set()
-        waiting: Deque[Node] = deque(filter(None, map(self.told, self.epoch.requests)))
+        nodes: List[Node] = []
+        for request in self.epoch.requests:
+            answer, address, value = request.reply
+            if answer is Answer.YES:
+                nodes.append(changed(request))
+            elif value is not None:
+                nodes.append(Node(request, ((request.address if address is None else address, value),), ()))
         if self.epoch.last is not None:
-            waiting.append(Node(None, tuple(enumerate(self.epoch.last)), ()))
-        made.update(id(node.request) for node in waiting if node.writes)
-        while waiting:
-            node = waiting.popleft()
-            nodes.append(node)
+            nodes.append(Node(None, tuple(enumerate(self.epoch.last)), ()))
+        made = {id(node.request) for node in nodes if node.writes}
+        for node in nodes:  # it grows by the undecided changes that were found
             for place in node.sees:
                 writer = self.writer(place, node)
                 if writer is not None and id(writer) not in made:
                     made.add(id(writer))
                     self.verdict.found += 1
-                    waiting.append(changed(writer))
+                    nodes.append(changed(writer))
         return nodes
-
-    def told(self, request: Request) -> Optional[Node]:
-        """The node of a request whose reply tells that it has one."""
-        answer, address, value = request.reply
-        if answer is Answer.VAL:
-            return Node(request, ((request.address, value),), ())
-        if answer is Answer.NO:
-            return Node(request, ((address, value),), ())
-        return changed(request) if answer is Answer.YES else None
 
     def writer(self, place: Place, node: Node) -> Optional[Request]:
         """Which change wrote a value that was seen. None, of the first words; also where it's wrong, with a complaint."""
@@ -131,12 +124,6 @@ class Judge:
             self.complain(f"{value} of address {address} is from a change that was refused", node.text(), writer.text())
             return None
         return writer
-
-    def look_at_faults(self, nodes: Sequence[Node]) -> None:
-        """Of the changes that were answered FAULT one at most is in doubt, so one at most is found."""
-        found = [node.text() for node in nodes if node.writes and node.request.reply.answer is Answer.FAULT]
-        if len(found) > 1:
-            self.complain("more than one change was found that was answered FAULT", *found)
 
     def followers(self, nodes: Sequence[Node]) -> Dict[Place, int]:
         """Which made change took the place of each value: the index of its node."""
@@ -185,10 +172,8 @@ def add_sessions(graph: "Graph", nodes: Sequence[Node], requests: Sequence[Reque
 def add_times(graph: "Graph", nodes: Sequence[Node]) -> None:
     """What was over before another was sent comes first; the last words come behind all. One further node stands for each
     moment at which a request was over, so that there are no more conditions than requests."""
-    begins = [(node.request.sent, False, index) for index, node in enumerate(nodes) if node.request is not None]
-    ends = [(node.request.until, True, index) for index, node in enumerate(nodes) if node.request is not None]
     moment = None
-    for _, is_end, index in sorted(begins + ends):
+    for is_end, index in begins_and_ends([node.request for node in nodes]):
         if is_end:
             earlier, moment = moment, graph.node()
             graph.add(earlier, moment)
@@ -232,22 +217,15 @@ class Graph:
 
     def without_order(self) -> Set[int]:
         """The nodes that can't be put in order, one behind the other: all circles and what comes behind them."""
-        waits = [0] * len(self.after)
-        for follower in self.all_followers():
-            waits[follower] += 1
-        ready = [node for node, count in enumerate(waits) if count == 0]
-        placed = set(ready)
+        waits = Counter(follower for followers in self.after for follower in followers)
+        left = set(range(len(self.after)))
+        ready = [node for node in left if waits[node] == 0]
         while ready:
-            for follower in self.after[ready.pop()]:
-                waits[follower] -= 1
-                if waits[follower] == 0:
-                    ready.append(follower)
-                    placed.add(follower)
-        return set(range(len(self.after))) - placed
-
-    def all_followers(self) -> Iterator[int]:
-        """Each node as often as another comes before it."""
-        return (follower for followers in self.after for follower in followers)
+            node = ready.pop()
+            left.remove(node)
+            waits.subtract(self.after[node])
+            ready += {follower for follower in self.after[node] if waits[follower] == 0}
+        return left
 
     def way_back(self, start: int, among: Set[int]) -> List[int]:
         """The requests on a way from this one back to it that has the fewest of them."""

@@ -3,19 +3,19 @@
 One thread drives them all, so what it notes has one order and one clock. What a client is told is noted when it is read,
 and what it asks just before it is sent: no request is thought to have been shorter than it was.
 
-Used by: backups.py, lives.py, power.py. Each value is written once, as checker.py needs it. A reply that the protocol gains is one of `Answer`
-(history.py) and of `read_reply` here.
+Used by: backups.py, lives.py, planted.py, power.py. Each value is written once, as checker.py needs it.
 """
 import itertools
 import random
 import selectors
 import socket
 import time
-from collections import deque
+from collections import Counter, deque
 from dataclasses import dataclass, field
-from typing import Deque, List, Sequence, Tuple
+from typing import Counter as CounterOf
+from typing import Deque, Dict, List, Sequence, Tuple
 
-from .history import Answer, Entry, Reply, Request
+from .history import Answer, Entry, Request, reply_of
 from .server import HOST, PATIENCE, Server, Tenant, Wrong
 
 MOST_UNDER_WAY = 3
@@ -24,6 +24,24 @@ SHARE_OF_READS = 0.3
 SHARE_OF_WRITES = 0.7
 SHARE_OF_STALE = 0.08
 SHARE_OF_BREAKS = 0.002
+
+
+@dataclass
+class Found:
+    """The complaints of some lives of a server; how often its clients got each answer; how many lives it had, and how many changes it made
+    in them."""
+    complaints: List[str] = field(default_factory=list)
+    answers: CounterOf[Answer] = field(default_factory=Counter)
+    lives: int = 0
+    made: int = 0
+
+    def requests(self) -> int:
+        """How many requests there were."""
+        return sum(self.answers.values())
+
+    def told(self) -> str:
+        """How many of these got each answer."""
+        return ", ".join(f"{self.answers[answer]} {answer.value}" for answer in Answer)
 
 
 @dataclass
@@ -49,6 +67,12 @@ class View:
         return Entry(address, expected, next(self.values) if dice.random() < SHARE_OF_WRITES else expected)
 
 
+def views_of(tenants: Sequence[Tenant]) -> Dict[Tenant, View]:
+    """Views of tenants whose words are all 0."""
+    values = itertools.count(1)
+    return {tenant: View(tenant, values, [0] * tenant.words) for tenant in tenants}
+
+
 class Session:
     """One connection: the requests that were sent and not answered, in order, and the part of a line that has come."""
 
@@ -66,14 +90,10 @@ class Session:
 
     def send(self, dice: random.Random, count: int) -> None:
         """Asks for so many things at once."""
-        requests = []
-        for _ in range(count):
-            address, entries = self.view.job(dice)
-            requests.append(Request(self.number, 0, address, entries))
-        lines = "".join(request.line() + "\n" for request in requests).encode()
+        jobs = [self.view.job(dice) for _ in range(count)]
         now = time.monotonic_ns()
-        for request in requests:
-            request.sent = now
+        requests = [Request(self.number, now, *job) for job in jobs]
+        lines = "".join(request.line() + "\n" for request in requests).encode()
         self.view.requests += requests
         self.waiting += requests
         try:
@@ -106,19 +126,12 @@ class Session:
         if not self.waiting:
             raise Wrong(f"tenant {self.view.tenant.name}: {line!r} that nobody asked for")
         request = self.waiting.popleft()
-        request.reply = read_reply(line, request)
+        try:
+            request.reply = reply_of(line)
+        except ValueError:
+            raise Wrong(f"{request.line()}: answered {line!r}") from None
         request.told = request.until = now
         request.teach(self.view.words)
-
-
-def read_reply(line: str, request: Request) -> Reply:
-    """A reply of the protocol to a well-formed request; Wrong where it is none."""
-    word, *texts = line.split(" ")
-    numbers = [int(text) for text in texts if text.isascii() and text.isdigit()]
-    wanted = {"VAL": 1, "NO": 2}.get(word, 0)
-    if word not in Answer.__members__ or word == "NONE" or len(numbers) != wanted or len(texts) != wanted:
-        raise Wrong(f"{request.line()}: answered {line!r}")
-    return Reply(Answer(word), *([None] * (wanted == 1)), *numbers)
 
 
 class Crowd:
@@ -150,28 +163,31 @@ class Crowd:
         """Lets all of them ask for so long. Wrong where the server ends, or doesn't answer for too long."""
         end = time.monotonic() + seconds
         while time.monotonic() < end:
-            for key, _ in self.selector.select(0.01):
-                self.serve(key.data)
-            self.look_for_silence()
-            self.server.check_alive()
+            for session in self.heard():
+                self.go_on(session)
 
     def settle(self) -> None:
         """Lets nobody ask for more, until all are answered."""
         while any(session.waiting for session in self.sessions()):
-            for key, _ in self.selector.select(0.01):
-                self.receive(key.data)
-            self.look_for_silence()
-            self.server.check_alive()
+            self.heard()
 
-    def receive(self, session: Session) -> None:
-        """Reads what one client was told; Wrong where the server has closed the connection."""
-        if not session.receive():
-            self.server.check_alive()
-            raise Wrong(f"session {session.number}: closed by the server")
+    def heard(self) -> List[Session]:
+        """Reads what clients were told within a moment, and gives these. Wrong where the server has closed a connection or ended, or a
+        client was told nothing for too long."""
+        heard: List[Session] = [key.data for key, _ in self.selector.select(0.01)]
+        for session in heard:
+            if not session.receive():
+                self.server.check_alive()
+                raise Wrong(f"session {session.number}: closed by the server")
+        for session in self.sessions():
+            if time.monotonic() - session.heard > PATIENCE:
+                waiting = session.waiting[0].text() if session.waiting else "its greeting"
+                raise Wrong(f"no answer within {PATIENCE:.0f} seconds: {waiting}")
+        self.server.check_alive()
+        return heard
 
-    def serve(self, session: Session) -> None:
-        """Reads what one client was told, and lets it ask for more, or break off."""
-        self.receive(session)
+    def go_on(self, session: Session) -> None:
+        """Lets one client ask for more, or break off."""
         if self.dice.random() < SHARE_OF_BREAKS:
             self.leave(session)
             self.join(session.view)
@@ -179,13 +195,6 @@ class Crowd:
             session.send(self.dice, self.dice.randint(1, MOST_UNDER_WAY - len(session.waiting)))
         elif not session.waiting:
             session.send(self.dice, 1)
-
-    def look_for_silence(self) -> None:
-        """Wrong where a client was told nothing for too long."""
-        for session in self.sessions():
-            if time.monotonic() - session.heard > PATIENCE:
-                waiting = session.waiting[0].text() if session.waiting else "its greeting"
-                raise Wrong(f"no answer within {PATIENCE:.0f} seconds: {waiting}")
 
     def sessions(self) -> List[Session]:
         """All that are connected."""

@@ -3,12 +3,12 @@
 Times are nanoseconds of one clock (time.monotonic_ns). A value that is written is written once only, so that each value
 that is seen tells by which change it was written.
 
-Used by: many of this folder, failover_parts/load.py. A reply that the protocol gains is an `Answer` here, a case in `read_reply` (crowd.py),
-and one of checker.py.
+Used by: many of this folder, failover_parts/load.py. A reply that the protocol gains is an `Answer` and a case of `reply_of` here, and
+one of checker.py.
 """
 from dataclasses import dataclass
 from enum import Enum
-from typing import List, NamedTuple, Optional, Tuple
+from typing import List, NamedTuple, Optional, Sequence, Tuple
 
 
 class Answer(Enum):
@@ -32,6 +32,15 @@ class Reply(NamedTuple):
         """As the server says it."""
         numbers = (str(number) for number in (self.address, self.value) if number is not None)
         return " ".join([self.answer.value, *numbers])
+
+
+def reply_of(line: str) -> Reply:
+    """The reply that the server says in a line; ValueError where it is none."""
+    word, *texts = line.split(" ")
+    answer, wanted = Answer(word), {"VAL": 1, "NO": 2}.get(word, 0)
+    if len(texts) != wanted or not all(text.isascii() and text.isdigit() for text in texts):
+        raise ValueError(line)
+    return Reply(answer, *([None] * (wanted == 1)), *map(int, texts))
 
 
 class Entry(NamedTuple):
@@ -108,3 +117,10 @@ class Epoch:
     requests: List[Request]
     last: Optional[Tuple[int, ...]] = None
     quota: int = 1
+
+
+def begins_and_ends(requests: Sequence[Optional[Request]]) -> List[Tuple[bool, int]]:
+    """Each moment at which a request was sent or was over, in their order: whether it was over, and its index. None is passed over."""
+    moments = [(time, is_end, index) for index, request in enumerate(requests) if request is not None
+               for time, is_end in ((request.sent, False), (request.until, True))]
+    return [(is_end, index) for _, is_end, index in sorted(moments)]

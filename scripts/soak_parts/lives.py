@@ -4,16 +4,16 @@ SIGKILL and a power cut, of which the records tell what it may leave. All that w
 Used by: scripts/soak, whose head tells of the tenants and of CLIENTS. POOL (server.py) is MAX_POOL of
 crates/mw_words/src/limits.rt: how many changes a server has room for.
 """
-import itertools
 import random
 import time
-from dataclasses import dataclass
+from collections import Counter
+from dataclasses import dataclass, field
 from pathlib import Path
+from typing import Counter as CounterOf
 from typing import Dict, List, Optional, Set
 
 from .checker import judge, judge_faults
-from .crowd import Crowd, View, undecided_until
-from .found import Found
+from .crowd import Crowd, Found, undecided_until, views_of
 from .history import UNDECIDED, Answer, Epoch, Request
 from .layout import SET
 from .recording import FileLog, Kind, after_power_cut, calls_behind_a_failure
@@ -37,35 +37,24 @@ PATIENCE_WITH_SLOTS = 60.0
 
 @dataclass
 class FoundInLives(Found):
-    """What was tried, and the complaints."""
-    early_kills: int = 0
-    hold_ups: int = 0
-    narrow: int = 0
-    shared: int = 0
-    reports: int = 0
-    calls: int = 0
-    failing_calls: int = 0
-    cut_calls: int = 0
+    """What was tried, by the names of `lines`, and the complaints."""
+    counts: CounterOf[str] = field(default_factory=Counter)
     most_open: int = 0
-    undecided: int = 0
-    undecided_found: int = 0
-    judged: int = 0
-    crowded_changes: int = 0
-    crowded_syncs: int = 0
 
     def lines(self, seconds: float, cuts: bool) -> List[str]:
         """What to print."""
-        ends = f"a kill and a power cut ({self.cut_calls} writes were not synced)" if cuts else "a kill"
+        of = self.counts
+        ends = f"a kill and a power cut ({of['cut calls']} writes were not synced)" if cuts else "a kill"
         return [f"{seconds:.0f} seconds, {self.lives} lives of the server, each ended by {ends}",
-                f"{self.early_kills} killed at their start, {self.hold_ups} held up, {self.narrow} on one processor, "
-                f"{self.shared} with fewer workers than clients, {self.reports} with all slots free at rest",
+                f"{of['early kills']} killed at their start, {of['hold-ups']} held up, {of['narrow']} on one processor, "
+                f"{of['shared']} with fewer workers than clients, {of['reports']} with all slots free at rest",
                 f"{self.requests()} requests of {CLIENTS} clients on {len(TENANTS)} tenants: {self.told()}",
-                f"{self.calls} writes and syncs, {self.failing_calls} calls let fail; up to {self.most_open} changes of a tenant "
+                f"{of['calls']} writes and syncs, {of['failing calls']} calls let fail; up to {self.most_open} changes of a tenant "
                 "at once durable and not finished",
-                f"tenant {CROWDED.name}, {CROWDED.clients} clients: {self.crowded_syncs} syncs of its file, those of openings among "
-                f"them, for {self.crowded_changes} changes that were answered YES",
-                f"{self.judged} histories judged: {self.made} changes made, all found; of {self.undecided} more that had no "
-                f"reply, or were under way when a call failed, {self.undecided_found} found, wholly"]
+                f"tenant {CROWDED.name}, {CROWDED.clients} clients: {of['crowded syncs']} syncs of its file, those of openings among "
+                f"them, for {of['crowded changes']} changes that were answered YES",
+                f"{of['judged']} histories judged: {self.made} changes made, all found; of {of['undecided']} more that had no "
+                f"reply, or were under way when a call failed, {of['undecided found']} found, wholly"]
 
 
 class Lives:
@@ -75,26 +64,18 @@ class Lives:
     def __init__(self, programs: Programs, folder: Path, dice: random.Random, lie: bool = False) -> None:
         self.programs, self.folder, self.dice, self.lie = programs, folder, dice, lie
         self.found = FoundInLives()
-        values = itertools.count(1)
-        self.views = {tenant: View(tenant, values, [0] * tenant.words) for tenant in TENANTS}
+        self.views = views_of(TENANTS)
         self.epochs = {tenant: Epoch(tenant.name, (0,) * tenant.words, [], quota=tenant.quota) for tenant in TENANTS}
         self.down: List[Tenant] = []
         make_files(programs, folder, TENANTS)
 
-    def run(self, seconds: float) -> None:
-        """Life after life, and then one to look at the words. It ends at the first complaint."""
-        end = time.monotonic() + seconds
-        while time.monotonic() < end and not self.found.complaints:
-            self.live(min(self.dice.uniform(0.0, LONGEST_LIFE), max(end - time.monotonic(), 0.1)))
-        if not self.found.complaints:
-            self.live(None)
-
-    def run_kills(self, count: int) -> None:
-        """So many lives, each ended by a kill, whatever time they take; and then one to look at the words. It ends at the
-        first complaint."""
-        for _ in range(count):
-            if not self.found.complaints:
-                self.live(self.dice.uniform(0.0, LONGEST_LIFE))
+    def run(self, seconds: Optional[float], kills: Optional[int]) -> None:
+        """Life after life for so long, or so many of them, whatever time they take; and then one to look at the words. It ends at the first
+        complaint."""
+        end = time.monotonic() + (seconds or 0)
+        while not self.found.complaints and (time.monotonic() < end if kills is None else self.found.lives < kills):
+            longest = max(end - time.monotonic(), 0.1) if kills is None else LONGEST_LIFE
+            self.live(min(self.dice.uniform(0.0, LONGEST_LIFE), longest))
         if not self.found.complaints:
             self.live(None)
 
@@ -104,20 +85,17 @@ class Lives:
         plan.lie = self.lie
         durable = {tenant: tenant.path(self.folder).read_bytes() for tenant in TENANTS}
         workers = self.dice.choice(WORKERS)
-        server = Server(self.programs, self.folder, TENANTS, workers, plan)
-        self.found.shared += "--clients" in workers
+        is_early = seconds is not None and self.dice.random() < SHARE_OF_EARLY_KILLS
+        self.found.counts.update({"shared": int("--clients" in workers), "narrow": int(plan.narrow), "early kills": int(is_early)})
         self.down = []
-        self.found.narrow += plan.narrow
-        try:
-            if seconds is not None and self.dice.random() < SHARE_OF_EARLY_KILLS:
-                self.found.early_kills += 1
-                time.sleep(self.dice.uniform(0.0, 0.05))
-            else:
-                self.serve(server, seconds)
-        except (Wrong, OSError) as wrong:
-            self.found.complaints.append(str(wrong))
-        finally:
-            server.kill()
+        with Server(self.programs, self.folder, TENANTS, workers, plan) as server:
+            try:
+                if is_early:
+                    time.sleep(self.dice.uniform(0.0, 0.05))
+                else:
+                    self.serve(server, seconds)
+            except (Wrong, OSError) as wrong:
+                self.found.complaints.append(str(wrong))
         self.found.lives += 1
         self.look_back(server, durable)
 
@@ -132,7 +110,7 @@ class Lives:
         try:
             crowd.run(seconds)
             if self.dice.random() < SHARE_OF_HOLD_UPS:
-                self.found.hold_ups += 1
+                self.found.counts["hold-ups"] += 1
                 server.hold_up(0.2)
                 crowd.run(0.2)
             if self.dice.random() < SHARE_OF_REPORTS:
@@ -144,7 +122,7 @@ class Lives:
 
     def look_at_slots(self, server: Server) -> None:
         """Nobody asks any more: a tenant that is up has no change under way, and all other slots are free."""
-        self.found.reports += 1
+        self.found.counts["reports"] += 1
         end = time.monotonic() + PATIENCE_WITH_SLOTS
         while True:
             report = server.report(TENANTS)
@@ -167,9 +145,8 @@ class Lives:
         if verdict.complaints:
             self.keep(epoch)
         self.found.complaints += verdict.complaints
-        self.found.judged += 1
         self.found.made += verdict.made - verdict.found
-        self.found.undecided_found += verdict.found
+        self.found.counts.update({"judged": 1, "undecided found": verdict.found})
         self.epochs[tenant] = Epoch(tenant.name, words, [], quota=tenant.quota)
         self.views[tenant].words = list(words)
 
@@ -187,14 +164,15 @@ class Lives:
             log = logs.get(tenant.name, FileLog())
             requests, view.requests = view.requests, []
             self.found.answers.update(request.reply.answer for request in requests)
-            if tenant is CROWDED:
-                self.found.crowded_changes += sum(request.writes and request.reply.answer is Answer.YES for request in requests)
             if self.programs.recorder is not None:
                 self.found.complaints += judge_faults(tenant.name, requests, log.failed_at)
                 self.look_at_calls(tenant, log)
                 tenant.path(self.folder).write_bytes(after_power_cut(durable[tenant], log, self.dice))
             undecided_until(requests, server.died)
-            self.found.undecided += sum(1 for request in requests if may_be_found(request, log))
+            self.found.counts["undecided"] += sum(may_be_found(request, log) for request in requests)
+            if tenant is CROWDED:
+                self.found.counts["crowded changes"] += sum(it.writes and it.reply.answer is Answer.YES for it in requests)
+                self.found.counts["crowded syncs"] += sum(call.kind is Kind.SYNC for call in log.calls)
             self.epochs[tenant].requests += requests
 
     def look_at_calls(self, tenant: Tenant, log: FileLog) -> None:
@@ -203,11 +181,7 @@ class Lives:
             self.found.complaints.append(f"tenant {tenant.name}: did not open, though no call on its file has failed")
         if calls_behind_a_failure(log):
             self.found.complaints.append(f"tenant {tenant.name}: calls on its file after one that had failed")
-        self.found.calls += len(log.calls)
-        if tenant is CROWDED:
-            self.found.crowded_syncs += sum(call.kind is Kind.SYNC for call in log.calls)
-        self.found.failing_calls += log.failed_at is not None
-        self.found.cut_calls += unsynced(log)
+        self.found.counts.update({"calls": len(log.calls), "failing calls": int(log.failed_at is not None), "cut calls": unsynced(log)})
         self.found.most_open = max(self.found.most_open, most_open(log))
 
 

@@ -1,13 +1,17 @@
-"""Tries the checker: histories in which all is right, and such with a planted fault, each of which it has to refuse.
+"""Tries the checker: histories in which all is right, and such with a planted fault, each of which it has to refuse. Of those in which
+BUSY comes with a slot free it has to refuse some.
 
-Used by: scripts/soak --self-test. A condition that checker.py gains has a fault here.
+Used by: scripts/soak --self-test. A condition that checker.py gains has a fault here; slots.py has the rule of BUSY.
 """
 import heapq
+import itertools
 import random
-from typing import Dict, Iterator, List, NamedTuple, Optional, Tuple
+from typing import Dict, List, NamedTuple, Optional, Set, Tuple
 
 from .checker import judge, judge_faults
-from .history import NOTHING, Answer, Entry, Epoch, Reply, Request
+from .crowd import View
+from .history import NOTHING, Answer, Entry, Epoch, Reply, Request, reply_of
+from .server import Tenant
 
 MICROSECOND = 1000
 
@@ -28,8 +32,7 @@ BUSY_THOUGH = "BUSY though"
 CASES = (
     Case("nothing at all", (0, 0), "", (0, 0)),
     Case("a change and a read behind it", (0,), "1 0 5 CAS 0:0:1 = YES; 1 6 9 GET 0 = VAL 1", (1,)),
-    Case("reads on both sides of a change under way", (0,),
-         "1 0 9 CAS 0:0:1 = YES; 2 1 2 GET 0 = VAL 0; 3 3 4 GET 0 = VAL 1", (1,)),
+    Case("reads on both sides of a change under way", (0,), "1 0 9 CAS 0:0:1 = YES; 2 1 2 GET 0 = VAL 0; 3 3 4 GET 0 = VAL 1", (1,)),
     Case("an unanswered change that is found", (0, 0), "1 0 9 CAS 0:0:1 1:0:2 = -", (1, 2)),
     Case("an unanswered change that isn't found", (0, 0), "1 0 9 CAS 0:0:1 1:0:2 = -", (0, 0)),
     Case("an unanswered change that a later one continues", (0,), "1 0 9 CAS 0:0:1 = -; 2 3 4 CAS 0:1:2 = YES", (2,)),
@@ -56,8 +59,7 @@ CASES = (
     Case("a torn change that two reads see", (0, 0),
          "1 0 9 CAS 0:0:1 1:0:2 = YES; 2 1 2 GET 1 = VAL 2; 2 3 4 GET 0 = VAL 0", (1, 2), NO_ORDER),
     Case("a stale VAL", (0,), "1 0 5 CAS 0:0:1 = YES; 2 6 7 GET 0 = VAL 0", (1,), NO_ORDER),
-    Case("a stale VAL between two reads", (0,),
-         "1 0 9 CAS 0:0:1 = YES; 2 1 2 GET 0 = VAL 1; 2 3 4 GET 0 = VAL 0", (1,), NO_ORDER),
+    Case("a stale VAL between two reads", (0,), "1 0 9 CAS 0:0:1 = YES; 2 1 2 GET 0 = VAL 1; 2 3 4 GET 0 = VAL 0", (1,), NO_ORDER),
     Case("a VAL of nobody's value", (0,), "1 0 5 GET 0 = VAL 7", (0,), "nobody wrote 7"),
     Case("a VAL of a change to come", (0,), "1 0 2 GET 0 = VAL 1; 2 3 5 CAS 0:0:1 = YES", (1,), NO_ORDER),
     Case("a NO with a value that the word has no more", (0,),
@@ -68,14 +70,12 @@ CASES = (
     Case("a YES that could not be", (0, 0), "1 0 2 CAS 0:0:1 = YES; 2 3 4 CAS 1:0:3 0:0:0 = YES", (1, 3), NO_ORDER),
     Case("words of two moments compared", (0, 0),
          "1 0 9 CAS 0:0:1 = YES; 1 10 20 CAS 1:0:2 = YES; 2 0 30 CAS 0:0:0 1:2:2 = YES", (1, 2), NO_ORDER),
-    Case("two changes each before the other", (0, 0),
-         "1 0 9 CAS 0:0:1 1:4:4 = YES; 2 0 9 CAS 1:0:4 0:1:1 = YES", (1, 4), NO_ORDER),
+    Case("two changes each before the other", (0, 0), "1 0 9 CAS 0:0:1 1:4:4 = YES; 2 0 9 CAS 1:0:4 0:1:1 = YES", (1, 4), NO_ORDER),
     Case("two changes from one value", (0,), "1 0 9 CAS 0:0:1 = YES; 2 0 9 CAS 0:0:2 = YES", (2,), "two changes were made"),
     Case("two that were answered FAULT and are found", (0, 0),
          "1 0 9 CAS 0:0:1 = FAULT; 2 0 9 CAS 1:0:2 = FAULT", (1, 2), "more than one"),
     Case("a session out of order", (0,), "1 0 9 GET 0 = VAL 1; 1 0 9 CAS 0:0:1 = YES", (1,), NO_ORDER),
-    Case("an unanswered change that comes when its server has ended", (0,),
-         "1 0 5 CAS 0:0:1 = -; 2 6 7 GET 0 = VAL 0", (1,), NO_ORDER),
+    Case("an unanswered change that comes when its server has ended", (0,), "1 0 5 CAS 0:0:1 = -; 2 6 7 GET 0 = VAL 0", (1,), NO_ORDER),
     Case("busy alone", (0,), "1 0 2 CAS 0:0:1 = YES; 2 3 4 CAS 0:1:5 = BUSY", (1,), BUSY_THOUGH),
     Case("busy beside one other, where two may be under way", (0,),
          "1 0 9 CAS 0:0:1 = YES; 2 1 2 CAS 0:0:5 = BUSY", (1,), BUSY_THOUGH, quota=2),
@@ -100,47 +100,74 @@ FAULT_CASES = (
     Case("a NO behind a FAULT", (), "1 0 5 CAS 0:0:1 = FAULT; 2 6 7 CAS 0:4:2 = NO 0 0", None, "behind a FAULT"),
 )
 FAILED_AT = 3
-
-
-def read_reply(text: str) -> Reply:
-    """A reply as the server says it; `-` is none."""
-    if text == "-":
-        return NOTHING
-    answer, *numbers = text.split()
-    if answer == "VAL":
-        return Reply(Answer.VAL, None, int(numbers[0]))
-    return Reply(Answer(answer), *map(int, numbers))
-
-
-def read_request(line: str) -> Request:
-    """A line of a case."""
-    asked, _, told = line.partition(" = ")
-    session, sent, until, command, *rest = asked.split()
-    reply = read_reply(told.strip())
-    request = Request(int(session), MICROSECOND * int(sent), until=MICROSECOND * int(until), reply=reply)
-    request.told = None if reply == NOTHING else request.until
-    if command == "GET":
-        request.address = int(rest[0])
-    else:
-        request.entries = tuple(Entry(*map(int, entry.split(":"))) for entry in rest)
-    return request
+FIRST = (1, 2, 3, 4)
+SESSIONS, REQUESTS = 8, 200
+MOST_QUOTA = 4
+SHARE_OF_PINS = 0.7
+SHARE_OF_LOST = 0.05
+TRICKS, BUSY_EARLY = ("a lost YES", "a torn change", "a stale VAL"), "BUSY with a slot free"
+SERVE, PIN, LEAVE, READ = range(4)
+"""What comes of a request: it is served, pins others' slots, lets go of all, and its client reads the reply."""
 
 
 def read_requests(lines: str) -> List[Request]:
-    """All lines of a case."""
-    return [read_request(line) for line in lines.split("; ") if line]
+    """All requests of a case."""
+    requests = []
+    for line in filter(None, lines.split("; ")):
+        asked, _, told = line.partition(" = ")
+        session, sent, until, command, *rest = asked.split()
+        request = Request(int(session), MICROSECOND * int(sent), until=MICROSECOND * int(until))
+        if told != "-":
+            request.reply, request.told = reply_of(told), request.until
+        if command == "GET":
+            request.address = int(rest[0])
+        else:
+            request.entries = tuple(Entry(*map(int, entry.split(":"))) for entry in rest)
+        requests.append(request)
+    return requests
 
 
 class Store:
-    """Words in memory, changed one request after the other: what a server should be. One `trick` at most goes wrong, and
-    the requests that show it are `wronged`."""
+    """Words in memory, and slots for changes: what a server should be. It serves one request after the other. One `trick` at most goes
+    wrong, and the requests that show it are `wronged`; with BUSY_EARLY one slot is never used."""
 
-    def __init__(self, first: Tuple[int, ...], trick: str, after: int) -> None:
-        self.words = list(first)
+    def __init__(self, dice: random.Random, trick: str) -> None:
+        self.dice, self.trick, self.after = dice, trick, REQUESTS * 5 // 2
+        self.view = View(Tenant("t", len(FIRST), 1, 1), itertools.count(100), list(FIRST))
+        self.words = self.view.words
+        self.quota = dice.randint(2, MOST_QUOTA)
+        self.requests: List[Request] = []
         self.replaced: Dict[int, Tuple[int, Request]] = {}
-        self.trick = trick
-        self.after = after
+        self.slots: Dict[int, Set[int]] = {}
         self.wronged: List[Request] = []
+
+    def ask(self, session: int, time: int) -> List[Tuple[int, int, int]]:
+        """A session asks for something: what comes of it, and when."""
+        long = self.dice.choice((10, 40, 200))
+        times = [time + gap for gap in sorted(self.dice.randint(1, long) for _ in range(4))]
+        self.requests.append(Request(session, time, *self.view.job(self.dice), until=times[READ]))
+        whats = (SERVE, PIN, LEAVE, READ) if self.dice.random() < SHARE_OF_PINS else (SERVE, LEAVE, READ)
+        return [(times[what], len(self.requests) - 1, what) for what in whats]
+
+    def go_on(self, now: int, number: int, what: int) -> None:
+        """What comes of a request next. The slot of a change is taken by the number of the change, until nobody has a pin on it."""
+        request = self.requests[number]
+        if what == SERVE:
+            if request.is_change and len(self.slots) >= self.quota - (self.trick == BUSY_EARLY):
+                request.reply = Reply(Answer.BUSY)
+                return
+            request.reply = self.reply(request, now)
+            if request.is_change:
+                self.slots[number] = {number}
+        elif what == PIN:
+            others = [other for other in self.slots if other != number]
+            most = 0 if request.reply.answer is Answer.BUSY else 2 if request.is_change else 1
+            for other in self.dice.sample(others, min(most, len(others))):
+                self.slots[other].add(number)
+        elif what == LEAVE:
+            self.slots = {owner: pins - {number} for owner, pins in self.slots.items() if pins - {number}}
+        else:
+            request.told = now
 
     def plays(self, trick: str, now: int, *requests: Request) -> bool:
         """Whether this is the moment of the trick, with these requests."""
@@ -149,118 +176,72 @@ class Store:
         return plays
 
     def reply(self, request: Request, now: int) -> Reply:
-        """Serves the request."""
+        """Serves the request. In a trick a read is told the value that was replaced by a change that was over before, or a change, or a
+        part of it, isn't made."""
         if not request.is_change:
-            return Reply(Answer.VAL, None, self.value(request, now))
+            value, change = self.replaced.get(request.address, (0, None))
+            is_stale = change and change.until < request.sent and self.plays("a stale VAL", now, request, change)
+            return Reply(Answer.VAL, None, value if is_stale else self.words[request.address])
         for address, expected, _ in request.entries:
             if self.words[address] != expected:
                 return Reply(Answer.NO, address, self.words[address])
-        self.write(request, now)
-        return Reply(Answer.YES)
-
-    def value(self, request: Request, now: int) -> int:
-        """What a read is told: in the trick the value that was replaced by a change that was over before."""
-        if request.address in self.replaced:
-            value, change = self.replaced[request.address]
-            if change.until < request.sent and self.plays("a stale VAL", now, request, change):
-                return value
-        return self.words[request.address]
-
-    def write(self, request: Request, now: int) -> None:
-        """Makes a change, or a part of it."""
         entries = [entry for entry in request.entries if entry.writes]
         if entries and self.plays("a lost YES", now, request):
-            return
+            entries = []
         if len(entries) > 1 and self.plays("a torn change", now, request):
             entries = entries[1:]
         for address, expected, new in entries:
             self.replaced[address] = expected, request
             self.words[address] = new
+        return Reply(Answer.YES)
 
 
-TRICKS = ("a lost YES", "a torn change", "a stale VAL")
-
-
-def random_job(dice: random.Random, words: List[int], values: Iterator[int]) -> Tuple[int, Tuple[Entry, ...]]:
-    """An address to read, or the entries of a change; half of these write several words."""
-    if dice.random() < 0.3:
-        return dice.randrange(len(words)), ()
-    chosen = sorted(dice.sample(range(len(words)), dice.randint(1, len(words))))
-    entries = tuple(Entry(a, words[a], next(values) if dice.random() < 0.7 else words[a]) for a in chosen)
-    return 0, entries
-
-
-def simulated(seed: int, trick: str, count: int) -> Tuple[Epoch, bool]:
-    """A history of many sessions at a store that plays a trick, and whether it came to that. Some replies are lost."""
+def simulated(seed: int, trick: str) -> Tuple[Epoch, bool]:
+    """A history of many sessions at a store that plays a trick, and whether it came to that. Some replies are lost, but none of those
+    that show the trick; with BUSY_EARLY, which such a loss may explain, none."""
     dice = random.Random(seed)
-    first = (1, 2, 3, 4)
-    store = Store(first, trick, count * 5 // 2)
-    values = iter(range(100, 100 + 10 * count))
-    requests: List[Request] = []
-    events: List[Tuple[int, int, Optional[Request]]] = [(dice.randrange(50), session, None) for session in range(8)]
+    store = Store(dice, trick)
+    events = [event for session in range(SESSIONS) for event in store.ask(session, dice.randrange(50))]
     heapq.heapify(events)
-    while len(requests) < count:
-        now, session, request = heapq.heappop(events)
-        if request is None:
-            address, entries = random_job(dice, store.words, values)
-            request = Request(session, now, address, entries)
-            requests.append(request)
-            heapq.heappush(events, (now + dice.randint(1, 60), session, request))
-            continue
-        request.told = request.until = now + dice.randint(1, 60)
-        request.reply = store.reply(request, now)
-        heapq.heappush(events, (request.until + dice.randint(1, 20), session, None))
-    lose_replies(dice, requests, store.wronged)
-    return Epoch("t", first, requests, tuple(store.words)), bool(store.wronged)
-
-
-def lose_replies(dice: random.Random, requests: List[Request], kept: List[Request]) -> None:
-    """Takes away some replies, but not those of the ones to be kept. Who has none yet gets none."""
-    end = max(max(request.sent, request.until) for request in requests) + 100
-    for request in requests:
-        if request.told is None or (dice.random() < 0.05 and request not in kept):
-            request.reply, request.told, request.until = NOTHING, None, end
+    while events:
+        now, number, what = heapq.heappop(events)
+        store.go_on(now, number, what)
+        if what == READ and len(store.requests) < REQUESTS:
+            for event in store.ask(store.requests[number].session, now + dice.randint(1, 20)):
+                heapq.heappush(events, event)
+    for request in store.requests:
+        if trick != BUSY_EARLY and dice.random() < SHARE_OF_LOST and request not in store.wronged:
+            request.reply, request.told, request.until = NOTHING, None, now + 100
+    return Epoch("t", FIRST, store.requests, tuple(store.words), store.quota), bool(store.wronged)
 
 
 def refuse(complaints: List[str], case_name: str, fault: Optional[str]) -> List[str]:
     """What the checker did wrong with a case: nothing where it complained just as it should."""
     if fault is None:
         return [f"{case_name}: refused: {complaints[0]}"] if complaints else []
-    if not any(fault in complaint for complaint in complaints):
-        return [f"{case_name}: not refused by '{fault}': {complaints}"]
-    return []
+    return [] if any(fault in complaint for complaint in complaints) else [f"{case_name}: not refused by '{fault}': {complaints}"]
 
 
-def try_cases() -> List[str]:
-    """The cases by hand."""
-    wrong = []
+def try_checker(count: int) -> Tuple[List[str], str]:
+    """The cases by hand, and random histories: good ones, and those of stores that play a trick. What went wrong, and a line on what was
+    tried."""
+    wrong, played, early = [], 0, 0
     for case in CASES:
         epoch = Epoch("t", case.first, read_requests(case.lines), case.last, case.quota)
         wrong += refuse(judge(epoch).complaints, case.name, case.fault)
     for case in FAULT_CASES:
-        failed_at = FAILED_AT * MICROSECOND
-        wrong += refuse(judge_faults("t", read_requests(case.lines), failed_at), case.name, case.fault)
-    return wrong
-
-
-def try_simulated(count: int) -> Tuple[List[str], int]:
-    """Random histories: good ones, and those of stores that play a trick. What went wrong, and how many tricks were played."""
-    wrong, played = [], 0
+        wrong += refuse(judge_faults("t", read_requests(case.lines), FAILED_AT * MICROSECOND), case.name, case.fault)
     for seed in range(count):
-        epoch, _ = simulated(seed, "", 200)
-        wrong += refuse(judge(epoch).complaints, f"random history {seed}", None)
+        wrong += refuse(judge(simulated(seed, "")[0]).complaints, f"random history {seed}", None)
+        early += any(BUSY_THOUGH in complaint for complaint in judge(simulated(seed, BUSY_EARLY)[0]).complaints)
         for trick in TRICKS:
-            epoch, is_played = simulated(seed, trick, 200)
+            epoch, is_played = simulated(seed, trick)
             played += is_played
             if is_played and not judge(epoch).complaints:
                 wrong.append(f"random history {seed} with {trick}: accepted")
-    return wrong, played
-
-
-def try_checker(count: int) -> Tuple[List[str], str]:
-    """All of it: what went wrong, and a line on what was tried."""
-    wrong = try_cases()
-    more, played = try_simulated(count)
-    good = sum(1 for case in CASES + FAULT_CASES if case.fault is None)
-    return wrong + more, (f"checker: {good} histories by hand accepted, {len(CASES) + len(FAULT_CASES) - good} with a planted "
-                          f"fault refused; {count} random ones accepted, {played} with a planted fault refused")
+    if early == 0:
+        wrong.append(f"random histories: none of {count} refused in which BUSY comes with a slot free")
+    good = sum(case.fault is None for case in CASES + FAULT_CASES)
+    return wrong, (f"checker: {good} histories by hand accepted, {len(CASES) + len(FAULT_CASES) - good} with a planted fault refused; "
+                   f"{count} random ones accepted, {played} with a planted fault refused, and {early} of {count} in which BUSY comes "
+                   "with a slot free")

@@ -1,19 +1,21 @@
 """The power goes: runs of the server are recorded, and what a cut between their calls may leave is opened and compared.
 
-Used by: scripts/soak, planted_writers.py, failover_parts/cuts.py. SLOTS is the most tenants of a server, `MAX_TENANTS` of crates/mw_words/src/limits.rt.
+Used by: scripts/soak, planted_writers.py, failover_parts/cuts.py. SLOTS is the most tenants of a server, `MAX_TENANTS` of
+crates/mw_words/src/limits.rt.
 """
 import itertools
 import random
+import shutil
 from dataclasses import dataclass, field, replace
 from pathlib import Path
 from typing import Dict, List, NamedTuple, Optional, Sequence, Tuple, Union
 
 from .checker import Verdict, judge
-from .crowd import Crowd, View, undecided_until
+from .crowd import Crowd, undecided_until, views_of
 from .history import NOTHING, UNDECIDED, Epoch, Request
 from .layout import read_file
 from .recording import Disk, FileLog, cuts, image, plain_images, random_image
-from .server import Plan, Programs, Server, Tenant, Wrong, make_files
+from .server import Plan, Programs, Server, Tenant, Wrong, make_files, write_tenants
 
 RECORDED = (Tenant("alone", 2, 1, 1, clients=1), Tenant("pair", 3, 2, 2, clients=2), Tenant("four", 8, 4, 8, clients=4),
             Tenant("crowded", 24, 16, 16, clients=16, most_entries=2))
@@ -71,15 +73,12 @@ class Opened:
 
 def told_until(first: Tuple[int, ...], requests: Sequence[Request], cut: int) -> Told:
     """The story of a tenant as it is known at a moment: what is told later isn't, and what is sent later isn't there."""
-    until = []
-    for request in requests:
-        if request.sent < cut:
-            is_told = request.told is not None and request.told <= cut
-            reply = request.reply if is_told else NOTHING
-            undecided = reply.answer in UNDECIDED
-            until.append(replace(request, reply=reply, told=request.told if is_told else None,
-                                 until=cut if undecided else request.until))
-    return Told(first, until, cut)
+    known = []
+    for request in (one for one in requests if one.sent < cut):
+        if request.told is None or request.told > cut:
+            request = replace(request, reply=NOTHING, told=None)
+        known.append(replace(request, until=cut) if request.reply.answer in UNDECIDED else request)
+    return Told(first, known, cut)
 
 
 @dataclass
@@ -156,24 +155,19 @@ class Power:
         durable = {tenant: tenant.path(folder).read_bytes() for tenant in RECORDED}
         failing = [tenant.name for tenant in RECORDED if self.dice.random() < SHARE_OF_FAILURES]
         plan = Plan({name: self.dice.randint(3, 60) for name in failing}, lie=self.lie)
-        values = itertools.count(1)
-        views = [View(tenant, values, [0] * tenant.words) for tenant in RECORDED]
-        server = Server(self.programs, folder, RECORDED, WORKERS, plan)
-        try:
+        views = views_of(RECORDED)
+        with Server(self.programs, folder, RECORDED, WORKERS, plan) as server:
             server.wait_until_ready()
-            crowd = Crowd(server, views, self.dice)
+            crowd = Crowd(server, list(views.values()), self.dice)
             crowd.run(self.dice.uniform(SHORTEST_RECORDING, LONGEST_RECORDING))
-        finally:
-            server.kill()
         crowd.end()
         self.opened.recordings += 1
         logs = server.records()
         self.opened.failures += any(log.failed_at is not None for log in logs.values())
         moments = []
-        for view in views:
-            log = logs.get(view.tenant.name, FileLog())
+        for tenant, view in views.items():
             undecided_until(view.requests, server.died)
-            moments += moments_of(view.tenant, durable[view.tenant], log, view.requests)
+            moments += moments_of(tenant, durable[tenant], logs.get(tenant.name, FileLog()), view.requests)
         return moments
 
     def open_all(self, images: List[Image], most: int) -> None:
@@ -189,42 +183,36 @@ class Power:
         slots = [replace(one.tenant, name=f"slot{k}") for k, one in enumerate(images)]
         for slot, one in zip(slots, images):
             slot.path(folder).write_bytes(one.data)
-        (folder / "tenants").write_text("".join(f"{s.name} {s.words} {s.quota} {s.name}.mw\n" for s in slots))
-        server = Server(self.programs, folder, slots, ["--workers", "4"], Plan({}))
-        try:
+        write_tenants(folder, slots)
+        with Server(self.programs, folder, slots, ["--workers", "4"], Plan({})) as server:
             server.wait_until_ready()
             found = [server.words(slot) for slot in slots]
-        finally:
-            server.kill()
         logs = server.records()
         again = []
         for slot, one, words in zip(slots, images, found):
             self.compare(one, words, server)
             again += self.cut_opening(one, logs.get(slot.name, FileLog()), words)
         if not self.opened.complaints:
-            for path in folder.iterdir():
-                path.unlink()
-            folder.rmdir()
+            shutil.rmtree(folder)
         return again
 
     def compare(self, one: Image, words: Optional[Tuple[int, ...]], server: Server) -> None:
         """Looks at the words that a server found."""
         self.opened.images += 1
-        name = one.tenant.name
+        name, told, image_bytes = one.tenant.name, self.opened.complaints, one.data.hex()
         wanted = read_file(one.data).words
         if words is None:
-            self.opened.complaints.append(f"tenant {name}: an image that did not open: {one.data.hex()}; {server.notes()}")
+            told.append(f"tenant {name}: an image that did not open: {image_bytes}; {server.notes()}")
         elif words != wanted:
-            self.opened.complaints.append(f"tenant {name}: words {words} in place of {wanted}: {one.data.hex()}")
-        elif not isinstance(one.known, Told):
-            if words != one.known:
-                self.opened.complaints.append(f"tenant {name}: {words} behind a cut in an opening that found {one.known}: "
-                                              f"{one.data.hex()}")
-            self.opened.openings_cut += 1
-        else:
+            told.append(f"tenant {name}: words {words} in place of {wanted}: {image_bytes}")
+        elif isinstance(one.known, Told):
             verdict = one.known.verdict(one.tenant, words)
             self.opened.undecided_found += verdict.found > 0
-            self.opened.complaints += [f"{text}\n    found {words}: {one.data.hex()}" for text in verdict.complaints]
+            told += [f"{text}\n    found {words}: {image_bytes}" for text in verdict.complaints]
+        else:
+            self.opened.openings_cut += 1
+            if words != one.known:
+                told.append(f"tenant {name}: {words} behind a cut in an opening that found {one.known}: {image_bytes}")
 
     def cut_opening(self, one: Image, log: FileLog, words: Optional[Tuple[int, ...]]) -> List[Image]:
         """One image of a cut in this opening, where it wrote."""
@@ -233,5 +221,5 @@ class Power:
         self.opened.unfinished += 1
         if words is None or not isinstance(one.known, Told):
             return []
-        disks = [disk for _, disk in cuts(one.data, log)]
-        return [Image(one.tenant, image(self.dice.choice(disks), self.dice), words)]
+        _, disk = self.dice.choice(list(cuts(one.data, log)))
+        return [Image(one.tenant, image(disk, self.dice), words)]

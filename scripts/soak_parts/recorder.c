@@ -110,6 +110,8 @@ static void record(const char *what, struct tenant_file *file, off_t offset, con
     pthread_mutex_unlock(&line_lock);
 }
 
+static void note(const char *what, struct tenant_file *file) { record(what, file, 0, NULL, 0); }
+
 /* Whether this call is the one that is to fail. */
 static int is_to_fail(struct tenant_file *file) { return ++file->calls == file->fail_at; }
 
@@ -122,21 +124,16 @@ ssize_t pwrite64(int descriptor, const void *bytes, size_t count, off_t offset) 
     record("write", file, offset, bytes, count);
     if (is_to_fail(file)) {
         (void)!next_pwrite(descriptor, bytes, count / 2, offset);
-        record("fail", file, 0, NULL, 0);
         written = -1;
         error = EIO;
     } else {
         written = next_pwrite(descriptor, bytes, count, offset);
         error = errno;
-        record(written == (ssize_t)count ? "end" : "fail", file, 0, NULL, 0);
     }
+    note(written == (ssize_t)count ? "end" : "fail", file);
     pthread_mutex_unlock(&file->lock);
     errno = error;
     return written;
-}
-
-ssize_t pwrite(int descriptor, const void *bytes, size_t count, off_t offset) {
-    return pwrite64(descriptor, bytes, count, offset);
 }
 
 ssize_t pread64(int descriptor, void *bytes, size_t count, off_t offset) {
@@ -144,50 +141,42 @@ ssize_t pread64(int descriptor, void *bytes, size_t count, off_t offset) {
     int fails;
     if (!file) return next_pread(descriptor, bytes, count, offset);
     pthread_mutex_lock(&file->lock);
-    if (!file->was_read) record("open", file, 0, NULL, 0);
+    if (!file->was_read) note("open", file);
     file->was_read = 1;
     fails = is_to_fail(file);
-    if (fails) record("fail", file, 0, NULL, 0);
+    if (fails) note("fail", file);
     pthread_mutex_unlock(&file->lock);
     if (!fails) return next_pread(descriptor, bytes, count, offset);
     errno = EIO;
     return -1;
 }
 
-ssize_t pread(int descriptor, void *bytes, size_t count, off_t offset) {
-    return pread64(descriptor, bytes, count, offset);
-}
-
 int fdatasync(int descriptor) {
     struct tenant_file *file = file_of(descriptor);
-    int synced, error;
+    int fails;
     if (!file) return next_fdatasync(descriptor);
     if (lies && file->was_read) return 0;
     pthread_mutex_lock(&file->lock);
-    record("sync", file, 0, NULL, 0);
-    if (is_to_fail(file)) {
-        synced = -1;
-        error = EIO;
-    } else {
-        synced = error = 0;
-        usleep((unsigned)(rand_r(&file->dice) % (pause_up_to + 1)));
-    }
-    record(synced == 0 ? "end" : "fail", file, 0, NULL, 0);
+    note("sync", file);
+    fails = is_to_fail(file);
+    if (!fails) usleep((unsigned)(rand_r(&file->dice) % (pause_up_to + 1)));
+    note(fails ? "fail" : "end", file);
     pthread_mutex_unlock(&file->lock);
-    errno = error;
-    return synced;
+    errno = fails ? EIO : 0;
+    return fails ? -1 : 0;
 }
 
 int posix_fadvise64(int descriptor, off_t offset, off_t length, int advice) {
     struct tenant_file *file = file_of(descriptor);
     if (file && offset == 0 && length == 0 && advice == POSIX_FADV_DONTNEED) {
         pthread_mutex_lock(&file->lock);
-        record("drop", file, 0, NULL, 0);
+        note("drop", file);
         pthread_mutex_unlock(&file->lock);
     }
     return next_fadvise(descriptor, offset, length, advice);
 }
 
-int posix_fadvise(int descriptor, off_t offset, off_t length, int advice) {
-    return posix_fadvise64(descriptor, offset, length, advice);
-}
+/* The same calls by their other names. */
+ssize_t pwrite(int, const void *, size_t, off_t) __attribute__((alias("pwrite64")));
+ssize_t pread(int, void *, size_t, off_t) __attribute__((alias("pread64")));
+int posix_fadvise(int, off_t, off_t, int) __attribute__((alias("posix_fadvise64")));

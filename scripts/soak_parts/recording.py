@@ -58,14 +58,19 @@ class Disk:
     durable: bytes
     unsynced: List[Write] = field(default_factory=list)
 
+    def synced(self) -> bytes:
+        """What a sync would make durable."""
+        found = self.durable
+        for offset, data in self.unsynced:
+            found = put(found, offset, data)
+        return found
+
     def make(self, call: Call) -> None:
         """Goes on by a call."""
         if call.kind is Kind.WRITE:
             self.unsynced.append(Write(call.offset, call.data))
         elif call.kind is Kind.SYNC and call.went_well:
-            for write in self.unsynced:
-                self.durable = put(self.durable, write.offset, write.data)
-            self.unsynced = []
+            self.durable, self.unsynced = self.synced(), []
 
 
 def build_recorder(folder: Path) -> Optional[Path]:
@@ -94,12 +99,9 @@ def read_log(path: Path) -> Dict[str, FileLog]:
 
 def add_record(log: FileLog, what: str, time: int, rest: Sequence[str]) -> None:
     """One line of the records."""
-    if what == "write":
-        log.calls.append(Call(Kind.WRITE, time, int(rest[0]), bytes.fromhex(rest[1])))
-    elif what == "sync":
-        log.calls.append(Call(Kind.SYNC, time))
-    elif what == "drop":
-        log.calls.append(Call(Kind.DROP, time, went_well=True))
+    if what in ("write", "sync", "drop"):
+        offset, data = (int(rest[0]), bytes.fromhex(rest[1])) if rest else (0, b"")
+        log.calls.append(Call(Kind(what), time, offset, data, True if what == "drop" else None))
     elif what == "open":
         log.opened = len(log.calls)
     elif what == "end":
@@ -119,26 +121,13 @@ def calls_behind_a_failure(log: FileLog) -> int:
     return len(log.calls) - 1 - failed[0] if failed else 0
 
 
-def torn_at(before: bytes, data: bytes, at: int) -> bytes:
-    """The first bytes of a write, and the old ones behind them."""
-    return data[:at] + before[at:]
-
-
 def torn_anyhow(dice: random.Random, before: bytes, data: bytes) -> bytes:
     """Some way in which a range that was being written may be left."""
     at = dice.randint(0, len(data))
-    way = dice.randrange(7)
-    if way < 2:
-        return before if way else data
-    if way == 2:
-        return torn_at(before, data, at)
-    if way == 3:
-        return torn_at(data, before, at)
-    if way == 4:
-        return bytes(dice.choice(pair) for pair in zip(before, data))
-    if way == 5:
-        return dice.choice((b"\0", b"\xff", b"\xa5")) * len(data)
-    return bytes(dice.randrange(256) for _ in data)
+    ways = (lambda: data, lambda: before, lambda: data[:at] + before[at:], lambda: before[:at] + data[at:],
+            lambda: bytes(map(dice.choice, zip(before, data))), lambda: dice.choice((b"\0", b"\xff", b"\xa5")) * len(data),
+            lambda: bytes(dice.randrange(256) for _ in data))
+    return dice.choice(ways)()
 
 
 def image(disk: Disk, dice: random.Random, torn: Optional[int] = None, at: int = 0) -> bytes:
@@ -146,18 +135,14 @@ def image(disk: Disk, dice: random.Random, torn: Optional[int] = None, at: int =
     found = disk.durable
     for index, (offset, data) in enumerate(disk.unsynced):
         before = found[offset:offset + len(data)]
-        kept = torn_at(before, data, at) if index == torn else torn_anyhow(dice, before, data)
-        found = put(found, offset, kept)
+        found = put(found, offset, data[:at] + before[at:] if index == torn else torn_anyhow(dice, before, data))
     return found
 
 
 def plain_images(disk: Disk) -> Iterator[bytes]:
     """What is left where all that wasn't synced is lost, and where all of it is there."""
     yield disk.durable
-    found = disk.durable
-    for offset, data in disk.unsynced:
-        found = put(found, offset, data)
-    yield found
+    yield disk.synced()
 
 
 def after_power_cut(durable: bytes, log: FileLog, dice: random.Random) -> bytes:
@@ -196,8 +181,9 @@ def random_image(disk: Disk, dice: random.Random) -> bytes:
     count = sum(len(write.data) for write in disk.unsynced)
     if count == 0:
         return disk.durable
-    torn, at = 0, dice.randrange(count)
-    while at >= len(disk.unsynced[torn].data):
-        at -= len(disk.unsynced[torn].data)
-        torn += 1
+    at = dice.randrange(count)
+    for torn, write in enumerate(disk.unsynced):
+        if at < len(write.data):
+            break
+        at -= len(write.data)
     return image(disk, dice, torn, at) if at > 0 else image(disk, dice)

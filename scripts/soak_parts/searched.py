@@ -20,14 +20,13 @@ class Search:
     """All serial orders of an epoch, one after the other, by what is left to be placed and the words then."""
 
     def __init__(self, epoch: Epoch) -> None:
+        self.epoch = epoch
         self.requests = epoch.requests
-        self.last = epoch.last
-        self.first = epoch.first
         self.seen: Set[Tuple[int, Words]] = set()
 
     def is_right(self) -> bool:
         """Whether one of them is right."""
-        return self.goes_on((1 << len(self.requests)) - 1, self.first)
+        return self.goes_on((1 << len(self.requests)) - 1, self.epoch.first)
 
     def goes_on(self, left: int, words: Words) -> bool:
         """Whether what is left can be placed behind these words."""
@@ -35,7 +34,7 @@ class Search:
             return False
         self.seen.add((left, words))
         rest = [index for index in range(len(self.requests)) if left >> index & 1]
-        if words == self.last and all(self.requests[index].reply is NOTHING for index in rest):
+        if words == self.epoch.last and all(self.requests[index].reply is NOTHING for index in rest):
             return True
         return any(self.places(index, rest, left, words) for index in rest)
 
@@ -56,16 +55,12 @@ class Search:
 def changed(request: Request, words: Words) -> Optional[Words]:
     """The words behind a request that is served at these words; None where its reply is not right there."""
     answer, address, value = request.reply
-    if answer is Answer.VAL:
-        return words if words[request.address] == value else None
-    if answer is Answer.NO:
-        return words if words[address] == value else None
+    if answer in (Answer.VAL, Answer.NO):
+        return words if words[request.address if address is None else address] == value else None
     if any(words[entry.address] != entry.expected for entry in request.entries):
         return None
-    after = list(words)
-    for entry in request.entries:
-        after[entry.address] = entry.new
-    return tuple(after)
+    new = {entry.address: entry.new for entry in request.entries}
+    return tuple(new.get(address, word) for address, word in enumerate(words))
 
 
 def random_request(dice: random.Random, known: List[List[int]], values: Iterator[int]) -> Request:
@@ -76,25 +71,22 @@ def random_request(dice: random.Random, known: List[List[int]], values: Iterator
         request.address = dice.randrange(WORDS)
         request.reply = Reply(Answer.VAL, None, dice.choice(known[request.address]))
         return request
-    entries = []
     for address in sorted(dice.sample(range(WORDS), dice.randint(1, WORDS))):
         expected = dice.choice(known[address])
-        entries.append(Entry(address, expected, next(values) if dice.random() < 0.8 else expected))
-        known[address].append(entries[-1].new)
-    request.entries = tuple(entries)
-    entry = dice.choice(entries)
+        request.entries += (Entry(address, expected, next(values) if dice.random() < 0.8 else expected),)
+        known[address].append(request.entries[-1].new)
+    entry = dice.choice(request.entries)
     others = [value for value in known[entry.address] if value not in (entry.expected, entry.new)]
     if others and dice.random() < 0.15:
         request.reply = Reply(Answer.NO, entry.address, dice.choice(others))
-    else:
-        request.reply = Reply(Answer.YES) if dice.random() < 0.6 else NOTHING
+    elif dice.random() < 0.6:
+        request.reply = Reply(Answer.YES)
     return request
 
 
 def random_epoch(dice: random.Random) -> Epoch:
     """A small history, in most of which something is wrong."""
-    values = itertools.count(1)
-    known = [[0] for _ in range(WORDS)]
+    values, known = itertools.count(1), [[0] for _ in range(WORDS)]
     requests = [random_request(dice, known, values) for _ in range(dice.randint(1, MOST_REQUESTS))]
     requests.sort(key=lambda request: request.sent)
     return Epoch("t", (0,) * WORDS, requests, tuple(dice.choice(seen[-2:]) for seen in known))
@@ -103,8 +95,7 @@ def random_epoch(dice: random.Random) -> Epoch:
 def try_searched(count: int, dice: random.Random) -> Tuple[List[str], str]:
     """So many histories: what went wrong, and a line on what was tried."""
     wrong, right = [], 0
-    for _ in range(count):
-        epoch = random_epoch(dice)
+    for epoch in (random_epoch(dice) for _ in range(count)):
         is_right = Search(epoch).is_right()
         right += is_right
         if is_right == bool(judge(epoch).complaints):

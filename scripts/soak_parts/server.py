@@ -1,8 +1,8 @@
 """The built mwserve over a folder of tenants: started with the recorder or without it, asked for all words, killed.
 
-Used by: scripts/check-backup, scripts/soak, backups.py, crowd.py, lives.py, planted_writers.py, power.py,
-failover_parts/cuts.py. It reads the lines of REPORT (docs/PROTOCOL.md) and of standard error (docs/OPERATING.md), and gives
-recorder.c its variables: change them together.
+Used by: scripts/check-backup, scripts/check-files, scripts/soak, backups.py, crowd.py, lives.py, planted.py, planted_writers.py,
+power.py, bench_parts/stores.py, failover_parts/cuts.py. It reads the lines of REPORT (docs/PROTOCOL.md) and of standard error
+(docs/OPERATING.md), and gives recorder.c its variables: change them together.
 """
 import os
 import random
@@ -14,7 +14,7 @@ import subprocess
 import time
 from dataclasses import dataclass
 from pathlib import Path
-from typing import Dict, List, NamedTuple, Optional, Sequence, Tuple
+from typing import Any, Dict, List, NamedTuple, Optional, Sequence, Tuple
 
 from .recording import FileLog, read_log
 
@@ -72,24 +72,36 @@ class Plan:
     lie: bool = False
 
 
+def built(script: str, folder: Path, name: str, how: str) -> Path:
+    """A built program, in the folder itself or where the repository has it. `how`: what builds it."""
+    for path in (folder / name, folder / "crates" / name / "out" / name):
+        if path.is_file() and os.access(path, os.X_OK):
+            return path.resolve()
+    raise SystemExit(f"{script}: {name} is not built: run {how} first, or name a folder by --programs")
+
+
 def make_files(programs: Programs, folder: Path, tenants: Sequence[Tenant]) -> None:
     """New files of these tenants, and their tenants file."""
-    lines = ""
     for tenant in tenants:
         subprocess.run([programs.mwinit, f"{tenant.name}.mw", str(tenant.words), str(tenant.places)], cwd=folder, check=True,
                        stdout=subprocess.DEVNULL)
-        lines += f"{tenant.name} {tenant.words} {tenant.quota} {tenant.name}.mw\n"
-    (folder / "tenants").write_text(lines)
+    write_tenants(folder, tenants)
+
+
+def write_tenants(folder: Path, tenants: Sequence[Tenant]) -> None:
+    """The tenants file of these tenants."""
+    (folder / "tenants").write_text("".join(f"{it.name} {it.words} {it.quota} {it.name}.mw\n" for it in tenants))
 
 
 class Server:
-    """One life of a server, from its start to its end. `workers` are its options on workers. `died` is when it had ended; 0
-    before."""
+    """One life of a server, from its start to its end; as a context it ends with it. `workers` are its options on workers. `died` is when
+    it had ended; 0 before."""
+    patience = PATIENCE
 
     def __init__(self, programs: Programs, folder: Path, tenants: Sequence[Tenant], workers: Sequence[str], plan: Plan) -> None:
         self.folder = folder
         self.log = folder / "records"
-        remove(self.log)
+        self.log.unlink(missing_ok=True)
         self.died = self.port = 0
         with open(folder / "notes", "wb") as notes:
             self.process = subprocess.Popen(
@@ -102,12 +114,12 @@ class Server:
         """Until it listens; Wrong where it doesn't, or needs too long."""
         said = self.first_line()
         if not said.startswith("ready ") or not said.endswith("\n"):
-            raise Wrong(f"the server did not start within {PATIENCE:.0f} seconds: {said!r}, {self.notes()}")
+            raise Wrong(f"the server did not start within {self.patience:.0f} seconds: {said!r}, {self.notes()}")
         self.port = int(said[len("ready "):])
 
     def first_line(self) -> str:
         """What it says first, with the line feed at its end; the part that came where it ends or is silent for too long."""
-        said, end = b"", time.monotonic() + PATIENCE
+        said, end = b"", time.monotonic() + self.patience
         while not said.endswith(b"\n"):
             has_come, _, _ = select.select([self.process.stdout], [], [], max(0.0, end - time.monotonic()))
             piece = os.read(self.process.stdout.fileno(), 4096) if has_come else b""
@@ -134,11 +146,18 @@ class Server:
             raise Wrong(f"the server ended by itself, status {self.process.returncode}: {self.notes()}")
 
     def kill(self) -> None:
-        """Ends it, by SIGKILL."""
-        self.process.kill()
-        self.process.wait()
-        self.process.stdout.close()
-        self.died = time.monotonic_ns()
+        """Ends it, by SIGKILL, if it wasn't ended so before."""
+        if not self.died:
+            self.process.kill()
+            self.process.wait()
+            self.process.stdout.close()
+            self.died = time.monotonic_ns()
+
+    def __enter__(self) -> Any:
+        return self
+
+    def __exit__(self, *_: object) -> None:
+        self.kill()
 
     def hold_up(self, seconds: float) -> None:
         """Stops it for a while: all of its threads stand where they are."""
@@ -164,7 +183,7 @@ class Server:
         if said[:1] == [f"OK {tenant.words}"] and said[-1] == "BYE" and len(said) == len(lines):
             if all(line.startswith("VAL ") for line in said[1:-1]):
                 return tuple(int(line[len("VAL "):]) for line in said[1:-1])
-            if all(line == "FAULT" for line in said[1:-1]):
+            if set(said[1:-1]) == {"FAULT"}:
                 return None
         raise Wrong(f"tenant {tenant.name}: asked for its words the server says {said}")
 
@@ -172,13 +191,13 @@ class Server:
         """How many slots are taken, as an administrator is told; Wrong where the report doesn't fit these tenants."""
         greeting, *lines, free, goodbye = self.ask("ADMIN\nREPORT\nQUIT\n").splitlines()
         told = [(line[:16].rstrip(), int(line[17:21]), int(line[22:24])) for line in lines]
-        wanted = [(tenant.name, tenant.words, tenant.quota) for tenant in tenants]
         # An opened file has twice the places that it was made with; of one that didn't open 0 are told.
-        fits = told == wanted and all(int(line[25:27]) in (0, 2 * tenant.places) for line, tenant in zip(lines, tenants))
+        fits = told == [(tenant.name, tenant.words, tenant.quota) for tenant in tenants] and \
+            all(int(line[25:27]) in (0, 2 * tenant.places) for line, tenant in zip(lines, tenants))
         if greeting != "OK ADMIN" or not fits or free[:5] != "free " or goodbye != "BYE":
             raise Wrong(f"a report that doesn't fit: {[greeting, *lines, free, goodbye]}")
-        under_way = {line[:16].rstrip(): int(line[28:30]) for line in lines}
-        return Report(under_way, [line[:16].rstrip() for line in lines if line[31:] == "up"], int(free[5:]))
+        under_way = {tenant.name: int(line[28:30]) for line, tenant in zip(lines, tenants)}
+        return Report(under_way, [tenant.name for line, tenant in zip(lines, tenants) if line[31:] == "up"], int(free[5:]))
 
     def ask(self, lines: str) -> str:
         """What a session of these lines is told."""
@@ -188,16 +207,8 @@ class Server:
             return b"".join(iter(lambda: client.recv(4096), b"")).decode()
 
 
-def remove(path: Path) -> None:
-    """Removes a file, if it is there."""
-    if path.exists():
-        path.unlink()
-
-
 def random_plan(dice: random.Random, tenants: Sequence[Tenant], share: float) -> Plan:
     """Lets some tenants' files fail: most at a call of a change, some at the opening."""
-    fail_at = {}
-    for tenant in tenants:
-        if dice.random() < share:
-            fail_at[tenant.name] = dice.randint(1, 4) if dice.random() < 0.15 else dice.randint(3, 120)
+    fail_at = {tenant.name: dice.randint(1, 4) if dice.random() < 0.15 else dice.randint(3, 120)
+               for tenant in tenants if dice.random() < share}
     return Plan(fail_at, pause=dice.choice((0, 50, 300, 2000)), narrow=dice.random() < SHARE_OF_NARROW_LIVES)

@@ -6,7 +6,7 @@ left out. No sleep ends by time: so a state in which nobody can go on is one in 
 
 Used by: scripts/check-waits. A change of what a worker does in one of these files is one of the model.
 """
-from typing import Iterator, NamedTuple, Tuple
+from typing import Any, Callable, Dict, Iterator, NamedTuple, Tuple
 
 PREPARE, SEAL, SETTLE = 0, 1, 2
 """The calls of a change, in their order."""
@@ -28,7 +28,7 @@ class Waiter(NamedTuple):
 class Worker(NamedTuple):
     """Where a worker is."""
     at: str
-    """What it does next: a name of a step below."""
+    """What it does next: one of `MOVES`, or the name of a method of `Step`."""
     call: int = PREPARE
     left: int = 0
     """How many changes it still makes, this one included."""
@@ -76,236 +76,223 @@ class Model:
     def after(self, state: State) -> Iterator[State]:
         """The states after a step of some worker."""
         for number, worker in enumerate(state.workers):
+            step = Step(state, number, self.without)
             if worker.at == "onward":
-                yield from self.onward(state, number, worker)
-            elif worker.at != "end" and (worker.at != "sleep" or state.rung & 1 << number):
-                yield getattr(self, "step_" + worker.at)(state, number, worker)
+                yield from step.onward()
+            elif worker.at != "end" and (worker.at != "sleep" or state.rung & step.own):
+                yield MOVES[worker.at](step) if worker.at in MOVES else getattr(step, worker.at)()
+
+
+class Step:
+    """A step of one worker: the method that its `at` names, if it is not one of `MOVES`, gives the state after it."""
+
+    def __init__(self, state: State, number: int, without: int):
+        self.state, self.number, self.without = state, number, without
+        self.worker, self.own = state.workers[number], 1 << number
+
+    def change(self, **parts: Any) -> None:
+        self.state = self.state._replace(**parts)
+
+    def to(self, at: str, **parts: Any) -> State:
+        """The state with the worker there."""
+        workers, worker = self.state.workers, self.worker._replace(at=at, **parts)
+        return self.state._replace(workers=workers[:self.number] + (worker,) + workers[self.number + 1:])
+
+    def ring_all(self, to_ring: Tuple[int, ...], then: str, **parts: Any) -> State:
+        """It rings these, one after the other, and then goes on so."""
+        if to_ring:
+            return self.to("ring", to_ring=to_ring, then=then, **parts)
+        return self.to(then, to_ring=(), then="", **parts)
+
+    def woken(self, wake: int) -> Tuple[int, ...]:
+        """The first of those served, which it wakes by this wake."""
+        served = self.state.served
+        self.change(served=served[WOKEN_FIRST:])
+        return served[:WOKEN_FIRST] if self.without != wake else ()
+
+    def is_anybody_there(self) -> bool:
+        return bool(self.state.waiters or self.state.served or self.state.sealed)
+
+    def first(self) -> Tuple[int, ...]:
+        """`WaitingRoom::next`."""
+        if self.state.expected:
+            return ()
+        return tuple(it.worker for it in self.state.waiters[:1]) or self.state.sealed[:1]
 
     # The order of calls
 
-    def rank(self, state: State, waiter: Waiter) -> int:
+    def rank(self, waiter: Waiter) -> int:
         """`Waiter::rank`."""
         if waiter.call == PREPARE:
             return NO_SYNC if waiter.is_written else 3
         if waiter.call == SEAL:
             return 1
-        return 2 if state.unsettled & 1 << waiter.worker else NO_SYNC
+        return 2 if self.state.unsettled & 1 << waiter.worker else NO_SYNC
 
-    def next_of(self, state: State, choosing: int) -> int:
+    def next_call(self) -> int:
         """`next_of`: the place of the call that is made next, or -1."""
-        most = {WITHOUT_SYNC: 0, SEALS: 1, PATIENT: 1 if state.expected else 3}[choosing]
-        keeps = sum(it.call == SEAL for it in state.waiters) >= ENOUGH_SEALS
-        ranks = [2 if keeps and it.is_written else self.rank(state, it) for it in state.waiters]
+        waiters = self.state.waiters
+        most = {WITHOUT_SYNC: 0, SEALS: 1, PATIENT: 1 if self.state.expected else 3}[self.worker.choosing]
+        keeps = sum(it.call == SEAL for it in waiters) >= ENOUGH_SEALS
+        ranks = [2 if keeps and it.is_written else self.rank(it) for it in waiters]
         best = min(ranks, default=LATE)
         return ranks.index(best) if best <= most else -1
 
+    # The lock of the file, and a call under it
+
+    def lock(self, then: str) -> State:
+        self.change(lock=self.number)
+        return self.to(then)
+
+    def unlock(self, then: str, **parts: Any) -> State:
+        self.change(lock=-1)
+        return self.to(then, **parts)
+
+    def begin_call(self, then: str) -> State:
+        """It begins a call, which others see by the hint alone."""
+        self.change(is_syncing=self.state.is_syncing or self.rank(self.worker.chosen[0]) != NO_SYNC)
+        return self.to(then)
+
+    def end_call(self, waiter: Waiter) -> None:
+        """What a call leaves: the records that it wrote, and what others are told by hints and lists."""
+        syncs, state, own = self.rank(waiter) != NO_SYNC, self.state, 1 << waiter.worker
+        called = state.called
+        if waiter.call == PREPARE:
+            called = tuple(it for it in called if it != waiter.worker)
+            self.change(expected=state.expected | own)
+        elif waiter.call == SEAL:
+            self.change(unsettled=state.unsettled | own)
+        elif syncs:
+            woken = state.sealed if self.without != 5 else ()
+            self.change(unsettled=0, served=state.served + woken, sealed=())
+        if syncs and called:
+            self.change(waiters=tuple(it._replace(is_written=True) if it.call == PREPARE and it.worker in called else it for it in state.waiters))
+            called = ()
+        self.change(called=called, is_syncing=False)
+
     # A worker comes to a call
 
-    def step_come(self, state: State, number: int, worker: Worker) -> State:
+    def come(self) -> State:
         """It is expected no longer, and looks whether it may try the lock: `may_try`."""
-        state = state._replace(expected=state.expected & ~(1 << number), owing=state.owing & ~(1 << number))
-        own = Waiter(number, worker.call, False)
-        rank = self.rank(state, own)
-        may_try = not state.is_syncing and (rank == NO_SYNC or not state.waiters and rank <= (1 if state.expected else 3))
-        return put(state, number, worker._replace(at="try_own" if may_try else "enter", chosen=(own,)))
+        state, own = self.state, Waiter(self.number, self.worker.call, False)
+        self.change(expected=state.expected & ~self.own, owing=state.owing & ~self.own)
+        rank = self.rank(own)
+        may_try = not state.is_syncing and (rank == NO_SYNC or not state.waiters and rank <= (1 if self.state.expected else 3))
+        return self.to("try_own" if may_try else "enter", chosen=(own,))
 
-    def step_try_own(self, state: State, number: int, worker: Worker) -> State:
-        """It tries the lock."""
-        if state.lock >= 0:
-            return put(state, number, worker._replace(at="enter"))
-        return put(state._replace(lock=number), number, worker._replace(at="make_own"))
-
-    def step_make_own(self, state: State, number: int, worker: Worker) -> State:
-        """It begins its own call, which others see by the hint alone."""
-        syncs = self.rank(state, worker.chosen[0]) != NO_SYNC
-        return put(state._replace(is_syncing=state.is_syncing or syncs), number, worker._replace(at="end_own"))
-
-    def step_end_own(self, state: State, number: int, worker: Worker) -> State:
+    def end_own(self) -> State:
         """It has made its own call: `end`."""
-        state, _ = self.made(state, worker.chosen[0])
-        return put(state, number, worker._replace(at="unlock_own"))
+        self.end_call(self.worker.chosen[0])
+        return self.to("unlock_own")
 
-    def step_unlock_own(self, state: State, number: int, worker: Worker) -> State:
-        return put(state._replace(lock=-1), number, worker._replace(at="look_around"))
-
-    def step_look_around(self, state: State, number: int, worker: Worker) -> State:
-        """It goes on if nobody is there."""
-        if not state.waiters and not state.served and not state.sealed:
-            return self.goes_on(state, number, worker)
-        return self.leaves(state, number, worker)
-
-    def step_enter(self, state: State, number: int, worker: Worker) -> State:
+    def enter(self) -> State:
         """It leaves its request in its box, and enters the room."""
-        state = state._replace(waiters=state.waiters + (Waiter(number, worker.call, False),), done=state.done & ~(1 << number))
-        if worker.call == PREPARE:
-            state = state._replace(changes=state.changes + (number,))
-        return put(state, number, worker._replace(at="listen", chosen=(), is_waiting=True, has_served=False, choosing=PATIENT))
+        state, call = self.state, self.worker.call
+        self.change(waiters=state.waiters + (Waiter(self.number, call, False),), done=state.done & ~self.own,
+                    changes=state.changes + ((self.number,) if call == PREPARE else ()))
+        return self.to("listen", chosen=(), is_waiting=True, has_served=False, choosing=PATIENT)
 
     # A worker waits
 
-    def step_listen(self, state: State, number: int, worker: Worker) -> State:
-        return put(state._replace(rung=state.rung & ~(1 << number)), number, worker._replace(at="fetch"))
+    def listen(self) -> State:
+        self.change(rung=self.state.rung & ~self.own)
+        return self.to("fetch")
 
-    def step_fetch(self, state: State, number: int, worker: Worker) -> State:
+    def fetch(self) -> State:
         """It takes its request back if its call was made: `fetch`, `take_back`."""
-        if not state.done & 1 << number:
-            return put(state, number, worker._replace(at="try_next"))
-        served = tuple(it for it in state.served if it != number)
-        state = state._replace(sealed=tuple(it for it in state.sealed if it != number), served=served[1:])
-        worker = worker._replace(is_waiting=False)
-        to_ring = served[:1] if self.without != 0 else ()
-        return rings(state, number, worker, to_ring, "leave" if worker.has_served else "go_on")
-
-    def step_sleep(self, state: State, number: int, worker: Worker) -> State:
-        """It was rung."""
-        return put(state, number, worker._replace(at="listen"))
+        if not self.state.done & self.own:
+            return self.to("try_next")
+        served, sealed = (tuple(it for it in some if it != self.number) for some in (self.state.served, self.state.sealed))
+        self.change(sealed=sealed, served=served[1:])
+        return self.ring_all(served[:1] if self.without != 0 else (), "leave" if self.worker.has_served else "go_on", is_waiting=False)
 
     # A worker makes a call of somebody: `serve_one`
 
-    def step_try_next(self, state: State, number: int, worker: Worker) -> State:
-        if state.lock >= 0:
-            return self.has_not_served(state, number, worker)
-        return put(state._replace(lock=number), number, worker._replace(at="choose"))
-
-    def step_choose(self, state: State, number: int, worker: Worker) -> State:
-        place = self.next_of(state, worker.choosing)
+    def choose(self) -> State:
+        state, place = self.state, self.next_call()
         if place < 0:
-            return put(state, number, worker._replace(at="unlock_none"))
+            return self.to("unlock_none")
         chosen = state.waiters[place]
-        state = state._replace(waiters=state.waiters[:place] + state.waiters[place + 1:], called=state.called + state.changes, changes=())
-        to_ring: Tuple[int, ...] = ()
-        if self.rank(state, chosen) != NO_SYNC:
-            to_ring = state.served[:WOKEN_FIRST]
-            state = state._replace(served=state.served[WOKEN_FIRST:])
-            to_ring = to_ring if self.without != 2 else ()
-        return rings(state, number, worker._replace(chosen=(chosen,)), to_ring, "make")
+        self.change(waiters=state.waiters[:place] + state.waiters[place + 1:], called=state.called + state.changes, changes=())
+        return self.ring_all(self.woken(2) if self.rank(chosen) != NO_SYNC else (), "make", chosen=(chosen,))
 
-    def step_make(self, state: State, number: int, worker: Worker) -> State:
-        syncs = self.rank(state, worker.chosen[0]) != NO_SYNC
-        return put(state._replace(is_syncing=state.is_syncing or syncs), number, worker._replace(at="end_for"))
-
-    def step_end_for(self, state: State, number: int, worker: Worker) -> State:
+    def end_for(self) -> State:
         """It has made the call: `end_for`, or `end` if it is its own."""
-        waiter = worker.chosen[0]
-        state, _ = self.made(state, waiter)
-        if waiter.worker != number:
+        waiter, them = self.worker.chosen[0], (self.worker.chosen[0].worker,)
+        self.end_call(waiter)
+        if waiter.worker != self.number:
             if waiter.call == SEAL:
-                state = state._replace(sealed=state.sealed + (waiter.worker,))
-            elif waiter.call == PREPARE:
-                state = state._replace(served=(waiter.worker,) + state.served)
+                self.change(sealed=self.state.sealed + them)
             else:
-                state = state._replace(served=state.served + (waiter.worker,))
-        return put(state._replace(done=state.done | 1 << waiter.worker), number, worker._replace(at="unlock_one", chosen=()))
+                self.change(served=them + self.state.served if waiter.call == PREPARE else self.state.served + them)
+        self.change(done=self.state.done | 1 << waiter.worker)
+        return self.to("unlock_one", chosen=())
 
-    def step_unlock_one(self, state: State, number: int, worker: Worker) -> State:
-        """A call was made."""
-        state = state._replace(lock=-1)
-        if worker.is_waiting:
-            return put(state, number, worker._replace(at="listen", has_served=True))
-        return put(state, number, worker._replace(at="try_next"))
-
-    def step_unlock_none(self, state: State, number: int, worker: Worker) -> State:
-        return put(state._replace(lock=-1), number, worker._replace(at="look"))
-
-    def step_look(self, state: State, number: int, worker: Worker) -> State:
-        """It looks once more, since whoever came meanwhile found the lock held."""
-        if self.next_of(state, worker.choosing) >= 0:
-            return put(state, number, worker._replace(at="try_next"))
-        return self.has_not_served(state, number, worker)
-
-    def has_not_served(self, state: State, number: int, worker: Worker) -> State:
+    def has_not_served(self) -> State:
         """No call could be made: a worker that waits sleeps, and one that goes goes."""
-        to_ring = state.served[:WOKEN_FIRST]
-        state = state._replace(served=state.served[WOKEN_FIRST:])
-        if self.without == 1:
-            to_ring = ()
-        return rings(state, number, worker, to_ring, "sleep" if worker.is_waiting else "wake_first")
-
-    def made(self, state: State, waiter: Waiter) -> Tuple[State, bool]:
-        """What a call leaves: the records that it wrote, and what others are told by hints and lists."""
-        syncs = self.rank(state, waiter) != NO_SYNC
-        own = 1 << waiter.worker
-        called = tuple(it for it in state.called if it != waiter.worker) if waiter.call == PREPARE else state.called
-        if waiter.call == PREPARE:
-            state = state._replace(expected=state.expected | own)
-        elif waiter.call == SEAL:
-            state = state._replace(unsettled=state.unsettled | own)
-        elif syncs:
-            woken = state.sealed if self.without != 5 else ()
-            state = state._replace(unsettled=0, served=state.served + woken, sealed=())
-        if syncs and called:
-            waiters = tuple(it._replace(is_written=True) if it.call == PREPARE and it.worker in called else it for it in state.waiters)
-            state = state._replace(waiters=waiters)
-            called = ()
-        return state._replace(called=called, is_syncing=False), syncs
+        return self.ring_all(self.woken(1), "sleep" if self.worker.is_waiting else "wake_first")
 
     # A worker goes
 
-    def leaves(self, state: State, number: int, worker: Worker) -> State:
+    def leave(self) -> State:
         """`leave`."""
-        choosing = WITHOUT_SYNC if worker.call == SETTLE else SEALS
-        return put(state, number, worker._replace(at="try_next", choosing=choosing, is_waiting=False, chosen=()))
+        return self.to("try_next", choosing=WITHOUT_SYNC if self.worker.call == SETTLE else SEALS, is_waiting=False, chosen=())
 
-    def step_leave(self, state: State, number: int, worker: Worker) -> State:
-        return self.leaves(state, number, worker)
-
-    def step_wake_first(self, state: State, number: int, worker: Worker) -> State:
+    def wake_first(self) -> State:
         """It owes a wake if it comes back soon. Else it wakes the first."""
-        if worker.call != SETTLE:
-            if state.waiters or state.served or state.sealed:
-                state = state._replace(owing=state.owing | 1 << number)
-            return self.goes_on(state, number, worker)
-        return rings(state, number, worker, first_of(state) if self.without != 3 else (), "go_on")
+        if self.worker.call == SETTLE:
+            return self.ring_all(self.first() if self.without != 3 else (), "go_on")
+        if self.is_anybody_there():
+            self.change(owing=self.state.owing | self.own)
+        return self.go_on()
 
-    def step_go_on(self, state: State, number: int, worker: Worker) -> State:
-        return self.goes_on(state, number, worker)
+    def anew(self, at: str, call: int = PREPARE, left: int = 0) -> State:
+        """The state with the worker there, in no call."""
+        self.worker = Worker(at, call, left)
+        return self.to(at)
 
-    def goes_on(self, state: State, number: int, worker: Worker) -> State:
+    def go_on(self) -> State:
         """It makes the steps that follow its call."""
-        return put(state, number, Worker("onward", worker.call, worker.left))
+        return self.anew("onward", self.worker.call, self.worker.left)
 
-    def onward(self, state: State, number: int, worker: Worker) -> Iterator[State]:
+    def onward(self) -> Iterator[State]:
         """It comes to its next call, or to its reply, also if a helper has ended its change. A change that is sealed in the file has none before
         a settle."""
-        if not state.unsettled & 1 << number:
-            yield put(state, number, Worker("reply", SETTLE, worker.left))
-        if worker.call != SETTLE:
-            yield put(state, number, Worker("come", worker.call + 1, worker.left))
+        call, left = self.worker.call, self.worker.left
+        if not self.state.unsettled & self.own:
+            yield self.anew("reply", SETTLE, left)
+        if call != SETTLE:
+            yield self.anew("come", call + 1, left)
 
-    def step_reply(self, state: State, number: int, worker: Worker) -> State:
+    def reply(self) -> State:
         """`depart`."""
-        own = 1 << number
-        owed = (state.expected | state.owing) & own
-        state = state._replace(expected=state.expected & ~own, owing=state.owing & ~own)
-        to_ring = first_of(state) if owed and self.without != 4 else ()
-        return rings(state, number, worker, to_ring, "next")
+        expected, owing = self.state.expected, self.state.owing
+        self.change(expected=expected & ~self.own, owing=owing & ~self.own)
+        return self.ring_all(self.first() if (expected | owing) & self.own and self.without != 4 else (), "next")
 
-    def step_next(self, state: State, number: int, worker: Worker) -> State:
+    def next(self) -> State:
         """It has its reply, and makes its next change if it has one."""
-        if worker.left > 1:
-            return put(state, number, Worker("come", PREPARE, worker.left - 1))
-        return put(state, number, Worker("end"))
+        return self.anew("come", PREPARE, self.worker.left - 1) if self.worker.left > 1 else self.anew("end")
 
-    def step_ring(self, state: State, number: int, worker: Worker) -> State:
+    def ring(self) -> State:
         """It rings the next bell."""
-        rung = state.rung | 1 << worker.to_ring[0]
-        return rings(state._replace(rung=rung), number, worker, worker.to_ring[1:], worker.then)
+        self.change(rung=self.state.rung | 1 << self.worker.to_ring[0])
+        return self.ring_all(self.worker.to_ring[1:], self.worker.then)
 
 
-def put(state: State, number: int, worker: Worker) -> State:
-    """The state with this worker in place of its old one."""
-    return state._replace(workers=state.workers[:number] + (worker,) + state.workers[number + 1:])
-
-
-def rings(state: State, number: int, worker: Worker, to_ring: Tuple[int, ...], then: str) -> State:
-    """It rings these, one after the other, and then goes on so."""
-    if to_ring:
-        return put(state, number, worker._replace(at="ring", to_ring=to_ring, then=then))
-    return put(state, number, worker._replace(at=then, to_ring=(), then=""))
-
-
-def first_of(state: State) -> Tuple[int, ...]:
-    """`WaitingRoom::next`."""
-    if state.expected:
-        return ()
-    return tuple(it.worker for it in state.waiters[:1]) or state.sealed[:1]
+MOVES: Dict[str, Callable[[Step], State]] = {
+    # A worker comes to a call, tries the lock, makes its own call, and goes on if nobody is there
+    "try_own": lambda it: it.to("enter") if it.state.lock >= 0 else it.lock("make_own"),
+    "make_own": lambda it: it.begin_call("end_own"),
+    "unlock_own": lambda it: it.unlock("look_around"),
+    "look_around": lambda it: it.leave() if it.is_anybody_there() else it.go_on(),
+    # It was rung
+    "sleep": lambda it: it.to("listen"),
+    # It makes a call of somebody: `serve_one`. If it has made none, it looks once more, since whoever came meanwhile found the lock held
+    "try_next": lambda it: it.has_not_served() if it.state.lock >= 0 else it.lock("choose"),
+    "make": lambda it: it.begin_call("end_for"),
+    "unlock_one": lambda it: it.unlock("listen", has_served=True) if it.worker.is_waiting else it.unlock("try_next"),
+    "unlock_none": lambda it: it.unlock("look"),
+    "look": lambda it: it.to("try_next") if it.next_call() >= 0 else it.has_not_served(),
+}
+"""The steps that only look, and go on."""

@@ -1,8 +1,12 @@
-/* Loaded into mwinit and mwserve by LD_PRELOAD: writes down their writes and syncs, a line each into the file that CALLS_LOG names:
-       write PATH COUNT     a write that went well, of so many bytes
-       sync PATH            an fsync or fdatasync that went well
-   PATH is that of the open file. A sync of the file or folder that CALLS_FAIL names, if it is set, fails instead.
-   Used by: scripts/check-new-file, which reads these lines: change both together. */
+/* Loaded into a program by LD_PRELOAD: has its syncs last longer or fail, and writes down its writes and syncs. By these variables:
+
+   SLOW_SYNC     each sync lasts so many milliseconds longer
+   FAIL_SYNC     while there is a file of this name, each sync fails
+   FAIL_SYNC_OF  a sync of this file or folder fails
+   CALLS_LOG     a file that gets a line for each call that went well: `write PATH COUNT`, of so many bytes, or `sync PATH`. PATH is
+                 that of the open file
+
+   Used by: scripts/check-crowd, scripts/check-locks, and scripts/check-new-file, which reads the lines: change both together. */
 #define _GNU_SOURCE
 #include <dlfcn.h>
 #include <errno.h>
@@ -10,19 +14,17 @@
 #include <stdio.h>
 #include <stdlib.h>
 #include <string.h>
+#include <time.h>
 #include <unistd.h>
 
 static ssize_t (*next_write)(int, const void *, size_t);
-static int (*next_fsync)(int), (*next_fdatasync)(int);
 static int records = -1;
 
 __attribute__((constructor)) static void begin(void) {
     const char *log = getenv("CALLS_LOG");
     next_write = (ssize_t (*)(int, const void *, size_t))dlsym(RTLD_NEXT, "write");
-    next_fsync = (int (*)(int))dlsym(RTLD_NEXT, "fsync");
-    next_fdatasync = (int (*)(int))dlsym(RTLD_NEXT, "fdatasync");
     if (log) records = open(log, O_WRONLY | O_CREAT | O_APPEND | O_CLOEXEC, 0600);
-    if (records < 0 || !next_write || !next_fsync || !next_fdatasync) abort();
+    if (!next_write || (log && records < 0)) abort();
 }
 
 static void path_of(int descriptor, char *path, size_t size) {
@@ -33,16 +35,10 @@ static void path_of(int descriptor, char *path, size_t size) {
     path[found < 0 ? 0 : found] = 0;
 }
 
-static int must_fail(int descriptor) {
-    char path[4096];
-    const char *failing = getenv("CALLS_FAIL");
-    path_of(descriptor, path, sizeof path);
-    return failing && strcmp(failing, path) == 0;
-}
-
 static void record(const char *what, int descriptor, long count) {
     char path[4096], line[4400];
     int length;
+    if (records < 0) return;
     path_of(descriptor, path, sizeof path);
     length = snprintf(line, sizeof line, count < 0 ? "%s %s\n" : "%s %s %ld\n", what, path, count);
     if (next_write(records, line, (size_t)length) != length) abort();
@@ -54,17 +50,23 @@ ssize_t write(int descriptor, const void *bytes, size_t count) {
     return written;
 }
 
-static int sync_by(int (*next)(int), int descriptor) {
+static int sync_by(const char *name, int descriptor) {
+    const char *slow = getenv("SLOW_SYNC"), *fails = getenv("FAIL_SYNC"), *failing = getenv("FAIL_SYNC_OF");
+    long milliseconds = slow ? atol(slow) : 0;
+    struct timespec time = { milliseconds / 1000, milliseconds % 1000 * 1000000 };
+    char path[4096];
     int synced;
-    if (must_fail(descriptor)) {
+    nanosleep(&time, 0);
+    path_of(descriptor, path, sizeof path);
+    if ((fails && access(fails, F_OK) == 0) || (failing && strcmp(failing, path) == 0)) {
         errno = EIO;
         return -1;
     }
-    synced = next(descriptor);
+    synced = ((int (*)(int))dlsym(RTLD_NEXT, name))(descriptor);
     if (synced == 0) record("sync", descriptor, -1);
     return synced;
 }
 
-int fsync(int descriptor) { return sync_by(next_fsync, descriptor); }
+int fsync(int descriptor) { return sync_by("fsync", descriptor); }
 
-int fdatasync(int descriptor) { return sync_by(next_fdatasync, descriptor); }
+int fdatasync(int descriptor) { return sync_by("fdatasync", descriptor); }
