@@ -34,7 +34,7 @@
 extern "C" {
 #endif
 
-#define MONDLEXI_VERSION "0.2.0"
+#define MONDLEXI_VERSION "0.2.0+unreleased"
 #define MONDLEXI_MAX_VALUE ((UINT64_C(1) << 48) - 1) /* the greatest value of a word */
 #define MONDLEXI_MAX_WORDS 4096                      /* the most words of a tenant; the greatest address is one less */
 #define MONDLEXI_MAX_ENTRIES 16                      /* the most words of one change, or of one read */

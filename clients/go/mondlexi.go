@@ -20,7 +20,7 @@ import (
 )
 
 // Version is that of the server's programs with which this client was released.
-const Version = "0.2.0"
+const Version = "0.2.0+unreleased"
 
 const (
 	// MaxValue is the greatest value of a word.

@@ -82,7 +82,7 @@ from ._client import Administrator, Client, Counted, snapshot
 from ._protocol import MAX_ENTRIES, MAX_VALUE, MAX_WORDS, Entry, Outcome, Report, TenantReport
 from .errors import Busy, Error, Fault, Full, Lost, Refused, Unknown, Worn
 
-__version__ = "0.2.0"
+__version__ = "0.2.0+unreleased"
 """The version of the server's programs with which this client was released."""
 
 __all__ = [

@@ -9,9 +9,9 @@ pub(crate) static LINES: [Story; 11] = [
         name: "version",
         lines: "\
 mwinit --version
-gives 0 mwinit 0.2.0;|
+gives 0 mwinit 0.2.0+unreleased;|
 mwserve --version
-gives 0 mwserve 0.2.0;|",
+gives 0 mwserve 0.2.0+unreleased;|",
     },
     Story {
         name: "not-there",

@@ -171,15 +171,15 @@ serve
 gives 0 OK 2;VAL 0;VAL 0;|
 room $1
 mwserve $3
-gives 1 $2|
+gives 1 $2|$4
 for each of
-0||--help
-3|Ser|--help
-0||--version
-3|mws|--version
-0||--tenants DIR/tenants --listen 127.0.0.1:0 --connections 1
-3|rea|--tenants DIR/tenants --listen 127.0.0.1:0 --connections 1
-0||--tenants DIR/tenants --listen 127.0.0.1:0 --admin 127.0.0.1:0 --connections 1
-3|adm|--tenants DIR/tenants --listen 127.0.0.1:0 --admin 127.0.0.1:0 --connections 1",
+0||--help|
+3|Ser|--help|
+0||--version|
+3|mws|--version|
+0||--tenants DIR/tenants --listen 127.0.0.1:0 --connections 1|mwserve: cannot write;standard output: broken pipe;
+3|rea|--tenants DIR/tenants --listen 127.0.0.1:0 --connections 1|mwserve: cannot write;standard output: broken pipe;
+0||--tenants DIR/tenants --listen 127.0.0.1:0 --admin 127.0.0.1:0 --connections 1|mwserve: cannot write;standard output: broken pipe;
+3|adm|--tenants DIR/tenants --listen 127.0.0.1:0 --admin 127.0.0.1:0 --connections 1|mwserve: cannot write;standard output: broken pipe;",
     },
 ];

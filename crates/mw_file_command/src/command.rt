@@ -24,6 +24,8 @@ pub struct FileCommand {
     pub switch_help: &'static str,
     /// What the file is.
     pub file_help: &'static str,
+    /// What the help ends with.
+    pub after_help: &'static str,
 }
 
 /// What a command line asks for.
@@ -79,7 +81,8 @@ impl FileCommand {
         let file = Arg::new(alloc, "FILE").required(true).help(self.file_help);
         let command = Command::new(alloc, self.name)
             .version(VERSION)
-            .about(self.about);
+            .about(self.about)
+            .after_help(self.after_help);
         Ok(command.arg(switch)?.arg(file)?)
     }
 

@@ -11,5 +11,5 @@ mod streams;
 
 pub use program::{Program, run};
 
-/// The version that each program tells at `--version`.
-pub const VERSION: &str = "0.2.0";
+/// The version that each program tells at `--version`. Between two versions it is the last one, and `+unreleased`.
+pub const VERSION: &str = "0.2.0+unreleased";

@@ -27,15 +27,16 @@ pub struct Program {
 /// the program's own name first. Gives the exit status that `work` gives.
 ///
 /// It doesn't call `work` if `/dev/null` can't be opened or memory is refused, and gives 1; or if an
-/// argument is no text, and gives 2. Then it writes what went wrong to the standard error.
+/// argument is no text, and gives 2. Then it writes what went wrong to the standard error, and why `/dev/null` can't be opened.
 pub fn run<R, F: FnOnce(&[String]) -> u8>(rt: &R, program: &Program, work: F) -> ExitCode
 where
     R: Files<File = File> + Env + Eprint + AllocGlobal,
     requires { F.IsAlwaysCallable work }
     ensures { exit_status result ≡ 0 → (args : _) × F.post work args 0 }
 {
-    let Ok(_held) = hold_streams(rt) else {
-        return program.refuse(rt, "cannot open /dev/null", 1);
+    let _held = match hold_streams(rt) {
+        Ok(held) => held,
+        Err(fault) => return program.refuse_without_streams(rt, &fault),
     };
     match args(rt) {
         Ok(args) => ExitCode::from(work(&args)),
@@ -47,6 +48,16 @@ where
 }
 
 impl Program {
+    /// Writes that `/dev/null` can't be opened, and on the next line why. Gives the exit status 1.
+    fn refuse_without_streams<R: Eprint>(&self, rt: &R, fault: &io::Error) -> ExitCode
+        ensures { exit_status result ≡ 1 }
+    {
+        let status = self.refuse(rt, "cannot open /dev/null", 1);
+        let name = self.name;
+        let _ = eprintln!(rt; "{name}: {fault}");
+        status
+    }
+
     /// Writes what went wrong after the program's name. Gives this exit status.
     fn refuse<R: Eprint>(&self, rt: &R, text: &str, status: u8) -> ExitCode
         ensures { exit_status result ≡ status }

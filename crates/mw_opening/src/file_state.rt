@@ -99,7 +99,7 @@ pub struct FileState {
     is_given_up: AtomicBool,
     /// Whether it is given up once it is known that others have replaced, cut or overwritten it.
     is_strict: bool,
-    /// Whether the system was asked since the last sync how long it is.
+    /// Whether the system was asked how long it is before a write since the last sync.
     was_asked: AtomicBool,
     last: LastError,
 }
@@ -177,7 +177,6 @@ impl FileState {
     ///
     /// The file is shorter than it must be, or it is known that others have replaced, cut or overwritten it.
     pub(crate) fn keep_seen(&self, seen: SeenFile) -> io::Result<()> {
-        self.was_asked.store(true, Ordering::SeqCst);
         self.device.store(seen.device, Ordering::SeqCst);
         self.inode.store(seen.inode, Ordering::SeqCst);
         if seen.size < self.size.fetch_max(seen.size, Ordering::SeqCst) {
@@ -190,6 +189,11 @@ impl FileState {
     /// first write after each sync. Else a write past the end of a file that was cut would hide that.
     pub(crate) fn must_be_asked(&self) -> bool {
         self.is_strict && !self.was_asked.load(Ordering::SeqCst)
+    }
+
+    /// Keeps that the system was asked, before a write, how long the file is.
+    pub(crate) fn keep_asked(&self) {
+        self.was_asked.store(true, Ordering::SeqCst);
     }
 
     /// Keeps that the file was synced, or a sync failed.

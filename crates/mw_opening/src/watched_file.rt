@@ -101,6 +101,7 @@ impl<F: FileExt + OpenFile, K: Clock> FileExt for WatchedFile<'_, F, K> {
         self.state.may_be_called()?;
         if self.state.must_be_asked() {
             self.ask()?;
+            self.state.keep_asked();
         }
         let started = self.start();
         let written = self.file.write_at(buf, offset);

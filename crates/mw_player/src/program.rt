@@ -1,7 +1,7 @@
 //! The program `mwreplay`: plays a schedule on a simulated world and prints the replies.
 //!
 //! `mwreplay` calls `replay_args`. The exit statuses are in `specs/Replayed` too, statuses and texts in
-//! docs/SCHEDULES; mw_player_tests, scripts/check-refusals and scripts/program_parts/schedules.py expect the texts:
+//! docs/SCHEDULES; mw_player_tests, scripts/check-refusals and scripts/program_parts/pages.py expect the texts:
 //! change them together.
 ghost use Rattle.std.specs.Prelude.{◌≡◌, IfErr, IfOk};
 ghost use Rattle.std.specs.Io.KnownBytes.{Keeps};
@@ -110,6 +110,9 @@ const COMMAND: FileCommand = FileCommand {
     switch: "trace",
     switch_help: "also prints each claim of a slot that is won",
     file_help: "the schedule to play",
+    after_help: "\
+Example: mwreplay --trace schedule
+Documents: docs/SCHEDULES.md beside README.md, or below /usr/share/doc/mondlexi",
 };
 
 /// Plays the schedule in the file that the command line `args` names, by [`replay_file`]: `mwreplay [--trace]

@@ -112,7 +112,7 @@ where
     let clients = ClientDoors { all, port, admin };
     match tell_doors(&clients, listening, console) {
         Ok(()) => Ok(Doors { clients, pages }),
-        Err(_) => Err(ServeFault::Failed),
+        Err(error) => Err(cannot_write(notes, &error)),
     }
 }
 
@@ -141,6 +141,13 @@ fn cannot_listen<L: Log>(notes: &L, address: &str, error: &io::Error) -> ServeFa
     } else {
         note_why(notes, address, "", error);
     }
+    ServeFault::Failed
+}
+
+/// Writes that the places can't be told, and what the system told.
+fn cannot_write<L: Log>(notes: &L, error: &io::Error) -> ServeFault {
+    error!(notes; "mwserve: cannot write");
+    note_why(notes, "standard output", "", error);
     ServeFault::Failed
 }
 
@@ -238,7 +245,7 @@ where
     note_open(notes, listening, address, door.listener.is_open());
     match console.tell(Address::Pages, port, address) {
         Ok(()) => Ok(door),
-        Err(_) => Err(ServeFault::Failed),
+        Err(error) => Err(cannot_write(notes, &error)),
     }
 }
 

@@ -52,8 +52,7 @@ pub(crate) enum ServeFault {
     /// The tenants file is refused.
     Refused,
     /// A tenant's file didn't open or the limit of descriptors is too low, and `--strict` was given; the script can't be read;
-    /// nobody can listen at an address; or the session ended by a fault, or `ready` could not be written, of which no note is
-    /// written.
+    /// nobody can listen at an address, or tell `ready`; or the session ended by a fault, of which no note is written.
     Failed,
     /// Memory was refused before the first session.
     Memory,

@@ -18,6 +18,9 @@ const COMMAND: FileCommand = FileCommand {
     switch: "words",
     switch_help: "tells the words that are 0 too",
     file_help: "the file of a tenant",
+    after_help: "\
+Example: mwshow --words t.mw
+Documents: docs/OPERATING.md beside README.md, or below /usr/share/doc/mondlexi",
 };
 
 /// Shows the file that the command line `args` names, by [`show_file`]. The form is `mwshow [--words]

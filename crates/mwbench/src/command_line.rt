@@ -132,10 +132,16 @@ static OPTIONS: [Opt; 9] = [
     ),
 ];
 
+/// What the help ends with.
+const AFTER_HELP: &str = "\
+Example: mwbench --connect 127.0.0.1:7000 --tenant t --clients 16 --words 2 --seconds 10
+Documents: docs/BENCH.md beside README.md, or below /usr/share/doc/mondlexi";
+
 fn command<'a>(alloc: Global) -> Result<Command<'a>, AllocError> {
     let mut command = Command::new(alloc, "mwbench")
         .version(VERSION)
-        .about("Loads a server and measures how long its replies take.");
+        .about("Loads a server and measures how long its replies take.")
+        .after_help(AFTER_HELP);
     for (name, follows, help) in OPTIONS {
         let arg = Arg::new(alloc, name).long(name).help(help);
         command = command.arg(with_value(arg, follows))?;

@@ -10,7 +10,7 @@ import java.util.stream.IntStream;
 /** A session for one tenant, whose words it reads and changes. */
 public final class Client implements AutoCloseable {
     /** The version of the server's programs with which this client was released. */
-    public static final String VERSION = "0.2.0";
+    public static final String VERSION = "0.2.0+unreleased";
     /** The greatest value of a word. */
     public static final long MAX_VALUE = (1L << 48) - 1;
     /** The most words that a tenant can have; the greatest address is one less. */
