@@ -15,18 +15,18 @@ abbrev pub is_young : ℕ → Option Instant → Instant → Bool
 is_young limit None now = false
 is_young limit (Some began) now = nat_lt (instant_nanos now - instant_nanos began) limit
 
--- whether a lease is good at a moment: its last beat that went well is young. A beat's age counts from its start, because another
+-- whether a lease is good at a moment: its last beat went well and is young. A beat's age counts from its start, because another
 -- server may have the lock from then on.
 abbrev pub is_good : Beats → Instant → Bool
 is_good beats now = is_young (as_nanos beats.limit) beats.began now
 
--- after a beat that began then, and went well or not
+-- After a beat that began then, and went well or not. A beat that failed may mean that another server has the lock by now.
 abbrev pub after_beat : Beats → Instant → Bool → Beats
 after_beat beats began true = record { limit = beats.limit; began = Some began }
-after_beat beats began false = beats
+after_beat beats began false = record { limit = beats.limit; began = None }
 
--- What may be told of a lease, by whether there must be one. If not, all is well. Else it is told to be good only by its beats at a
--- moment when they were.
+-- What may be told of a lease, by whether there must be one. If not, all is well. Else it is told to be good only if some beats were
+-- good at some moment. That these are its own beats, and that the moment is now, is not said.
 abbrev pub Tells : Bool → Bool → Type 0
 Tells false good = good ≡ true
 Tells true true = (beats : Beats) × (now : Instant) × (is_good beats now ≡ true)

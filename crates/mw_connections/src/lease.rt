@@ -13,7 +13,7 @@ use std::time::{Clock, Duration, Instant};
 pub(crate) struct Beats {
     /// How long the lease is good from the start of a beat on.
     limit: Duration,
-    /// When the last beat that went well began. None: none has gone well.
+    /// When the last beat began. None: there was none, or it failed.
     began: Option<Instant>,
 }
 
@@ -30,13 +30,9 @@ impl Beats {
     pub(crate) fn after(self, began: Instant, is_well: bool) -> Self
         ensures { result ≡ after_beat self began is_well }
     {
-        if is_well {
-            Beats {
-                limit: self.limit,
-                began: Some(began),
-            }
-        } else {
-            self
+        Beats {
+            limit: self.limit,
+            began: if is_well { Some(began) } else { None },
         }
     }
 
