@@ -210,8 +210,8 @@ def try_late_replies(clients):
         with clients.Client(Peers(["OK 9\n", SILENT], VALUE).at, "t") as client:
             with impatient(client):
                 told = str(raises(error, f"{call} without a reply", getattr(client, call), argument))
-            same(told.endswith(", for 0.2 seconds"), True, f"what a client says of a late reply: {told}")
-            same(call != "get" or told == "GET 7: no reply, for 0.2 seconds", True, f"what it says of a get: {told}")
+            same(told.endswith(", for 1 seconds"), True, f"what a client says of a late reply: {told}")
+            same(call != "get" or told == "GET 7: no reply, for 1 seconds", True, f"what it says of a get: {told}")
             same(client.get(7), 5, "get after a late reply")
     with clients.Client(Peers(["OK 9\n", "VAL 1\n", "VAL 2\n", SILENT], VALUE).at, "t") as client:
         with impatient(client):
