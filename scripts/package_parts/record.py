@@ -32,12 +32,19 @@ def has_changes() -> bool:
     return len(git("status", "--porcelain", "--branch", "--untracked-files=no").splitlines()) != 1
 
 
+def base_of(version: str) -> str:
+    """The last released version: what the programs tell, without `+unreleased`."""
+    return version.partition("+")[0]
+
+
 def release_of(version: str) -> str:
-    """What the packages call this commit: the version if the tag `vVERSION` is on it, else the version with `unreleased`, moment and commit."""
-    if f"v{version}" in git("tag", "--points-at", "HEAD").split() and not has_changes():
-        return version
+    """What the packages call this commit, whose programs tell this version: the version, if the tag `vVERSION` is on the commit and they
+    don't tell `+unreleased`; else the last version with `+unreleased`, moment and commit."""
+    base = base_of(version)
+    if version == base and f"v{base}" in git("tag", "--points-at", "HEAD").split() and not has_changes():
+        return base
     moment, commit = git("log", "-1", "--format=%ct %H").split()
-    return f"{version}+unreleased.{datetime.fromtimestamp(int(moment), timezone.utc):%Y%m%d%H%M%S}.{commit[:8]}" + (".changed" if has_changes() else "")
+    return f"{base}+unreleased.{datetime.fromtimestamp(int(moment), timezone.utc):%Y%m%d%H%M%S}.{commit[:8]}" + (".changed" if has_changes() else "")
 
 
 def sum_of(path: Path) -> str:
