@@ -17,6 +17,10 @@ LEFT = 100
 """How many bytes are left of a file that is cut."""
 FRONT = 64
 """How many bytes are written over its front."""
+CHANGE, REFUSED = "CAS 0:1:2", "CAS 0:9:9"
+"""A change, and one that would be a NO; its record is written before its word is compared."""
+AT_ONCE = ((0, 0, CHANGE), (0, 2, CHANGE), (1, 0, CHANGE), (1, 0, REFUSED))
+"""How many copies are asked for before and after a cut, and the change that is asked for next."""
 
 
 class Harm(NamedTuple):
@@ -50,8 +54,8 @@ def harmed_files(program: Path, folder: Path) -> str:
         for is_strict in (False, True):
             for copies in (0, 2) if harm.is_seen else (0,):
                 try_harm(program, folder, harm, is_strict, copies)
-    for copies in (0, 2):
-        try_at_once(program, folder, copies)
+    for before, after, change in AT_ONCE:
+        try_at_once(program, folder, before, after, change)
     return "served files that are cut, overwritten, replaced and removed: noted, on each page, no copy, and with --strict no change"
 
 
@@ -67,7 +71,7 @@ def try_harm(program: Path, folder: Path, harm: Harm, is_strict: bool, copies: i
         same(server.note(), "tenant a: replaced\n", f"the note, {what}")
         same_pages(server, is_strict, what)
         same(reported(server), ["up", "up"], f"the report, {what}")
-        same(client.ask("CAS 0:1:2"), "FAULT" if is_strict else "YES", f"the next change, {what}")
+        same(client.ask(CHANGE), "FAULT" if is_strict else "YES", f"the next change, {what}")
         same_pages(server, is_strict, f"{what}, after a change")
         same(reported(server), ["down" if is_strict else "up", "up"], f"the report, {what}, after a change")
         same(other.ask("CAS 0:0:1"), "YES", f"a change of another tenant, {what}")
@@ -78,14 +82,16 @@ def try_harm(program: Path, folder: Path, harm: Harm, is_strict: bool, copies: i
         same(server.kill(), "tenant a: failed\na.mw: Stale file handle (os error 116)\n" if is_strict else "", f"further notes, {what}")
 
 
-def try_at_once(program: Path, folder: Path, copies: int) -> None:
-    """With --strict the next change after a cut is refused before the server has looked, whether a copy was asked for or not."""
+def try_at_once(program: Path, folder: Path, before: int, after: int, change: str) -> None:
+    """With --strict the next change after a cut is refused before the server has looked, whatever it is, and whether copies were asked for,
+    before the cut or after it, or not."""
     with serve(program, folder, "--clients", "4", "--strict", tenants=TENANTS) as server:
         client = Client(server.port, "a")
         same(client.ask("CAS 0:0:1"), "YES", "a change before a cut")
+        same([statuses(server, "file")[0] for _ in range(before)], [200] * before, "copies right before a cut")
         os.truncate(folder / "a.mw", LEFT)
-        same([get(server.pages, "/tenants/a/file").status for _ in range(copies)], [500] * copies, "copies right after a cut")
-        same(client.ask("CAS 0:1:2"), "FAULT", f"a change right after a cut and {copies} copies")
+        same([get(server.pages, "/tenants/a/file").status for _ in range(after)], [500] * after, "copies right after a cut")
+        same(client.ask(change), "FAULT", f"{change} after {before} copies, a cut and {after} copies")
         client.end()
 
 

@@ -35,12 +35,16 @@ KIND = re.compile(r"([A-Z]+) (\d+): mean (\d+) us, p50 (\d+) us, p90 (\d+) us, p
 KINDS = ["YES", "NO", "BUSY", "VAL"]
 FIGURES = ["changes a second", "reads a second", "refusals", "p50", "p90", "p99", "p99.9", "slowest"]
 TIMES = ["mean_us", "p50_us", "p90_us", "p95_us", "p99_us", "p99_9_us", "slowest_us"]
-DOCUMENTS = "\nDocuments: docs/OPERATING.md beside README.md, or below /usr/share/doc/mondlexi\n"
-HELP = {"mwinit": ("how many words it has, 1 to 4096\n", "\nExample: mwinit t.mw 1000 4\n", DOCUMENTS),
+DOCUMENTS = "\nDocuments: docs/{}.md beside README.md, or below /usr/share/doc/mondlexi\n"
+OPERATING = DOCUMENTS.format("OPERATING")
+HELP = {"mwinit": ("how many words it has, 1 to 4096\n", "\nExample: mwinit t.mw 1000 4\n", OPERATING),
         "mwserve": ("--clients <1..4096>", "--mode <0..777>", "\nEach line of the tenants file: name words quota path\n",
-                    "\nExample: mwinit t.mw 1000 4 && echo 't 1000 4 t.mw' > tenants && mwserve --tenants tenants --listen 127.0.0.1:7000\n", DOCUMENTS),
-        "mwbench": ("--clients <1..64>", "--reads <0..100>")}
-"""What the help of a program has: ranges, an example, the form of a tenants line, and where the documents are."""
+                    "\nExample: mwinit t.mw 1000 4 && echo 't 1000 4 t.mw' > tenants && mwserve --tenants tenants --listen 127.0.0.1:7000\n", OPERATING),
+        "mwshow": ("tells the words that are 0 too\n", "\nExample: mwshow --words t.mw\n", OPERATING),
+        "mwreplay": ("also prints each claim of a slot that is won\n", "\nExample: mwreplay --trace schedule\n", DOCUMENTS.format("SCHEDULES")),
+        "mwbench": ("--clients <1..64>", "--reads <0..100>",
+                    "\nExample: mwbench --connect 127.0.0.1:7000 --tenant t --clients 16 --words 2 --seconds 10\n", DOCUMENTS.format("BENCH"))}
+"""What the help of a program has: ranges or what an option is for, an example, the form of a tenants line, and where the documents are."""
 MOST_BUSY = 2100
 """How often a line of a client may be told BUSY in two seconds: it waits for a millisecond at least after each."""
 WRONG_SUMS = "mwbench: the words are not the sums of the replies YES\n"
