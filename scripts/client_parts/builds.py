@@ -129,12 +129,17 @@ def check_version(client: str, version: str) -> None:
         raise Different(f"the client in {client} has version {version}, the programs have {wanted}")
 
 
+def check_version_in(client: str, file: Path, version: str) -> None:
+    """A file of the client must have the version of the programs, by this pattern."""
+    found = re.search(version, file.read_text(), re.MULTILINE)
+    check_version(client, found[1] if found else f"none in {file.name}")
+
+
 def copied(client: str, folder: Path, language: str, place: str, file: str, version: str) -> "tuple[Path, str]":
     """A copy of a client's source, in which tools may write, and the program of its README. In the file is the version, by its pattern."""
     top, copy = TOP / "clients" / client, folder / "source"
     shutil.copytree(top, copy, ignore=shutil.ignore_patterns("out"))
-    found = re.search(version, (copy / file).read_text(), re.MULTILINE)
-    check_version(client.capitalize(), found[1] if found else "")
+    check_version_in(client.capitalize(), copy / file, version)
     return copy, example(top, language, place)
 
 
@@ -196,6 +201,8 @@ def over_proved(folder: Path) -> List[Program]:
 def of_c(folder: Path, place: str) -> Built:
     """By each C compiler, with its examples, a lock and TLS, and over what is proved; the program of the first one also under valgrind,
     where it is here. The page of the manual must be without faults."""
+    check_version_in("C", C / "mondlexi.h", '^#define MONDLEXI_VERSION "(.*)"$')
+    check_version_in("C", C / "mondlexi.3", '^\\.TH .* "Mondlexi (.*)" ".*"$')
     programs: List[Program] = []
     examples: List[List[str]] = []
     for compiler in [it for it in ("gcc", "clang") if shutil.which(it)] or ["cc"]:
