@@ -2,8 +2,8 @@
 libmondlexi-dev_VERSION_amd64.deb, which has the library of C, static and shared, its header, its page of the manual, and what pkg-config
 says of it.
 
-Used by: scripts/package; client_parts/builds.py, which builds a program with what the library's package has. A further language
-is a word of SOURCES, a further example in C one of DOCUMENTS.
+Used by: scripts/package; program_parts/recorded.py, which names its package; client_parts/builds.py, which builds a program with what the
+library's package has. A further language is a word of SOURCES, a further example in C one of DOCUMENTS.
 """
 import gzip
 import os
