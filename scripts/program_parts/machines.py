@@ -1,5 +1,5 @@
-"""What contrib/ha does without a volume: it serves nothing, times by the rule, the start of the unit that is refused, and locks that are waited
-for with a limit.
+"""What contrib/ha does without a volume: it serves nothing, times by the rule, the start of the unit that is refused, locks that are waited for
+with a limit, and the options that the server gets.
 
 Used by: scripts/check-programs, scripts/check-failover. TIMES is by the rule of docs/MANY-MACHINES.md: change both, and mondlexi-volume.
 """
@@ -99,9 +99,20 @@ def try_no_volume(folder: Path) -> None:
     print("contrib/ha: with --times mondlexi-ha refuses a folder that isn't there, or isn't on a volume")
 
 
+def try_options(folder: Path) -> None:
+    """mondlexi-ha gives the server what helps and isn't given anyway. A number that it is given is no option."""
+    ha, lease = SourceFileLoader("mondlexi_ha", str(KEEPER)).load_module(), str(folder / ".lease")
+    for more, limit, wanted in ((["--workers", "6"], 6.0, ["--end-on-failure", "--lease", lease, "--lease-time", "6"]),
+                                (["--workers", "6"], 0.0, ["--end-on-failure"]),
+                                (["--end-on-failure", "--lease", "own", "--lease-time", "9"], 6.0, [])):
+        found = ha.Keeper(folder, ha.Times(0.5, limit), WAITS, [str(MWSERVE), *more]).more_options(folder)
+        same(found, wanted, f"what mondlexi-ha adds to {more}, with a limit of {limit:g}")
+
+
 def try_all(folder: Path) -> None:
     """Does what the head says."""
     folder.mkdir()
+    try_options(folder)
     try_no_volume(folder)
     try_times(folder)
     try_patience(folder)
