@@ -1,6 +1,6 @@
 """HAProxy on this machine with the backend of contrib/ha, in front of the hosts.
 
-Used by: scripts/check-failover, trials.py. It replaces the servers' lines of contrib/ha/backend.cfg: change both.
+Used by: scripts/check-failover. It replaces the servers' lines of contrib/ha/backend.cfg: change both.
 """
 import socket
 import subprocess
