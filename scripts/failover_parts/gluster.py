@@ -1,6 +1,6 @@
 """A volume of GlusterFS on three hosts, each with a replica, and with the options of contrib/ha/volume-options.
 
-Used by: scripts/check-failover, scripts/check-volume, keepers.py, proxy.py, speed.py, trials.py.
+Used by: scripts/check-failover, scripts/check-volume, keepers.py, moves.py, proxy.py, speed.py, trials.py.
 """
 from pathlib import Path
 from typing import Dict

@@ -4,7 +4,7 @@ there must be a serial order of all requests, of all servers together, that agre
 
 A client asks for one thing at a time. A request that isn't answered, or is answered FAULT, may be done at any later time.
 
-Used by: cuts.py, keepers.py, speed.py, trials.py. It notes requests in the form of soak_parts/history.py.
+Used by: cuts.py, keepers.py, moves.py, speed.py, trials.py. It notes requests in the form of soak_parts/history.py.
 """
 import contextlib
 import itertools
