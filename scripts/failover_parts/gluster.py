@@ -1,6 +1,6 @@
 """A volume of GlusterFS on three hosts, each with a replica, and with the options of contrib/ha/volume-options.
 
-Used by: scripts/check-failover, scripts/check-volume, keepers.py, proxy.py, speed.py, trials.py.
+Used by: scripts/check-failover, scripts/check-volume, keepers.py, moves.py, proxy.py, speed.py, trials.py.
 """
 from pathlib import Path
 from typing import Dict
@@ -15,6 +15,8 @@ FOLDERS = ("/var/lib/glusterd", "/var/log/glusterfs", "/etc/glusterfs", "/brick"
 """What of a host stays when it dies."""
 NEEDS = ("glusterd", "gluster", "mount.glusterfs")
 SCRIPT = TOP / "contrib/ha/mondlexi-volume"
+MOUNT_PROCESS = "--process-name fuse"
+"""A part of the command line of the process of a mount."""
 MOUNT = f"mount -t glusterfs -o direct-io-mode=enable,backup-volfile-servers=ha1:ha2:ha3 localhost:/{VOLUME} {MOUNTED}"
 
 
@@ -58,8 +60,14 @@ def again(*hosts: Host) -> None:
         mount(host, MOUNT, "fuse.glusterfs")
 
 
+def mount_anew(host: Host) -> None:
+    """Of a host whose mount's process has died, as docs/MANY-MACHINES has it."""
+    until(lambda: not host.run("umount", MOUNTED, may_fail=True), f"{host.name} lets the volume go")
+    mount(host, MOUNT, "fuse.glusterfs")
+
+
 def healed(network: Network, seconds: float) -> None:
-    """Until all replicas are there, and equal as the engine sees it; but for the lock's file, which is written to all the time."""
+    """Until all replicas are there, and equal as the engine sees it; but for the files of the lock and the lease, which are written to all the time."""
     host = next(host for host in network.hosts if host.begun)
 
     def told() -> str:
@@ -67,7 +75,7 @@ def healed(network: Network, seconds: float) -> None:
 
     def are_equal() -> bool:
         now = told()
-        behind = [line for line in now.splitlines() if line.startswith(("/", "<")) and not line.strip().endswith("/lock")]
+        behind = [line for line in now.splitlines() if line.startswith(("/", "<")) and not line.strip().endswith(("/lock", "/.lease"))]
         return now.count("Status: Connected") == 3 and not behind
 
     until(are_equal, lambda: f"all replicas are equal: {told()}", seconds)

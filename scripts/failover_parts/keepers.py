@@ -1,6 +1,6 @@
 """The server on each host, started again whenever it ends, as a service manager does: by contrib/ha/mondlexi-ha, or mwserve alone.
 
-Used by: scripts/check-failover, cuts.py, proxy.py, speed.py, trials.py. An option of mondlexi-ha that the pages name is tried here.
+Used by: scripts/check-failover, cuts.py, moves.py, proxy.py, speed.py, trials.py. An option of mondlexi-ha that the pages name is tried here.
 """
 import re
 import signal
@@ -8,7 +8,7 @@ import subprocess
 import threading
 import time
 from pathlib import Path
-from typing import Dict, List, NamedTuple, Optional
+from typing import Dict, List, NamedTuple, Optional, Sequence
 
 from program_parts.common import MWINIT, MWSERVE
 
@@ -21,17 +21,21 @@ SERVER = "a"
 KEEPER = gluster.TOP / "contrib/ha/mondlexi-ha"
 TIMES = "/run/times"
 FILE = f"{TENANT}.mw"
-MANAGED = f"""
+def kept(server: str, port: int) -> str:
+    """A script that keeps a server on a host, whose address is given to it."""
+    return f"""
 while :; do
   {gluster.SCRIPT} times {gluster.VOLUME} --write {TIMES}
-  [ -e {TIMES} ] && {KEEPER} {gluster.MOUNTED}/{SERVER} --times {TIMES} -- {MWSERVE} --strict --verbose --workers 32 --open --listen "$1"
+  [ -e {TIMES} ] && {KEEPER} {gluster.MOUNTED}/{server} --times {TIMES} -- {MWSERVE} --strict --verbose --workers 32 --open --listen "$1:{port}"
   sleep 1
 done
 """
+
+
 BARE = f"""
 cd {gluster.MOUNTED}/{SERVER}/first
 while :; do
-  {MWSERVE} --tenants tenants --strict --workers 32 --open --listen "$1"
+  {MWSERVE} --tenants tenants --strict --workers 32 --open --listen "$1:{PORT}"
   sleep 0.3
 done
 """
@@ -52,7 +56,7 @@ class Keeper:
         self.host, self.notes = host, notes
         # (In a file: its processes are found by their command lines.)
         host.path("/run/keeper").write_text(script)
-        words = host.words("bash", "/run/keeper", f"{host.address}:{PORT}")
+        words = host.words("bash", "/run/keeper", host.address)
         self.process = subprocess.Popen(words, stdin=subprocess.DEVNULL, stdout=subprocess.PIPE, stderr=subprocess.STDOUT)
         threading.Thread(target=self.hear, daemon=True).start()
 
@@ -75,8 +79,8 @@ class Keeper:
 class Keepers:
     """One on each host."""
 
-    def __init__(self, network: Network, script: str = MANAGED):
-        self.network, self.script = network, script
+    def __init__(self, network: Network, script: str = ""):
+        self.network, self.script = network, script or kept(SERVER, PORT)
         self.notes: List[Note] = []
         self.kept: Dict[int, Keeper] = {}
         for host in network.hosts:
@@ -109,14 +113,16 @@ class Keepers:
             keeper.end()
 
 
-def new_tenant(host: Host) -> None:
-    """The folder of a server with one tenant, whose words are 0."""
-    folder = f"{gluster.MOUNTED}/{SERVER}"
+def new_tenant(host: Host, server: str = SERVER, names: Sequence[str] = (TENANT,)) -> None:
+    """The folder of a server with one tenant, or more, whose words are 0."""
+    folder = f"{gluster.MOUNTED}/{server}"
     host.run("sh", "-c", f"rm -rf {folder}; mkdir -p {folder}/first")
-    host.run("sh", "-c", f"cd {folder}/first && {MWINIT} {FILE} {WORDS} {QUOTA} && echo '{TENANT} {WORDS} {QUOTA} {FILE}' > tenants && sync tenants . .. ../..")
+    for it in names:
+        host.run("sh", "-c", f"cd {folder}/first && {MWINIT} {it}.mw {WORDS} {QUOTA} && echo '{it} {WORDS} {QUOTA} {it}.mw' >> tenants")
+    host.run("sh", "-c", f"cd {folder}/first && sync tenants . .. ../..")
 
 
-def counted(host: Host) -> Path:
-    """The folder that counts, below the volume."""
-    return Path(host.run(KEEPER, "--show", f"{gluster.MOUNTED}/{SERVER}").strip()).relative_to(gluster.MOUNTED)
+def counted(host: Host, server: str = SERVER) -> Path:
+    """The folder of a server that counts, below the volume."""
+    return Path(host.run(KEEPER, "--show", f"{gluster.MOUNTED}/{server}").strip()).relative_to(gluster.MOUNTED)
 

@@ -4,7 +4,7 @@ there must be a serial order of all requests, of all servers together, that agre
 
 A client asks for one thing at a time. A request that isn't answered, or is answered FAULT, may be done at any later time.
 
-Used by: cuts.py, keepers.py, speed.py, trials.py. It notes requests in the form of soak_parts/history.py.
+Used by: cuts.py, keepers.py, moves.py, speed.py, trials.py. It notes requests in the form of soak_parts/history.py.
 """
 import contextlib
 import itertools
@@ -12,12 +12,12 @@ import random
 import socket
 import threading
 import time
-from typing import Dict, List, NamedTuple, Optional, Sequence, Tuple, Union
+from typing import Dict, List, NamedTuple, Sequence, Set, Tuple, Union
 
 from soak_parts.checker import judge
-from soak_parts.history import NOTHING, UNDECIDED, Answer, Entry, Epoch, Request
+from soak_parts.history import NOTHING, UNDECIDED, Answer, Entry, Epoch, Request, reply_of
 
-from .hosts import Wrong, until
+from .hosts import until
 from .named import NAME, NamedSession
 
 WORDS = 8
@@ -63,7 +63,7 @@ class Session:
         reply = self.lines.readline()
         if not reply.endswith(b"\n"):
             raise OSError("closed")
-        return reply.decode().rstrip("\n")
+        return reply.decode(errors="replace").rstrip("\n")
 
     def close(self) -> None:
         with contextlib.suppress(OSError):
@@ -72,21 +72,23 @@ class Session:
 
 
 class Load:
-    """Clients at places. `writers` change and read, each at a place as long as it answers, then at the next one; `readers` have a place each, and
-    only read."""
+    """Clients at places. `writers` change and read, each at a place as long as it answers, then at the next one; so does one by each of `ways`, a
+    place that leads to the others. `readers` have a place each, and only read."""
 
-    def __init__(self, places: Sequence[Place], proxy: Optional[Place], writers: int, pause: float, dice: random.Random):
-        self.places, self.pause, self.seed = list(places), pause, dice.random()
+    def __init__(self, places: Sequence[Place], ways: Sequence[Place], writers: int, pause: float, dice: random.Random):
+        self.places, self.ways, self.pause, self.seed = list(places), list(ways), pause, dice.random()
         self.first: Tuple[int, ...] = ()
         self.values = itertools.count(1 << 20)
         self.sessions = itertools.count(1)
         self.words: List[int] = []
         self.requests: List[Request] = []
         self.at: Dict[int, Place] = {}
+        self.wrong: List[str] = []
+        """What was answered that is no reply."""
         self.is_over = False
         self.is_idle = False
         work = [(self.write, [self.places[it % len(self.places):] + self.places[:it % len(self.places)]]) for it in range(writers)]
-        work += [(self.write, [[place]]) for place in (proxy, (NAME, self.places[0][1])) if place]
+        work += [(self.write, [[way]]) for way in self.ways]
         work += [(self.read, [place]) for place in self.places]
         self.threads = [threading.Thread(target=call, args=(*arguments, random.Random(f"{self.seed} {number}")), daemon=True)
                         for number, (call, arguments) in enumerate(work)]
@@ -148,15 +150,11 @@ class Load:
         self.requests.append(request)
         line = session.say(request.line())
         now = time.monotonic_ns()
-        word, *texts = line.split(" ")
-        if word not in Answer.__members__ or word == "NONE":
-            raise Wrong(f"{request.line()}: answered {line!r}")
-        request.reply = request.reply._replace(answer=Answer(word))
-        numbers = [int(text) for text in texts]
-        if request.reply.answer is Answer.VAL:
-            request.reply = request.reply._replace(value=numbers[0])
-        elif request.reply.answer is Answer.NO:
-            request.reply = request.reply._replace(address=numbers[0], value=numbers[1])
+        try:
+            request.reply = reply_of(line)
+        except ValueError as error:
+            self.wrong.append(f"{request.line()}: answered {line!r}")
+            raise OSError("no reply") from error
         request.told = request.until = now
         request.teach(self.words)
         if request.reply.answer is Answer.FAULT:
@@ -173,13 +171,17 @@ class Load:
         told = [Told(it.told, self.at[it.session]) for it in list(self.requests) if it.reply.answer is Answer.YES and it.told]
         return sorted(told)
 
+    def places_of_yes(self, number: int) -> Set[Place]:
+        """The places that answered YES to a change, but for the first requests of this number."""
+        return {self.at[it.session] for it in self.requests[number:] if it.reply.answer is Answer.YES and it.told}
+
     def gap(self, begin: int, end: int) -> float:
         """The longest time without a YES between two moments, in seconds."""
         moments = [begin, *(it.at for it in self.yes() if begin <= it.at <= end), end]
         return max(later - earlier for earlier, later in zip(moments, moments[1:])) / 1e9
 
     def complaints(self, last: Sequence[int], only_changes: bool) -> List[str]:
-        """What is wrong with the replies, or with those to changes alone, if the words are these at the end."""
+        """What is wrong with the replies, or with those to changes alone, if the words are these at the end; and what is no reply."""
         end, judged = time.monotonic_ns(), []
         for it in list(self.requests):
             if it.reply.answer in UNDECIDED:
@@ -187,7 +189,7 @@ class Load:
             if it.is_change or it.told and not only_changes:
                 judged.append(it)
         judged.sort(key=lambda it: it.sent)
-        return judge(Epoch(TENANT, self.first, judged, tuple(last), QUOTA)).complaints
+        return self.wrong + judge(Epoch(TENANT, self.first, judged, tuple(last), QUOTA)).complaints
 
     def counts(self) -> Dict[str, int]:
         """How many replies of each kind there were."""

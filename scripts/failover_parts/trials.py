@@ -11,11 +11,10 @@ from typing import Callable, Dict, Iterator, List, NamedTuple, Optional, Sequenc
 
 from . import gluster
 from .bricks import Recorder
-from .hosts import Host, Network, until
+from .hosts import Host, Network, Wrong, until
 from .keepers import BARE, FILE, PORT, Keepers, counted, new_tenant
-from .load import Load, words_at
+from .load import Load, Place, words_at
 from .power import Device
-from .proxy import Proxy
 
 WRITERS = 4
 LOADED = 0.004
@@ -26,6 +25,8 @@ AWAY = 16.0
 """For how many seconds a host is cut off, or stopped: for longer than its locks stay."""
 PATIENCE = 90.0
 CHANGES = 20
+KEPT, LEASE = "kept-", "mondlexi lease "
+"""How the names of mondlexi-ha's folders begin, and the text of a lease."""
 FROZEN, STOPPED = "the serving host is frozen, and goes on", "the serving host's processes are stopped, and go on"
 
 
@@ -53,10 +54,10 @@ class Seen(NamedTuple):
 
 
 class Trials:
-    """Hosts with a volume and servers' keepers, on which trials are made."""
+    """Hosts with a volume and servers' keepers, on which trials are made. By each of `ways` a client finds the host that serves."""
 
-    def __init__(self, network: Network, keepers: Keepers, dice: random.Random, proxy: Optional[Proxy], devices: Optional[Dict[int, Device]] = None):
-        self.network, self.keepers, self.dice, self.proxy, self.devices = network, keepers, dice, proxy, devices or {}
+    def __init__(self, network: Network, keepers: Keepers, dice: random.Random, ways: Sequence[Place], devices: Optional[Dict[int, Device]] = None):
+        self.network, self.keepers, self.dice, self.ways, self.devices = network, keepers, dice, ways, devices or {}
         self.words: Sequence[int] = ()
         """The words at the end of the trial before."""
         self.unsynced = 0
@@ -72,14 +73,14 @@ class Trials:
         """Lets clients ask while something is done to the hosts."""
         places = self.keepers.places()
         host = self.keepers.serving()
-        load = Load(places, self.proxy.place if self.proxy else None, WRITERS, LOADED, self.dice)
+        load = Load(places, self.ways, WRITERS, LOADED, self.dice)
         first = words_at(places, PATIENCE)
         load.begin(first)
         try:
             time.sleep(self.dice.uniform(*BEFORE))
             begun = time.monotonic_ns()
             act(self, load, host)
-            self.wait_for_yes(load, time.monotonic_ns())
+            self.wait_for_yes(load)
             time.sleep(AFTER)
         finally:
             load.end()
@@ -91,10 +92,12 @@ class Trials:
         counts = load.counts()
         return Seen(what, load.gap(begun, ended), counts.get("YES", 0), counts.get("VAL", 0), *found)
 
-    def wait_for_yes(self, load: Load, since: int) -> None:
-        """Until a change that was asked for now is answered YES."""
-        until(lambda: any(it.told and it.told > since and it.sent > since for it in load.requests[-2000:] if it.reply.answer.value == "YES"),
-              lambda: f"a change is answered YES: {self.keepers.last_notes()}", PATIENCE, 0.05)
+    def wait_for_yes(self, load: Load) -> None:
+        """Until a change that is asked for from now on is answered YES, and one by each way."""
+        number = len(load.requests)
+        until(lambda: load.places_of_yes(number), lambda: f"a change is answered YES: {self.keepers.last_notes()}", PATIENCE, 0.05)
+        for way in load.ways:
+            until(lambda: way in load.places_of_yes(number), lambda: f"a change by {way} is answered YES: {self.keepers.last_notes()}", PATIENCE, 0.05)
 
     def two_servers(self, load: Load) -> List[str]:
         """What tells that a server said YES after the start of another one."""
@@ -120,10 +123,14 @@ class Trials:
             self.keepers.begin(host)
 
     def equal(self) -> None:
-        """Until all replicas of the tenant's file have the same bytes, while nobody writes."""
+        """Until all replicas of the tenant's file have the same bytes, while nobody writes. The server's lease is beside it."""
         gluster.healed(self.network, PATIENCE)
-        file = counted(self.keepers.serving()) / FILE
-        until(lambda: len(set(gluster.replicas(self.network, str(file)).values())) == 1, "the replicas have the same bytes", PATIENCE)
+        host = self.keepers.serving()
+        folder = counted(host)
+        until(lambda: len(set(gluster.replicas(self.network, f"{folder}/{FILE}").values())) == 1, "the replicas have the same bytes", PATIENCE)
+        lease = host.run("cat", f"{gluster.MOUNTED}/{folder}/.lease")
+        if not lease.startswith(LEASE):
+            raise Wrong(f"the file of the server's lease has {lease!r}")
 
     def anew(self) -> None:
         """A server that is started now writes to all replicas; one that runs, not to one that was away."""
@@ -135,9 +142,12 @@ class Trials:
     # What is done.
 
     def die(self, load: Load, host: Host) -> None:
-        """The serving host dies."""
+        """The serving host dies. Another serves, in a folder of its own."""
         host.die()
-        self.until_taken(host)
+        new = self.until_taken(host)
+        name = counted(new).name
+        if not name.startswith(KEPT) or f"-{new.name}-" not in name:
+            raise Wrong(f"{new.name} serves {name}")
 
     def come_back(self, load: Load, host: Host) -> None:
         """A host that died comes back, and its replica is made equal."""
@@ -242,11 +252,22 @@ class Trials:
         time.sleep(1)
 
 
+    def mount_dies(self, load: Load, host: Host) -> None:
+        """The process of the serving host's mount is killed. Another host serves, and the volume is mounted anew."""
+        if len(host.signal(signal.SIGKILL, gluster.MOUNT_PROCESS)) != 1:
+            raise Wrong(f"{host.name} has no process of its mount, or several")
+        self.until_taken(host)
+        self.keepers.kept[host.number].end()
+        gluster.mount_anew(host)
+        self.keepers.begin(host)
+
+
 CUTS = (("the serving host is cut off from the others, busy", Trials.alone),
         ("the serving host is cut off from the others, idle", Trials.alone_and_idle))
 LONGER = (("the way between the serving host and another is cut", Trials.one_way),
           ("the way between the two others is cut", Trials.other_way),
           ("a host that doesn't serve dies and comes back", Trials.other_dies),
+          ("the process of the serving host's mount is killed", Trials.mount_dies),
           (FROZEN, Trials.frozen), (STOPPED, Trials.stopped))
 """The trials that a short run leaves out."""
 
@@ -291,7 +312,7 @@ def planted(network: Network, dice: random.Random, options: Sequence[str]) -> Se
     keepers = Keepers(network, BARE)
     try:
         keepers.serving()
-        trials = Trials(network, keepers, dice, None)
+        trials = Trials(network, keepers, dice, [])
         return trials.run(f"mwserve alone with {' '.join(options)}, cut off while idle", Trials.alone_and_idle)
     finally:
         network.mend()

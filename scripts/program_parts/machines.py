@@ -1,21 +1,24 @@
-"""What contrib/ha does without a volume: it serves nothing, times by the rule, the start of the unit that is refused, and locks that are waited
-for with a limit.
+"""What contrib/ha does without a volume: it serves nothing, times by the rule, the start of the unit that is refused, locks that are waited for
+with a limit, the options that the server gets, and pauses.
 
 Used by: scripts/check-programs, scripts/check-failover. TIMES is by the rule of docs/MANY-MACHINES.md: change both, and mondlexi-volume.
 """
 import contextlib
 import fcntl
 import io
+import os
 import re
+import socket
+import subprocess
 import sys
 import time
 from importlib.machinery import SourceFileLoader
 from pathlib import Path
-from typing import Dict, List
+from typing import Callable, Dict, List
 from unittest import mock
 
-from .common import MWINIT, MWSERVE, PATIENCE, TOP, ran, same
-from .served import make_tenants
+from .common import MWINIT, MWSERVE, PATIENCE, TOP, ran, same, wrong
+from .served import HOST, make_tenants
 
 HA = TOP / "contrib/ha"
 UNIT, KEEPER, VOLUME = (HA / name for name in ("mondlexi-ha@.service", "mondlexi-ha", "mondlexi-volume"))
@@ -27,6 +30,7 @@ the server's lease needs not: 5/8 + 2 * 2 + 0.5 is more than 5."""
 SHAPE = {"replica_count": "3", "arbiter_count": "0", "thin_arbiter_count": "0", "disperse_count": "0"}
 LIMITED = "beat 0.5\nlimit 6\nrelease 7\n"
 WAITS = 1.0
+PAUSES = 2
 MOUNTS = """+/bin/sh -c 'systemctl start "$(systemd-escape -p --suffix=mount "$MOUNTED")"'"""
 """What the unit runs first at each start: a host that was the first to come back couldn't mount the volume at boot."""
 ON_VOLUME = """import sys
@@ -99,9 +103,71 @@ def try_no_volume(folder: Path) -> None:
     print("contrib/ha: with --times mondlexi-ha refuses a folder that isn't there, or isn't on a volume")
 
 
+def try_options(folder: Path) -> None:
+    """mondlexi-ha gives the server what helps and isn't given anyway. A number that it is given is no option."""
+    ha = SourceFileLoader("mondlexi_ha", str(KEEPER)).load_module()
+    for more, limit, wanted in ((["--workers", "6"], 6.0, ["--end-on-failure", "--lease", ".lease", "--lease-time", "6"]),
+                                (["--workers", "6"], 0.0, ["--end-on-failure"]),
+                                (["--end-on-failure", "--lease", "own", "--lease-time", "9"], 6.0, [])):
+        found = ha.Keeper(folder, ha.Times(0.5, limit), WAITS, [str(MWSERVE), *more]).more_options()
+        same(found, wanted, f"what mondlexi-ha adds to {more}, with a limit of {limit:g}")
+
+
+def try_pauses(folder: Path) -> None:
+    """While there is a pause mondlexi-ha keeps no server, and has no file open. Then it keeps one again, which dies with it."""
+    times = folder / "times-of-pauses"
+    times.write_text(LIMITED)
+    for name, words in (("paused", [KEEPER]), ("paused-on-a-volume", [sys.executable, "-c", ON_VOLUME, KEEPER])):
+        room = folder / name
+        (room / "first").mkdir(parents=True)
+        make_tenants(MWINIT, room / "first", {"t": 2}, 1)
+        more = ["--times", times] if len(words) > 1 else []
+        command = [str(it) for it in (*words, room, *more, "--", MWSERVE, "--listen", f"{HOST}:0")]
+        keeper = subprocess.Popen(command, stdin=subprocess.DEVNULL, stdout=subprocess.PIPE, stderr=subprocess.DEVNULL, text=True)
+        assert keeper.stdout
+        try:
+            for _ in range(PAUSES):
+                port = int(keeper.stdout.readline().split()[1])
+                (room / "pause").touch()
+                until(lambda: not is_served(port) and not open_files(keeper.pid, room), f"a pause of {name}")
+                (room / "pause").unlink()
+            port = int(keeper.stdout.readline().split()[1])
+            same(is_served(port), True, f"the server after the pauses of {name}")
+        finally:
+            keeper.kill()
+            keeper.communicate()
+        until(lambda: not is_served(port), f"the death of the server of {name}")
+    print(f"contrib/ha: after each of {PAUSES} pauses mondlexi-ha keeps a server, and the last one dies with it")
+
+
+def is_served(port: int) -> bool:
+    with contextlib.suppress(OSError), socket.create_connection((HOST, port), PATIENCE):
+        return True
+    return False
+
+
+def open_files(process: int, folder: Path) -> List[str]:
+    """What a process has open below a folder."""
+    found: List[str] = []
+    for it in Path(f"/proc/{process}/fd").iterdir():
+        with contextlib.suppress(OSError):
+            found.append(os.readlink(it))
+    return [it for it in found if it.startswith(f"{folder}/")]
+
+
+def until(is_so: Callable[[], bool], what: str) -> None:
+    end = time.monotonic() + PATIENCE
+    while not is_so():
+        if time.monotonic() > end:
+            wrong(f"{what}: not within {PATIENCE} seconds")
+        time.sleep(0.05)
+
+
 def try_all(folder: Path) -> None:
     """Does what the head says."""
     folder.mkdir()
+    try_options(folder)
     try_no_volume(folder)
     try_times(folder)
     try_patience(folder)
+    try_pauses(folder)
