@@ -9,9 +9,7 @@
 mod promise;
 
 use mw_main::{Program, run};
-use mw_programs::{
-    Network, Printed, PromptErrors, ServedApart, ServerEnd, ends_on_failure, serve,
-};
+use mw_programs::{Network, Printed, PromptErrors, ServedApart, ServerEnd, ends_on_failure, serve};
 use promise::EngineServes;
 use std::process::ExitCode;
 use std::thread;
