@@ -20,8 +20,6 @@ from .runs import PLACE
 TOP = Path(__file__).resolve().parent.parent.parent
 PLAY = Path(__file__).resolve().parent / "play.py"
 VERSION = TOP / "crates/mw_main/src/lib.rt"
-PROVED = TOP / "crates/mw_client_c/out/libmw_client_c.a"
-"""The proved lines and readings for C, as `rt lib` builds them."""
 C = TOP / "clients/c"
 LEAST_NODE = 20
 TYPES_OF_NODE = "declare module 'node:tls' { export interface ConnectionOptions { servername?: string } }\n"
@@ -187,9 +185,9 @@ def over_proved(folder: Path) -> List[Program]:
     """Over the proved lines and readings, where `rt` is here, which builds them if they aren't built yet."""
     if not OVER_PROVED.is_here():
         return []
-    if not PROVED.is_file():
-        ran("rt", "lib", at=PROVED.parent.parent)
-    ran("make", f"OUT={folder}/out", f"PROVED={PROVED}", "all", f"{folder}/out/play", at=C)
+    if not packed.PROVED.is_file():
+        ran("rt", "lib", at=packed.PROVED.parent.parent)
+    ran("make", f"OUT={folder}/out", f"PROVED={packed.PROVED}", "all", f"{folder}/out/play", at=C)
     return [Program("c over mw_client_c", [f"{folder}/out/play"])]
 
 
