@@ -65,6 +65,9 @@ class Program(NamedTuple):
     is_slow: bool = False
 
 
+PYTHON, ASYNCIO = Program("python", [sys.executable, str(PLAY)]), Program("asyncio", [sys.executable, str(PLAY), "--asyncio"])
+
+
 class Built(NamedTuple):
     """A client that is built.
 
@@ -136,14 +139,16 @@ def copied(client: str, folder: Path, language: str, place: str, file: str, vers
     return copy, example(top, language, place)
 
 
-def of_python(*_: object) -> Built:
-    """Nothing is built."""
-    return Built([Program("python", [sys.executable, str(PLAY)])])
+def of_python(folder: Path, place: str) -> Built:
+    """Nothing is built. The program of its README finds the package by its folder."""
+    source, own = TOP / "clients/python", folder / "example.py"
+    own.write_text(example(source, "python", place))
+    return Built([PYTHON], [["env", f"PYTHONPATH={source}", sys.executable, "-B", str(own)]])
 
 
 def of_asyncio(*_: object) -> Built:
     """Nothing is built."""
-    return Built([Program("asyncio", [sys.executable, str(PLAY), "--asyncio"])])
+    return Built([ASYNCIO])
 
 
 def over_shared(program: Path, libraries: Path) -> List[str]:
