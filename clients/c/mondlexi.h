@@ -105,7 +105,7 @@ typedef struct {
     unsigned quota;     /* how many changes it may have under way at a time, 1 to 64 */
     unsigned places;    /* the greatest quota that a start of the server may give it; 0 if its file didn't open or doesn't fit */
     unsigned under_way; /* how many changes are under way */
-    int is_up;          /* if not, its calls answer MONDLEXI_FAULT */
+    int up;             /* if not, its calls answer MONDLEXI_FAULT */
 } mondlexi_tenant;
 
 /* How all tenants are, in the order of the server's tenants file. Each number is of its own moment. */

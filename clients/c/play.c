@@ -120,7 +120,7 @@ static void tell_report(void) {
     }
     for (size_t k = 0; k < report.count; k++) {
         mondlexi_tenant *it = &report.tenants[k];
-        printf("tenant %s %u %u %u %u %s; ", it->name, it->words, it->quota, it->places, it->under_way, it->is_up ? "up" : "down");
+        printf("tenant %s %u %u %u %u %s; ", it->name, it->words, it->quota, it->places, it->under_way, it->up ? "up" : "down");
     }
     printf("free %u", report.free);
 }

@@ -235,9 +235,9 @@ static int tenant_of(const char *line, mondlexi_tenant *tenant) {
         !column(&at, &tenant->under_way)) {
         return 0;
     }
-    tenant->is_up = !strcmp(at, " up");
+    tenant->up = !strcmp(at, " up");
     snprintf(again, sizeof again, "%-16s %4u %2u %2u %2u %s", tenant->name, tenant->words, tenant->quota, tenant->places,
-             tenant->under_way, tenant->is_up ? "up" : "down");
+             tenant->under_way, tenant->up ? "up" : "down");
     return !strcmp(line, again);
 }
 

@@ -14,14 +14,14 @@ type Client struct {
 	session session
 }
 
-// Dial connects to a server, and speaks for a tenant from then on.
+// Connect connects to a server, and speaks for a tenant from then on.
 //
 // server is where it listens. HOST:PORT: a name, or an address (of IPv6 in brackets), and a port from 1 to 65535; or unix:PATH: the
 // path of a local socket, 1 to 107 bytes. tenant: a letter a to z, then up to 15 of a to z, 0 to 9 and "-". options: nil for
 // DefaultOptions. The context is for connecting alone.
 //
 // Its failures: ErrInvalid, with nothing sent; ErrLost; ErrFull; ErrRefused, with number 5, if no tenant has the name.
-func Dial(ctx context.Context, server, tenant string, options *Options) (*Client, error) {
+func Connect(ctx context.Context, server, tenant string, options *Options) (*Client, error) {
 	client := &Client{}
 	greeting, err := tenantGreeting(tenant, &client.session.greeted)
 	if err != nil {
@@ -208,8 +208,8 @@ type Administrator struct {
 	session session
 }
 
-// DialAdministrator connects to a server, perhaps at a place for the administrator alone. Otherwise as Dial.
-func DialAdministrator(ctx context.Context, server string, options *Options) (*Administrator, error) {
+// ConnectAdministrator connects to a server, perhaps at a place for the administrator alone. Otherwise as Connect.
+func ConnectAdministrator(ctx context.Context, server string, options *Options) (*Administrator, error) {
 	administrator := &Administrator{}
 	administrator.session.greeting = administratorGreeting()
 	if err := administrator.session.begin(ctx, server, options); err != nil {

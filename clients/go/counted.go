@@ -25,11 +25,11 @@ type Counted struct {
 	isMade      bool // whether the last change was made, or, if it is undecided, may have been
 }
 
-// NewCounted begins, at the count's address. wait is for how long to connect the client anew and ask again, while that fails or the
+// BeginCounted begins, at the count's address. wait is for how long to connect the client anew and ask again, while that fails or the
 // server is busy.
 //
 // It moves the count: from then on no change of an earlier Counted of it is made any more. Its failures are those of Client.CAS.
-func NewCounted(ctx context.Context, client *Client, address int, wait time.Duration) (*Counted, error) {
+func BeginCounted(ctx context.Context, client *Client, address int, wait time.Duration) (*Counted, error) {
 	if err := checkTime("wait", wait); err != nil {
 		return nil, err
 	}

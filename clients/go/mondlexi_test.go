@@ -65,7 +65,7 @@ func usual(line string) string {
 }
 
 func dialed(t *testing.T, at string, options *Options) *Client {
-	client, err := Dial(context.Background(), at, "t", options)
+	client, err := Connect(context.Background(), at, "t", options)
 	if err != nil {
 		t.Fatal(err)
 	}
@@ -98,7 +98,7 @@ func TestAReplyThatIsLate(t *testing.T) {
 	}
 	silent := listen(t)
 	defer silent.Close()
-	_, err := Dial(context.Background(), silent.Addr().String(), "t", &options)
+	_, err := Connect(context.Background(), silent.Addr().String(), "t", &options)
 	wanted := "mondlexi: no connection: TENANT t: connected, but no reply in 300ms; perhaps all sessions are taken (mwserve --clients)"
 	if !errors.Is(err, ErrLost) || err.Error() != wanted {
 		t.Fatalf("a client: %v", err)
@@ -112,7 +112,7 @@ func TestAContextThatIsOverBeforeACall(t *testing.T) {
 	if _, err := client.Get(ctx, 7); !errors.Is(err, ErrLost) || !errors.Is(err, context.Canceled) {
 		t.Fatalf("a get: %v", err)
 	}
-	if _, err := Dial(ctx, client.session.at.host+":"+client.session.at.port, "t", nil); !errors.Is(err, ErrLost) {
+	if _, err := Connect(ctx, client.session.at.host+":"+client.session.at.port, "t", nil); !errors.Is(err, ErrLost) {
 		t.Fatalf("a client: %v", err)
 	}
 	client.Close()
@@ -128,7 +128,7 @@ func TestACountWhoseContextIsOver(t *testing.T) {
 		return usual(line)
 	})
 	client := dialed(t, at, nil)
-	own, err := NewCounted(context.Background(), client, 5, 10*time.Second)
+	own, err := BeginCounted(context.Background(), client, 5, 10*time.Second)
 	if err != nil {
 		t.Fatal(err)
 	}
@@ -192,10 +192,10 @@ func TestTLS(t *testing.T) {
 	}
 	client.Close()
 	options.TLS = &tls.Config{}
-	if _, err := Dial(context.Background(), at, "t", &options); !errors.Is(err, ErrLost) || errors.Is(err, ErrFull) {
+	if _, err := Connect(context.Background(), at, "t", &options); !errors.Is(err, ErrLost) || errors.Is(err, ErrFull) {
 		t.Fatalf("a certificate that nobody trusts: %v", err)
 	}
-	if _, err := Dial(context.Background(), "unix:s", "t", &options); !errors.Is(err, ErrInvalid) {
+	if _, err := Connect(context.Background(), "unix:s", "t", &options); !errors.Is(err, ErrInvalid) {
 		t.Fatalf("TLS at a local socket: %v", err)
 	}
 }

@@ -20,8 +20,6 @@ from .runs import PLACE
 TOP = Path(__file__).resolve().parent.parent.parent
 PLAY = Path(__file__).resolve().parent / "play.py"
 VERSION = TOP / "crates/mw_main/src/lib.rt"
-PROVED = TOP / "crates/mw_client_c/out/libmw_client_c.a"
-"""The proved lines and readings for C, as `rt lib` builds them."""
 C = TOP / "clients/c"
 LEAST_NODE = 20
 TYPES_OF_NODE = "declare module 'node:tls' { export interface ConnectionOptions { servername?: string } }\n"
@@ -65,6 +63,9 @@ class Program(NamedTuple):
     name: str
     words: Sequence[str]
     is_slow: bool = False
+
+
+PYTHON, ASYNCIO = Program("python", [sys.executable, str(PLAY)]), Program("asyncio", [sys.executable, str(PLAY), "--asyncio"])
 
 
 class Built(NamedTuple):
@@ -143,14 +144,16 @@ def copied(client: str, folder: Path, language: str, place: str, file: str, vers
     return copy, example(top, language, place)
 
 
-def of_python(*_: object) -> Built:
-    """Nothing is built."""
-    return Built([Program("python", [sys.executable, str(PLAY)])])
+def of_python(folder: Path, place: str) -> Built:
+    """Nothing is built. The program of its README finds the package by its folder."""
+    source, own = TOP / "clients/python", folder / "example.py"
+    own.write_text(example(source, "python", place))
+    return Built([PYTHON], [["env", f"PYTHONPATH={source}", sys.executable, "-B", str(own)]])
 
 
 def of_asyncio(*_: object) -> Built:
     """Nothing is built."""
-    return Built([Program("asyncio", [sys.executable, str(PLAY), "--asyncio"])])
+    return Built([ASYNCIO])
 
 
 def over_shared(program: Path, libraries: Path) -> List[str]:
@@ -192,9 +195,9 @@ def over_proved(folder: Path) -> List[Program]:
     """Over the proved lines and readings, where `rt` is here, which builds them if they aren't built yet."""
     if not OVER_PROVED.is_here():
         return []
-    if not PROVED.is_file():
-        ran("rt", "lib", at=PROVED.parent.parent)
-    ran("make", f"OUT={folder}/out", f"PROVED={PROVED}", "all", f"{folder}/out/play", at=C)
+    if not packed.PROVED.is_file():
+        ran("rt", "lib", at=packed.PROVED.parent.parent)
+    ran("make", f"OUT={folder}/out", f"PROVED={packed.PROVED}", "all", f"{folder}/out/play", at=C)
     return [Program("c over mw_client_c", [f"{folder}/out/play"])]
 
 

@@ -11,7 +11,7 @@ import time
 from pathlib import Path
 from typing import List, Optional
 
-from .table import Case, Step, bytes_of
+from .table import LEAST_BUSY, Case, Step, bytes_of
 
 HOST = "127.0.0.1"
 PATIENCE = 30.0
@@ -134,6 +134,7 @@ class Peer:
 
     def _busy(self, text: str) -> None:
         count, _, line = text.partition(" ")
+        pauses: List[float] = []
         longest: List[float] = []
         for number in range(int(count)):
             began, usual = time.monotonic(), min(2 ** number, LONGEST_PAUSE)
@@ -142,7 +143,11 @@ class Peer:
             pause = (time.monotonic() - began) * 1000
             if not usual / 2 - EARLY <= pause <= usual + LATE:
                 raise Different(f"pause {number + 1} took {pause:.1f} ms, and has {usual / 2:g} to {usual}")
+            pauses.append(pause)
             longest += [pause] * (usual == LONGEST_PAUSE)
+        first = pauses[:LEAST_BUSY]
+        if min(first) >= LONGEST_PAUSE / 2 - EARLY:
+            raise Different(f"the first pauses are not short: {', '.join(f'{pause:.1f}' for pause in first)} ms")
         if longest and (min(longest) >= LONGEST_PAUSE or max(longest) - min(longest) <= APART):
             raise Different(f"the longest pauses are not random: {min(longest):.1f} to {max(longest):.1f} ms")
 

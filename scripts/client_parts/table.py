@@ -11,6 +11,8 @@ FOLDER = Path(__file__).resolve().parent.parent.parent / "clients/cases"
 OF_CALLS = ("call", "tells", "takes", "within")
 """The steps of the client's program."""
 OF_SERVER = ("opens", "sent", "says", "busy", "quiet", "ends", "shuts", "resets", "stops", "fills", "frees")
+LEAST_BUSY = 4
+"""How often `busy` says BUSY at least: so many first pauses tell whether they begin short."""
 SHORT: Dict[str, Tuple[str, ...]] = {
     "begin": ("call client SERVER t OPTIONS", "again", "tells words 9"),
     "administer": ("call administrator SERVER OPTIONS", "opens", "sent ADMIN", r"says OK ADMIN\n", "tells connected"),
@@ -84,6 +86,8 @@ def add(case: Case, step: Step) -> None:
     elif step.kind == "sent":
         text, _, count = step.text.rpartition(" *") if re.search(r" \*\d+$", step.text) else (step.text, "", "1")
         case.server.extend([step._replace(text=text)] * int(count))
+    elif step.kind == "busy" and int(step.text.partition(" ")[0]) < LEAST_BUSY:
+        fail(step.place, f"busy is {LEAST_BUSY} times or more")
     elif step.kind in OF_SERVER:
         case.server.append(step._replace(text=repeated(step.text)))
     else:

@@ -1,6 +1,6 @@
 """The clients in other languages than Python as they are packed: their sources with the cases that they pass, and
 libmondlexi-dev_VERSION_amd64.deb, which has the library of C, static and shared, its header, its page of the manual, and what pkg-config
-says of it.
+says of it. The library is over the proved lines and readings, if these are built.
 
 Used by: scripts/package; program_parts/recorded.py, which names its package; client_parts/builds.py, which builds a program with what the
 library's package has. A further language is a word of SOURCES, a further example in C one of DOCUMENTS.
@@ -19,6 +19,8 @@ LEFT_OUT = {"out", "target", "Cargo.lock", "node_modules"}
 """What builds leave."""
 DOCUMENTS = ("README.md", "lock_table.c", "over_openssl.c")
 """Of the client in C, in libmondlexi-dev."""
+PROVED = TOP / "crates/mw_client_c/out/libmw_client_c.a"
+"""The proved lines and readings for C, as `rt lib` builds them."""
 LIBRARIES = "/usr/lib/x86_64-linux-gnu"
 CONTROL = """Package: libmondlexi-dev
 Version: {version}
@@ -38,6 +40,14 @@ Description: client library in C of a server of durable words
 def can_be_built() -> bool:
     """Whether this machine has what libmondlexi-dev is made by."""
     return all(shutil.which(need) for need in ("cc", "make", "readelf", "dpkg-deb"))
+
+
+def build_proved() -> str:
+    """Builds the proved lines and readings, anew if they have changed, where `rt` is here. Why they aren't there then; nothing if they are."""
+    if not shutil.which("rt"):
+        return "" if PROVED.is_file() else "there is no rt, which builds them"
+    ran = subprocess.run(["rt", "lib"], cwd=PROVED.parent.parent, stdin=subprocess.DEVNULL, stdout=subprocess.PIPE, stderr=subprocess.STDOUT)
+    return f"rt lib fails: {ran.stdout.decode(errors='replace').strip()}" if ran.returncode else ""
 
 
 def client_sources() -> Dict[str, str]:
@@ -63,6 +73,7 @@ def build_deb(root: Path, made: Path, moment: int) -> Path:
 def lay_out(root: Path, room: Path, moment: int) -> None:
     """The files of the package, below a folder."""
     words = [f"OUT={room}/out", f"DESTDIR={root}", "PREFIX=/usr", f"LIBDIR={LIBRARIES}", "CFLAGS=-O2"]
+    words += [f"PROVED={PROVED}"] if PROVED.is_file() else []
     subprocess.run(["make", "-s", "-C", TOP / "clients/c", *words, "install"], check=True)
     page = root / "usr/share/man/man3/mondlexi.3"
     page.with_name("mondlexi.3.gz").write_bytes(gzip.compress(page.read_bytes(), 9, mtime=moment))

@@ -1,6 +1,6 @@
 """The examples of the pages, taken from them and run as they are. Those in Python of README and of the pages of clients, each at a new tenant:
-what each prints, and what it leaves in the words. Those of docs/SCHEDULES.md: mwreplay prints of each just what the page says, and a
-request makes just the kinds of step that the page lists.
+what each prints, and what it leaves in the words; a page's first one is on its first screen. Those of docs/SCHEDULES.md: mwreplay prints of
+each just what the page says, and a request makes just the kinds of step that the page lists.
 
 Used by: scripts/check-programs, for --gate too: it takes some seconds.
 """
@@ -15,6 +15,8 @@ import mondlexi  # noqa: E402
 
 PAGES = {"README.md": {"first": 1000}, "docs/CLIENTS.md": {"second": 4096, "calls": 2}, "docs/RECIPES.md": {"third": 4096, "places": 180}}
 """A tenant for each block of Python of a page, and its words."""
+FIRST_SCREEN = 2500
+"""Before so many characters of a page its first block of Python begins."""
 TENANTS = {tenant: words for tenants in PAGES.values() for tenant, words in tenants.items()}
 PYTHON = re.compile(r"^```python\n(.*?)^```$", re.MULTILINE | re.DOTALL)
 PRINTED = re.compile(r"print\(.*\) +# (\[.*?\]),")
@@ -36,9 +38,10 @@ def try_python(server: Server) -> None:
     """Each block in Python; then what those left that print nothing."""
     blocks = []
     for page, tenants in PAGES.items():
-        here = PYTHON.findall((TOP / page).read_text(encoding="utf-8"))
+        here = list(PYTHON.finditer((TOP / page).read_text(encoding="utf-8")))
         same(len(here), len(tenants), f"the blocks of Python of {page}")
-        blocks += here
+        same(here[0].start() < FIRST_SCREEN, True, f"that the first screen of {page} has a program")
+        blocks += [it[1] for it in here]
     for block, tenant in zip(blocks, TENANTS):
         text = (block if PLACE in block else BEFORE + block).replace(PLACE, f'"{server.at}", "{tenant}"')
         said = PRINTED.search(block)

@@ -31,7 +31,8 @@ ENTRIES = {
     "acquire of two locks": range(4, 5), "renew of two locks": range(4, 5), "eight locks": range(16, 17), "a renewal of eight locks": range(16, 17),
     "eight locks given back": range(16, 17), "fifteen blocks": range(16, 17), "three blocks given back": range(4, 5),
     "put of a sorted index": range(7, 15), "put of a key of a sorted index": range(3, 4), "delete of a sorted index": range(4, 9),
-    "put of a hash index": range(11, 12), "put of a key of a hash index": range(4, 5), "delete of a hash index": range(2, 3),
+    "put of a hash index": range(11, 12), "put of a key of a hash index": range(4, 5), "a move of a hash index": range(5, 6),
+    "delete of a hash index": range(2, 3),
     "put of three values": range(5, 6), "put of fourteen values": range(16, 17), "take": range(2, 3), "add": range(2, 3),
     "replace": range(2, 17), "replace of 84 bytes": range(16, 17), "join": range(3, 4), "renew of a place": range(2, 3), "leave": range(2, 3),
 }
@@ -180,7 +181,10 @@ def try_indexes(clients, client, own):
     same(mondlexi.recipes.SortedIndex.pairs_in(68), 16, "pairs that fit")
     hashed = clients.recipes.HashIndex(client, own, 16, at=200)
     model = try_an_index(client, hashed, "a hash index")
-    fill(hashed, "a hash index", 16)
+    with changes_of(client) as sent:
+        fill(hashed, "a hash index", 16)
+    wanted = {entries for what in ("put of a hash index", "a move of a hash index") for entries in ENTRIES[what]}
+    same(set(sent), wanted, "the entries of the changes that fill a hash index, of which some move a key")
     same([read(client, hashed.get, key) for key in range(KEYS)], [model.get(key) for key in range(KEYS)], "an index that is full")
 
 
@@ -279,6 +283,8 @@ def try_resent(clients):
 
 FAULT, ENDS = "FAULT", "the end of the connection"
 """How a change ends without an answer that says whether it was made, beside SILENT."""
+BRIEF = 0.05
+"""For how many seconds a reply that doesn't come is waited for."""
 
 
 class Doubtful:
@@ -297,6 +303,7 @@ class Doubtful:
 
     def serve(self, connection):
         with connection, connection.makefile("rb") as lines, contextlib.suppress(OSError):
+            connection.setsockopt(socket.IPPROTO_TCP, socket.TCP_NODELAY, 1)
             for line in lines:
                 told = self.told(*line.decode().split())
                 if told == SILENT:
@@ -312,25 +319,37 @@ class Doubtful:
         if kind != "CAS":
             return {"TENANT": f"OK {len(self.words)}", "QUIT": "BYE"}[kind]
         entries = [tuple(map(int, it.split(":"))) for it in more]
-        fate, self.fate = (self.fate, None) if len(entries) > 1 else (None, self.fate)
+        fate = self.fate if len(entries) > 1 else None
         missed = [f"NO {address} {self.words[address]}" for address, expected, _ in entries if self.words[address] != expected]
         if not missed and (fate is None or fate[0]):
             for address, _, value in entries:
                 self.words[address] = value
+        self.fate = None if fate else self.fate
         return fate[1] if fate else (missed or ["YES"])[0]
 
 
 def make_undecided(what, client, server, fate, call, *arguments):
-    """Makes a call whose change has this fate: it raises Unknown. The client is connected again then."""
-    options, server.fate = client._session.options, fate
-    client._session.options = options._replace(timeout=SHORT if fate[1] == SILENT else options.timeout)
+    """Makes a call whose change has this fate: it raises Unknown. Once the server has heard the change the client is connected again."""
+    session, right = client._session, client._session._link.send
+    options, server.fate = session.options, fate
+
+    async def send(data, timeout):
+        # Only the reply that doesn't come is waited for so briefly.
+        if fate[1] == SILENT and data.startswith(b"CAS") and len(data.split()) > 2:
+            session.options = options._replace(timeout=BRIEF)
+        await right(data, timeout)
+
+    session._link.send = send
     raises(mondlexi.Unknown, f"{what}, {'made' if fate[0] else 'not made'}, whose answer is {fate[1]}", call, *arguments)
-    client._session.options = options
+    session.options, session._link.send = options, right
+    while server.fate:
+        time.sleep(0.001)
     client.reconnect(PATIENCE)
 
 
 def try_undecided(clients):
-    """A call that ends undecided raises Unknown, and then `settle`, or `mine` of blocks, tells what the words are."""
+    """A call that ends undecided raises Unknown. Then `settle`, the same call again, `mine` of blocks or the end of a lease tells what the words
+    are, as docs/RECIPES.md says of each recipe."""
     for fate in [(is_made, how) for is_made in (True, False) for how in (FAULT, SILENT, ENDS)]:
         server = Doubtful()
         with clients.Client(server.at, "t", timeout=PATIENCE) as client:
@@ -346,6 +365,7 @@ def try_undecided(clients):
                     ("put of a sorted index", index.range, [(1, 5)], [(1, 5), (2, 6)], index.put, 2, 6),
                     ("delete of a sorted index", lambda: index.get(1), 5, None, index.delete, 1),
                     ("put of a hash index", lambda: hashed.get(2), None, 6, hashed.put, 2, 6),
+                    ("delete of a hash index", lambda: hashed.get(1), 5, None, hashed.delete, 1),
                     ("put of a queue", queue.count, 2, 3, queue.put, [9]),
                     ("take", lambda: queue.count() > 1 + fate[0], True, False, queue.take, 1),
                     ("add", counter.get, 3, 4, counter.add),
@@ -353,11 +373,41 @@ def try_undecided(clients):
                 same(look(), old, f"what is there before {what}")
                 make_undecided(what, client, server, fate, call, *arguments)
                 same((own.settle(), look()), (fate[0], new if fate[0] else old), f"whether {what} was made, which ended by {fate[1]}")
-            blocks = kinds.Blocks(client, 0, 20, at=64, wait=0.0)
-            same(blocks.mine(), {}, "no blocks")
-            make_undecided("allocate", client, server, fate, blocks.allocate, 3, 7)
-            same(list(blocks.mine().values()), 3 * [7] if fate[0] else [], f"the blocks after an allocate that ended by {fate[1]}")
+            for name, it in (("a sorted index", index), ("a hash index", hashed)):
+                make_undecided(f"put of {name}", client, server, fate, it.put, 3, 7)
+                same((it.put(3, 7), it.get(3)), (7 if fate[0] else None, 7), f"the same put of {name} again, after one that ended by {fate[1]}")
+                make_undecided(f"delete of {name}", client, server, fate, it.delete, 3)
+                same((it.delete(3), it.get(3)), (None if fate[0] else 7, None), f"the same delete of {name} again, after one that ended by {fate[1]}")
+            try_undecided_blocks(kinds.Blocks(client, 0, 20, at=64, wait=0.0), client, server, fate)
+            try_undecided_leases(kinds, client, server, fate)
         server.listener.close()
+
+
+def try_undecided_blocks(blocks, client, server, fate):
+    """After a call that ends undecided `mine` tells whether blocks were taken, or given back."""
+    same(blocks.mine(), {}, "no blocks")
+    make_undecided("allocate", client, server, fate, blocks.allocate, 3, 7)
+    same(list(blocks.mine().values()), 3 * [7] if fate[0] else [], f"the blocks after an allocate that ended by {fate[1]}")
+    (block,) = blocks.allocate(1, 8)
+    make_undecided("free", client, server, fate, blocks.free, [block])
+    same(block in blocks.mine(), not fate[0], f"whether a block is there after a free that ended by {fate[1]}")
+
+
+def try_undecided_leases(kinds, client, server, fate):
+    """A lock in the words 85 and 86, a place in 87 to 89. After a call that ends undecided another one gets them once the lease is over:
+    the token, and how often the place was moved, tell whether the call was made."""
+    first, second = (kinds.Locks(client, owner, 1, at=85, wait=0.0) for owner in (1, 2))
+    make_undecided("acquire", client, server, fate, first.acquire, [0], SHORT)
+    grant = second.acquire([0], LONG, wait=PATIENCE)
+    same(grant.tokens, (1 + fate[0],), f"the token after an acquire that ended by {fate[1]}")
+    make_undecided("release", client, server, fate, second.release, second.renew(grant, SHORT))
+    same(first.acquire([0], LONG, wait=PATIENCE).tokens, (2 + fate[0],), f"the token after a release that ended by {fate[1]}")
+    registry, other = (kinds.Registry(client, 1, at=87, wait=0.0) for _ in range(2))
+    make_undecided("join", client, server, fate, registry.join, SHORT)
+    place = other.join(LONG, wait=PATIENCE)
+    same(place.moves, 1 + fate[0], f"how often a place was moved after a join that ended by {fate[1]}")
+    make_undecided("leave", client, server, fate, other.leave, other.renew(place, SHORT))
+    same(registry.join(LONG, wait=PATIENCE).moves, 3 + 2 * fate[0], f"how often it was moved after a leave that ended by {fate[1]}")
 
 
 def example(name, server, tenant, *words, given="", status=0):

@@ -145,7 +145,7 @@ func toldReport(report mondlexi.Report, err error) string {
 }
 
 func (p *player) connect(words []string) string {
-	client, err := mondlexi.Dial(background, words[0], words[1], optionsOf(words[2:]))
+	client, err := mondlexi.Connect(background, words[0], words[1], optionsOf(words[2:]))
 	if err != nil {
 		return failure(err)
 	}
@@ -154,7 +154,7 @@ func (p *player) connect(words []string) string {
 }
 
 func (p *player) administer(words []string) string {
-	administrator, err := mondlexi.DialAdministrator(background, words[0], optionsOf(words[1:]))
+	administrator, err := mondlexi.ConnectAdministrator(background, words[0], optionsOf(words[1:]))
 	if err != nil {
 		return failure(err)
 	}
@@ -167,7 +167,7 @@ func (p *player) count(words []string) string {
 	if len(words) > 1 {
 		wait = words[1]
 	}
-	counted, err := mondlexi.NewCounted(background, p.client, number(words[0]), milliseconds(strings.TrimPrefix(wait, "wait=")))
+	counted, err := mondlexi.BeginCounted(background, p.client, number(words[0]), milliseconds(strings.TrimPrefix(wait, "wait=")))
 	p.counted = counted
 	return told("counted", err)
 }

@@ -81,7 +81,7 @@ fn told_outcome(outcome: Outcome) -> String {
 fn told_report(report: Report) -> String {
     let mut text = String::new();
     for it in report.tenants {
-        let state = if it.is_up { "up" } else { "down" };
+        let state = if it.up { "up" } else { "down" };
         text += &format!(
             "tenant {} {} {} {} {} {state}; ",
             it.name, it.words, it.quota, it.places, it.under_way

@@ -83,7 +83,7 @@ pub struct TenantReport {
     /// How many changes are under way.
     pub under_way: u16,
     /// Whether it is served. If not, its calls end as [`Error::Fault`].
-    pub is_up: bool,
+    pub up: bool,
 }
 
 /// How all tenants are, in the order of the server's tenants file. Each number is of its own moment.
@@ -349,7 +349,7 @@ fn tenant_of(line: &str) -> Option<TenantReport> {
         quota: number(2)?,
         places: number(3)?,
         under_way: number(4)?,
-        is_up: parts[5] == "up",
+        up: parts[5] == "up",
     };
     let columns = format!(
         "{:16} {:4} {:2} {:2} {:2} {}",
@@ -358,7 +358,7 @@ fn tenant_of(line: &str) -> Option<TenantReport> {
         tenant.quota,
         tenant.places,
         tenant.under_way,
-        if tenant.is_up { "up" } else { "down" }
+        if tenant.up { "up" } else { "down" }
     );
     (columns == line).then_some(tenant)
 }
