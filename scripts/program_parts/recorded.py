@@ -4,6 +4,7 @@ scripts/package says and packs itself, in a clone of this repository, with progr
 Used by: scripts/check-programs, in a repository of its own, in a folder. scripts/check-package tries packages of the built programs.
 """
 import gzip
+import os
 import re
 import shutil
 import tarfile
@@ -21,6 +22,8 @@ LINE = "3 passed, 0 failed"
 TOOLS = ("cc", "readelf", "strip", "objcopy")
 """What makes the programs of the clone, and packs them."""
 PROGRAM = "#include <stdio.h>\nint main(void) { return puts(TOLD) < 0; }\n"
+RT = "#!/bin/sh\n[ $1 = version ] && echo a kit\n"
+"""In place of `rt`, which would prove and build the library of the client in C: it tells its version, and does nothing else."""
 VERSION = "crates/mw_main/src/lib.rt"
 NAME = re.compile(r"\bmondlexi[-_](\d\S*?)(?:-x86_64-linux\.tar\.gz|_amd64\.deb)?(?=\s)")
 """The name of a package, or of the folder of one, in a page."""
@@ -90,6 +93,10 @@ class Clone:
         self.programs = {name: folder / path.relative_to(TOP) for name, path in BUILT.items()}
         self.told = (folder / VERSION).read_text().split('"')[1]
         """The version that its programs tell."""
+        (folder / "out").mkdir()
+        (folder / "out/rt").write_text(RT)
+        (folder / "out/rt").chmod(0o755)
+        self.env = {**os.environ, "PATH": f"{folder / 'out'}:{os.environ['PATH']}"}
 
     def tell(self, version: str) -> None:
         """Makes a commit whose programs tell this version, and the programs, and gives the commit the tag of a release."""
@@ -98,7 +105,6 @@ class Clone:
         self.told = version
         git(self.folder, "commit", "--quiet", "--all", "--allow-empty", "-m", version)
         git(self.folder, "tag", "--force", f"v{record.base_of(version)}")
-        (self.folder / "out").mkdir(exist_ok=True)
         (self.folder / "out/program.c").write_text(PROGRAM)
         for name, path in self.programs.items():
             path.parent.mkdir(parents=True, exist_ok=True)
@@ -110,13 +116,13 @@ class Clone:
 
     def refuses(self, line: str, what: str) -> None:
         """Nothing is packed, and this is said."""
-        told = ran(self.folder / "scripts/package", "--to", self.packages, at=self.folder)
+        told = ran(self.folder / "scripts/package", "--to", self.packages, at=self.folder, env=self.env)
         same((told, self.packages.exists()), ((1, "", f"package: {line}\n"), False), f"scripts/package {what}")
 
     def packs(self, release: str) -> None:
         """All packages are made, with this version in their names and their pages. MANIFEST tells the gate and each program, and a page of
         the manual the version that the programs tell."""
-        told = well(self.folder / "scripts/package", "--to", self.packages, at=self.folder).split()
+        told = well(self.folder / "scripts/package", "--to", self.packages, at=self.folder, env=self.env).split()
         archive, symbols = (f"mondlexi-{release}-x86_64-linux{end}.tar.gz" for end in ("", "-symbols"))
         debs = [f"mondlexi_{release}_amd64.deb"] if has("dpkg-deb") else []
         libraries = [f"libmondlexi-dev_{release}_amd64.deb"] if can_be_built() else []
