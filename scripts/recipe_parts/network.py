@@ -117,7 +117,9 @@ async def serve_all(listens_at: int, server_at: int, user: str) -> None:
         except OSError:
             writer.transport.abort()
             return
-        await Passage((reader, writer), server, user, told).serve()
+        # (At the end all that are under way are cancelled, of which asyncio would tell.)
+        with contextlib.suppress(asyncio.CancelledError):
+            await Passage((reader, writer), server, user, told).serve()
 
     await asyncio.start_server(serve, HOST, listens_at, backlog=1000)
     stop = asyncio.Event()
