@@ -192,11 +192,12 @@ def by_package(folder: Path, place: str) -> List[List[str]]:
 
 
 def over_proved(folder: Path) -> List[Program]:
-    """Over the proved lines and readings, where `rt` is here, which builds them if they aren't built yet."""
+    """Over the proved lines and readings, where `rt` is here, which builds them."""
     if not OVER_PROVED.is_here():
         return []
-    if not packed.PROVED.is_file():
-        ran("rt", "lib", at=packed.PROVED.parent.parent)
+    missing = packed.build_proved()
+    if missing:
+        raise Different(missing)
     ran("make", f"OUT={folder}/out", f"PROVED={packed.PROVED}", "all", f"{folder}/out/play", at=C)
     return [Program("c over mw_client_c", [f"{folder}/out/play"])]
 

@@ -43,9 +43,13 @@ def can_be_built() -> bool:
 
 
 def build_proved() -> str:
-    """Builds the proved lines and readings, anew if they have changed, where `rt` is here. Why they aren't there then; nothing if they are."""
+    """Builds the proved lines and readings, if they aren't there, or a crate was changed since. Why that can't be done; nothing if they are
+    there then."""
+    changed = max(path.stat().st_mtime for path in (TOP / "crates").glob("*/src/**/*.rt"))
+    if PROVED.is_file() and PROVED.stat().st_mtime >= changed:
+        return ""
     if not shutil.which("rt"):
-        return "" if PROVED.is_file() else "there is no rt, which builds them"
+        return "there is no rt"
     ran = subprocess.run(["rt", "lib"], cwd=PROVED.parent.parent, stdin=subprocess.DEVNULL, stdout=subprocess.PIPE, stderr=subprocess.STDOUT)
     return f"rt lib fails: {ran.stdout.decode(errors='replace').strip()}" if ran.returncode else ""
 
