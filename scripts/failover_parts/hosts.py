@@ -137,10 +137,20 @@ class Host:
         if self.begun:
             with contextlib.suppress(ProcessLookupError):
                 os.kill(self.begun, signal.SIGKILL)
-            self.process.wait()
+            while self.process.poll() is None:
+                self.wake()
+                time.sleep(0.05)
             if self.process.stderr:
                 self.process.stderr.close()
             self.begun = 0
+
+    def wake(self) -> None:
+        """Has what entered it go on: nsenter stops itself with the process that it began, and the host has not ended before that is reaped."""
+        entered = b"\0".join(word.encode() for word in self.words())
+        for path in Path("/proc").glob("[0-9]*/cmdline"):
+            with contextlib.suppress(OSError):
+                if path.read_bytes().startswith(entered):
+                    os.kill(int(path.parent.name), signal.SIGCONT)
 
     def die(self) -> None:
         """Dies: nothing more comes from it."""
