@@ -44,8 +44,8 @@ NOTE = """
 This page is of the package `libmondlexi-dev`, which needs no `make`. Pages of `docs` are in `/usr/share/doc/mondlexi/docs`, of the package
 `mondlexi`. Paths that begin with `crates` or `scripts` are in the repository. The examples are beside this page:
 
-    $ cc lock_table.c $(pkg-config --cflags --libs mondlexi)
-    $ cc over_openssl.c $(pkg-config --cflags --libs mondlexi) -lssl -lcrypto     # needs libssl-dev
+    $ cc -o lock_table lock_table.c $(pkg-config --cflags --libs mondlexi)
+    $ cc -o over_openssl over_openssl.c $(pkg-config --cflags --libs mondlexi) -lssl -lcrypto     # needs libssl-dev
 """
 """What the README of libmondlexi-dev says below its title."""
 MAKE = re.compile(r"^    \$ (?:make|sudo (?:make|ldconfig))\b.*\n", re.MULTILINE)
