@@ -15,7 +15,8 @@
 #include <string.h>
 #include <time.h>
 
-/* In milliseconds. A reply is waited for much shorter than the lease is. The lease is longer than a restart of the server takes. */
+/* In milliseconds. A reply is waited for much shorter than the lease is. The lease is longer than a restart of the server takes. WAIT
+   is for connecting, for the lock, and for each change. */
 enum { LEASE = 10000, TIMEOUT = 2000, WAIT = 60000, UNIT = 10 };
 enum { MOST_OWNER = 65535, MOST_LOCK = MONDLEXI_MAX_WORDS / 2 - 1 };
 

@@ -200,9 +200,9 @@ typedef struct {
    the server is busy, 0 to MONDLEXI_MAX_TIME. It moves the count: from then on no change of an earlier one is made any more. Returns
    MONDLEXI_OK or what mondlexi_cas does; after a failure but INVALID the next call begins. The client must live as long as this.
 
-   `wait` is no limit of a whole call: what began before its end goes on. So mondlexi_counted_cas lasts at most patience + timeout for
-   its change, and after a lost reply wait + patience + 3 * timeout to find out; as long once more if the change before is undecided.
-   Without BUSY there is no patience in it: at a server that stands still it is wait + 3 * timeout. A name's lookup adds its own time. */
+   `wait` is no limit of a whole call, because what began before its end goes on. mondlexi_counted_cas lasts at most patience + timeout
+   for its change, and, after a lost reply, wait + patience + 3 * timeout to find out. To settle the change before takes as long as to
+   find out, at most. At a server that stands still the call lasts wait + 3 * timeout at most. The lookup of a name adds its own time. */
 mondlexi_status mondlexi_counted_begin(mondlexi_counted *counted, mondlexi_client *client, unsigned address, int wait);
 
 /* As mondlexi_cas, of up to fifteen entries; but after LOST or UNKNOWN it connects anew and finds out. After a lost reply NO says

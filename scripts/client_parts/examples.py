@@ -32,6 +32,7 @@ LOST = (*FREE, "shuts", "again", f"sent CAS 6:4:5 7:0:{OWN}", r"says NO 6 5\n", 
 LOCKS = {
     "a free lock": ("again", *FREE, r"says YES\n", *RELEASED),
     "a lock whose reply was lost": ("again", *LOST, rf"says VAL {OWN}\n", *RELEASED),
+    "a lock whose reply and words were lost": ("again", *LOST, "shuts", "again", *LOST[-5:], rf"says VAL {OWN}\n", *RELEASED),
     "a lock whose words came late": ("again", *LOOK, "ends", "again", *FREE, r"says YES\n", *RELEASED),
     "a lock that another has taken": ("again", *LOST, r"says VAL 9\n", *LOOK, r"says VAL 4\nVAL 0\nVAL 4\nVAL 0\n",
                                       f"sent CAS 6:4:5 7:0:{OWN}", r"says YES\n", *RELEASED),
