@@ -22,7 +22,8 @@
        MONDLEXI_MOVED       something else has moved a count                                     not known           stays
 
    get, get_many, read, stable and report connect anew if the connection has broken, and ask again, as often as `reconnects` says. A
-   reply that doesn't come in time isn't asked for again. cas never connects anew: after LOST or UNKNOWN call mondlexi_reconnect.
+   reply that doesn't come in time isn't asked for again; the next such call connects anew. cas never does: after LOST or UNKNOWN call
+   mondlexi_reconnect, or a get or any other read that connects anew; then cas goes on.
 
    Whoever changes a call, a status or a limit here also changes mondlexi.3, play.c, and the clients in the other languages. */
 #ifndef MONDLEXI_H
@@ -150,7 +151,8 @@ unsigned mondlexi_words(const mondlexi_client *client);
 const char *mondlexi_meaning(mondlexi_status status);
 const char *mondlexi_text(const mondlexi_client *client);
 
-/* The number of the last MONDLEXI_REFUSED, 1 to 99: docs/PROTOCOL.md says what each stands for. */
+/* The number of the last MONDLEXI_REFUSED, 1 to 99: PROTOCOL.md says what each stands for, in docs of the sources or in
+   /usr/share/doc/mondlexi/docs of the package mondlexi. */
 int mondlexi_refusal(const mondlexi_client *client);
 
 /* The value of the word at `address`: durable, and no older than what this connection was told before. It costs no disk access.
@@ -196,7 +198,11 @@ typedef struct {
 
 /* Begins, at the count's address. `wait`: for how many milliseconds to connect the client anew and ask again, while that fails or
    the server is busy, 0 to MONDLEXI_MAX_TIME. It moves the count: from then on no change of an earlier one is made any more. Returns
-   MONDLEXI_OK or what mondlexi_cas does; after a failure but INVALID the next call begins. The client must live as long as this. */
+   MONDLEXI_OK or what mondlexi_cas does; after a failure but INVALID the next call begins. The client must live as long as this.
+
+   `wait` is no limit of a whole call, because what began before its end goes on. mondlexi_counted_cas lasts at most patience + timeout
+   for its change, and, after a lost reply, wait + patience + 3 * timeout to find out. To settle the change before takes as long as to
+   find out, at most. At a server that stands still the call lasts wait + 3 * timeout at most. The lookup of a name adds its own time. */
 mondlexi_status mondlexi_counted_begin(mondlexi_counted *counted, mondlexi_client *client, unsigned address, int wait);
 
 /* As mondlexi_cas, of up to fifteen entries; but after LOST or UNKNOWN it connects anew and finds out. After a lost reply NO says

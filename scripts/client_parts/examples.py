@@ -32,6 +32,8 @@ LOST = (*FREE, "shuts", "again", f"sent CAS 6:4:5 7:0:{OWN}", r"says NO 6 5\n", 
 LOCKS = {
     "a free lock": ("again", *FREE, r"says YES\n", *RELEASED),
     "a lock whose reply was lost": ("again", *LOST, rf"says VAL {OWN}\n", *RELEASED),
+    "a lock whose reply and words were lost": ("again", *LOST, "shuts", "again", *LOST[-5:], rf"says VAL {OWN}\n", *RELEASED),
+    "a lock whose words came late": ("again", *LOOK, "ends", "again", *FREE, r"says YES\n", *RELEASED),
     "a lock that another has taken": ("again", *LOST, r"says VAL 9\n", *LOOK, r"says VAL 4\nVAL 0\nVAL 4\nVAL 0\n",
                                       f"sent CAS 6:4:5 7:0:{OWN}", r"says YES\n", *RELEASED),
     "a lock whose lease is over": ("again", *LOOK, r"says VAL 4\nVAL 65536\nVAL 4\nVAL 65536\n", *LOOK, r"says VAL 4\nVAL 65536\nVAL 4\nVAL 65536\n",
@@ -44,7 +46,8 @@ LOCKS = {
 """What the server of a lock hears and says."""
 TOKENS = {"a lock whose lease was over before the reply": "6\n"}
 """What the program prints, if it isn't 5."""
-LATE = ("again", *LOOK, "ends")
+TAKEN_OVER = ("again", *FREE, r"says YES\n", RELEASED[0], r"says NO 6 6\n", *RELEASED[2:])
+USAGE = (2, "", "usage: lock_table SERVER OWNER LOCK\n")
 
 
 def told_by(folder: Path, lines: Sequence[str], words: Callable[[str], Sequence[object]]) -> Told:
@@ -83,8 +86,10 @@ def try_locks(program: Path) -> None:
         for what, lines in LOCKS.items():
             told = told_by(folder, lines, lambda at: (program, at, 3, 3))
             check(what, (*told[:2], ""), (0, TOKENS.get(what, "5\n"), ""))
-        late = told_by(folder, LATE, lambda at: (program, at, 3, 3))
-        check("a late reply", late, (1, "", "lock_table: there is no connection: connected, but no reply in 2000 ms\n"))
+        lost = told_by(folder, TAKEN_OVER, lambda at: (program, at, 3, 3))
+        check("a lock that another has taken over", lost, (1, "5\nlost\n", ""))
+        for owner, lock in ((0, 3), (65536, 3), ("3x", 3), (3, -1), (3, 2048), (3, "")):
+            check(f"owner {owner}, lock {lock}", run((program, HOST, owner, lock), folder), USAGE)
         check(HOST, run((program, HOST, 3, 3), folder), (1, "", "lock_table: an argument is out of its range: a server is HOST:PORT or unix:PATH\n"))
 
 

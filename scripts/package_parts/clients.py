@@ -10,8 +10,11 @@ import os
 import re
 import shutil
 import subprocess
+from datetime import datetime, timezone
 from pathlib import Path
 from typing import Dict
+
+from .maintainer import COPYRIGHT
 
 TOP = Path(__file__).resolve().parent.parent.parent
 SOURCES = ("c", "rust", "go", "node", "java", "cases")
@@ -31,10 +34,22 @@ Section: libdevel
 Priority: optional
 Depends: libc6 (>= {libc})
 Recommends: pkg-config
+Suggests: mondlexi
 Description: client library in C of a server of durable words
  The library mondlexi, static and shared, with its header and its page
- of the manual. A program connects by it to a server of Mondlexi.
+ of the manual. A program connects by it to a server of Mondlexi. The
+ package mondlexi has the documents.
 """
+NOTE = """
+This page is of the package `libmondlexi-dev`, which needs no `make`. Pages of `docs` are in `/usr/share/doc/mondlexi/docs`, of the package
+`mondlexi`. Paths that begin with `crates` or `scripts` are in the repository. The examples are beside this page:
+
+    $ cc -o lock_table lock_table.c $(pkg-config --cflags --libs mondlexi)
+    $ cc -o over_openssl over_openssl.c $(pkg-config --cflags --libs mondlexi) -lssl -lcrypto     # needs libssl-dev
+"""
+"""What the README of libmondlexi-dev says below its title."""
+MAKE = re.compile(r"^    \$ (?:make|sudo (?:make|ldconfig))\b.*\n", re.MULTILINE)
+"""The lines of the README by which its sources are built and installed."""
 
 
 def can_be_built() -> bool:
@@ -85,7 +100,8 @@ def lay_out(root: Path, room: Path, moment: int) -> None:
     documents = root / "usr/share/doc/libmondlexi-dev"
     documents.mkdir(parents=True)
     for name in DOCUMENTS:
-        shutil.copyfile(TOP / "clients/c" / name, documents / name)
+        text = (TOP / "clients/c" / name).read_text(encoding="utf-8")
+        (documents / name).write_text(MAKE.sub("", text).replace("\n", f"\n{NOTE}", 1) if name == "README.md" else text, encoding="utf-8")
     for path in (root, *root.rglob("*")):
         if not path.is_symlink():
             path.chmod(0o755 if path.is_dir() else 0o644)
@@ -96,6 +112,9 @@ def make_library(to: Path, room: Path, version: str, maintainer: str, moment: in
     root = room / "library"
     root.mkdir()
     lay_out(root, room, moment)
+    terms = root / "usr/share/doc/libmondlexi-dev/copyright"
+    terms.write_text(COPYRIGHT.format(year=datetime.fromtimestamp(moment, timezone.utc).year, maintainer=maintainer), encoding="utf-8")
+    terms.chmod(0o644)
     size = sum(path.stat().st_size for path in root.rglob("*") if path.is_file() and not path.is_symlink()) // 1024
     control = root / "DEBIAN"
     control.mkdir()

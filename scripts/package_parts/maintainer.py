@@ -1,7 +1,7 @@
 """What dpkg and its user are told of the package, its fields, copyright and changelog; and the scripts that dpkg runs when it installs,
 upgrades, removes or purges it.
 
-Used by: scripts/package. An upgrade replaces the files while a server runs, and restarts it then. A removal stops all units first.
+Used by: scripts/package; clients.py. An upgrade replaces the files while a server runs, and restarts it then. A removal stops all units first.
 """
 from datetime import datetime, timezone
 from typing import List, Tuple

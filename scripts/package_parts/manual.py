@@ -10,6 +10,10 @@ TOP = Path(__file__).resolve().parent.parent.parent
 INLINE = re.compile(r"`(?P<code>[^`]+)`|\*\*(?P<bold>[^*]+)\*\*|\*(?P<italic>[^*\s][^*]*)\*|!?\[(?P<link>(?:[^\]\[]|\[[^\]]*\])*)\]\([^)]*\)")
 DATED = re.compile(r"^20\d\d-\d\d-\d\d[,:]")
 """How a paragraph of measured figures begins, with which a man page ends."""
+TO_SECTION = re.compile(r"\[([^\]\[]*)\]\(([^)\s#]*)#([^)\s]*)\)")
+"""A link to a heading: its text, the page if it is another one, and the heading."""
+OTHERS = {"mwinit": ("mwserve:", "tenant "), "mwserve": ("mwinit:",)}
+"""How messages begin that a program doesn't have, of those in one table with its own."""
 
 
 class Manual(NamedTuple):
@@ -49,6 +53,38 @@ def section_text(page: str, heading: str) -> str:
     return "\n".join(kept).strip("\n")
 
 
+def told_here(text: str, page: str, sections: Tuple[Tuple[str, str], ...]) -> str:
+    """A section's text, in which a link by a heading that this man page lacks, as the heading is written, says where that is."""
+    def told(found: "re.Match[str]") -> str:
+        name, path, heading = found.groups()
+        to = str(Path(page).parent / path) if path else page
+        is_heading = name[:1].isupper() and heading == re.sub(r"[^a-z0-9 -]", "", name.lower()).replace(" ", "-")
+        return f'see "{name}" in {Path(to).name}' if is_heading and (to, name) not in sections else found[0]
+    return TO_SECTION.sub(told, text)
+
+
+def cells_of(line: str) -> List[str]:
+    """The cells of a table's row."""
+    return [it.strip() for it in re.split(r"(?<!\\)\|", line)[1:-1]]
+
+
+def own_part(name: str, text: str) -> str:
+    """Exit statuses and messages of this program alone: of a table with a column for each program, its own; of a table of messages the rows
+    that it has, and what follows the table if it is the server."""
+    lines = text.split("\n")
+    rows = [number for number, line in enumerate(lines) if line.startswith("|")]
+    columns = cells_of(lines[rows[0]])
+    if f"`{name}`" in columns:
+        at = columns.index(f"`{name}`")
+        own = [cells for cells in (cells_of(lines[number]) for number in rows) if cells[at]]
+        return "\n".join([*lines[:rows[0]], *(f"| {cells[0]} | {cells[at]} |" for cells in own)])
+    kept, others = lines[:rows[0] + 2], f"`(?:{'|'.join(OTHERS[name])})"
+    for number in rows[2:]:
+        if not re.match(rf"\| {others}", lines[number]):
+            kept.append(re.sub(rf", {others}[^`]*`", "", lines[number]))
+    return "\n".join(kept + (lines[rows[-1] + 1:] if name == "mwserve" else []))
+
+
 def escaped(text: str) -> str:
     """A text as roff has it."""
     return text.replace("\\", "\\(rs").replace("-", "\\-").replace("'", "\\(aq").replace("µ", "\\(mc")
@@ -77,7 +113,7 @@ def shown(text: str) -> str:
 
 def table(lines: List[str]) -> List[str]:
     """A table as a list: the first cell names a row, and the others follow, from the third on with the head of their column."""
-    rows = [[it.strip().replace("\\|", "|") for it in re.split(r"(?<!\\)\|", line)[1:-1]] for line in lines]
+    rows = [[it.replace("\\|", "|") for it in cells_of(line)] for line in lines]
     made = []
     for first, *rest in rows[2:]:
         text = rest[0] + "".join(f" ({head}: {cell})" for head, cell in zip(rows[0][2:], rest[1:]) if cell)
@@ -119,14 +155,16 @@ def manual(name: str, version: str, day: str) -> str:
     """The man page of a program, in roff. ValueError if a document lacks what it needs."""
     of = MANUALS[name]
     # (moment and commit of an unreleased version leave no room for the day at the foot of a page)
-    told = re.sub(r"(?<=\+unreleased)\..*", "", version)
-    text = [f'.TH {name.upper()} 1 {day} "mondlexi {told}"', ".SH NAME", f"{name} \\- {escaped(of.purpose)}"]
+    short = re.sub(r"(?<=\+unreleased)\..*", "", version)
+    text = [f'.TH {name.upper()} 1 {day} "mondlexi {short}"', ".SH NAME", f"{name} \\- {escaped(of.purpose)}"]
     for number, (page, heading) in enumerate(of.sections):
-        text += [f".SH {'DESCRIPTION' if number == 0 else heading.upper()}", *blocks(section_text(page, heading))]
+        told = told_here(section_text(page, heading), page, of.sections)
+        part = own_part(name, told) if (page, heading) in LAST else told
+        text += [f".SH {'DESCRIPTION' if number == 0 else heading.upper()}", *blocks(part)]
     if of.script:
         text += [".SH DESCRIPTION", *head_of(of.script)]
     others = ", ".join(f"\\fB{it}\\fR(1)" for it in MANUALS if it != name)
-    return "\n".join([*text, ".SH SEE ALSO", f"{escaped('/usr/share/doc/mondlexi')}, {others.replace('-', chr(92) + '-')}"]) + "\n"
+    return "\n".join([*text, ".SH SEE ALSO", f"{escaped('/usr/share/doc/mondlexi/docs')}, {others.replace('-', chr(92) + '-')}"]) + "\n"
 
 
 def options_of(source: str) -> List[str]:

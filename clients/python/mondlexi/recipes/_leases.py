@@ -1,6 +1,7 @@
 """Leases without clocks that agree: who waits takes over what it has itself seen unchanged for the whole lease.
 
-The holder counts its lease from before it asked, so it stops before any waiter goes on. The clocks need the same speed, up to 1%.
+The holder counts its lease from before it read the words that its change expects, a renewed one from before it asked. A waiter counts
+from the return of its first reading. So the holder stops before any waiter goes on. The clocks need the same speed, up to 1%.
 
 Used by: `locks`, `registry`.
 """
@@ -32,8 +33,8 @@ class Watch:
         self._seen: Dict[int, Tuple[Tuple[int, int], float]] = {}
 
     def is_over(self, number: int, state: Tuple[int, int]) -> bool:
-        """Whether the lease of this number is nobody's, or was seen in this state for its whole time. The state's second word is 0,
-        or has the lease in its lowest bits."""
+        """Whether the lease of this number is nobody's, or was seen in this state for its whole time. The state has just been read,
+        its first word before the second, which is 0 or has the lease in its lowest bits."""
         now, holder = time.monotonic(), state[1]
         if not holder:
             return True

@@ -6,7 +6,8 @@ the high bits, the owner (16 bits), how often the lease was renewed (16 bits), a
 No state of the two words comes back: the token never goes down, and under one token the holder's word moves by each renewal and is
 given back once. So a change whose reply was lost is sent again until there is one: it is made once at most.
 
-No clocks have to agree. A waiter takes a lock over once it has itself seen the same two words for the whole lease.
+No clocks have to agree. A waiter takes a lock over once it has itself seen the same two words for the whole lease. It reads the token
+first: under one token no state of the holder's word comes back.
 
 Used by: `mondlexi.recipes` and its `aio`. docs/RECIPES.md has these words, and clients/c/lock_table.c uses them: change all three.
 scripts/recipe_parts/leases.py checks runs of it.
@@ -59,7 +60,7 @@ class AwaitedLocks(Recipe):
         self._waits_for: Tuple[List[int], int] = [], 0
 
     async def acquire(self, locks: Iterable[int], lease: float, wait: float = 0.0) -> Optional[Grant]:
-        """All of one to eight locks, for so many seconds from before it asked; None if some are held for `wait` seconds.
+        """All of one to eight locks, for so many seconds from before it read them; None if some are held for `wait` seconds.
 
         The lease of what it gives isn't over yet. If a reply came too late for that, it has given the locks back, and asked again.
         It never holds some and waits for others, so there is no deadlock. `lease`: 0.01 to 655.35 seconds, in steps of 0.01,
@@ -104,7 +105,7 @@ class AwaitedLocks(Recipe):
             await self._resent(self._entries(one, one._replace(word=0)))
 
     async def _look(self, wanted: List[int]) -> List[Tuple[int, int]]:
-        """The token and the holder's word of each of these."""
+        """The token and the holder's word of each of these; the token is read first."""
         words = await self._session.get_many([self._at + 2 * lock + k for lock in wanted for k in (0, 1)], self._wait)
         return list(zip(words[::2], words[1::2]))
 

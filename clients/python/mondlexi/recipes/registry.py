@@ -50,7 +50,7 @@ class AwaitedRegistry(Recipe):
         self._places, self._name, self._watch = places, 1 + secrets.randbelow(2 ** 32 - 1), Watch()
 
     async def join(self, lease: float, wait: float = 0.0) -> Optional[Place]:
-        """A place for so many seconds from before it asked; None if none gets free for `wait` seconds.
+        """A place for so many seconds from before it read them; None if none gets free for `wait` seconds.
 
         The lease of what it gives isn't over yet. If a reply came too late for that, it has left the place, and asked again.
         `lease`: 0.01 to 655.35 seconds. Raises ValueError or TypeError; Unknown if it may have taken one, which is free again once
