@@ -18,9 +18,9 @@ from .common import PATIENCE, has, wrong
 
 MIRROR = "http://deb.debian.org/debian"
 RELEASE = "bookworm"
-TO_BOOT = "systemd,dbus,python3,haproxy,openssl,procps"
+TO_BOOT = "systemd,dbus,haproxy,openssl,procps"
 """What it needs further to be booted, for the package's client, and for a proxy in front, whose reload calls kill."""
-TO_TALK = "netcat-openbsd,curl"
+TO_TALK = "netcat-openbsd,curl,python3"
 """What the pages' commands and the package need further."""
 GROUPS = Path("/sys/fs/cgroup")
 LIMIT = 300
