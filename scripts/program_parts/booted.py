@@ -18,10 +18,10 @@ from .common import PATIENCE, has, wrong
 
 MIRROR = "http://deb.debian.org/debian"
 RELEASE = "bookworm"
-TO_BOOT = "systemd,dbus,python3,haproxy,openssl,procps"
-"""What it needs further to be booted, for the package's client, and for a proxy in front, whose reload calls kill."""
-TO_TALK = "netcat-openbsd,curl"
-"""What the pages' commands and the package need further."""
+TO_BOOT = "systemd,dbus,haproxy,openssl,procps"
+"""What it needs further to be booted, and for a proxy in front, whose reload calls kill."""
+TO_TALK = "netcat-openbsd,curl,python3"
+"""What the pages' commands, the package and its client need further."""
 GROUPS = Path("/sys/fs/cgroup")
 LIMIT = 300
 """For how many seconds one boot may go on; it takes some two minutes on four cores."""

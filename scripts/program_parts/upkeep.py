@@ -112,9 +112,28 @@ def try_tenants_file(unit: Unit, restore: Block, value: int) -> None:
     same(((ROOM / "tenants").read_text(), word(unit)), (text, value), "the tenants file that was restored, and the word")
 
 
+def try_replaced(unit: Unit, restore: Block) -> int:
+    """The page's commands for a file that was replaced, with the number of the old one in place of N. It is restored, with a change that
+    the new one doesn't have. The word 0 then."""
+    run("cp", "-p", ROOM / "t.mw", ROOM / "t.new")
+    value = try_to_talk(unit)
+    run("mv", ROOM / "t.new", ROOM / "t.mw")
+    wait_until("the health of a replaced file", lambda: ended("mondlexi-health", "unix:/run/mondlexi/pages").stdout == "down t\nreplaced t\n")
+    look, copy = (command for command, _ in blocks_at(unit, "Locks")[0])
+    numbers = re.findall(rf" (\d+) -> {ROOM}/t\.mw \(deleted\)$", run("sh", "-c", look), re.MULTILINE)
+    same((len(numbers), copy.count("/N ")), (1, 1), f"the old files that `{look}` shows, and the places of its number in `{copy}`")
+    old = KEPT / "t.old"
+    type_block([(look, ""), (copy.replace("/N ", f"/{numbers[0]} "), "")], ROOM)
+    type_block([(command.replace("/backup/today/t.mw", str(old)), wanted) for command, wanted in restore], ROOM)
+    wait_for(unit, "after a replaced file was restored")
+    same(word(unit), value, "the word of a replaced file that was restored")
+    old.unlink()
+    return value
+
+
 def try_page(unit: Unit) -> None:
-    """The page's commands for a backup of a server that serves, and of a stopped one, for drills, to restore it, when a tenant is down,
-    and for more words, at this unit. The tenants file has an absolute path."""
+    """The page's commands for a backup of a server that serves, and of a stopped one, for drills, to restore it, when a file was replaced
+    or a tenant is down, and for more words, at this unit. The tenants file has an absolute path."""
     text = (ROOM / "tenants").read_text()
     (ROOM / "tenants").write_text(text.replace(" t.mw\n", f" {ROOM}/t.mw\n"))
     begin(unit)
@@ -133,14 +152,15 @@ def try_page(unit: Unit) -> None:
     same(word(unit), value, "the word of a backup that was restored")
     try_tenants_file(unit, restore, value)
     try_drill_in_service(unit, second, value)
+    value = try_replaced(unit, restore)
     type_block(blocks_at(unit, "When a tenant is down")[0], ROOM)
     same(state(unit.name), ("inactive", "success"), "the unit while a tenant is mended")
     type_block(blocks_at(unit, "Changing tenants")[0], ROOM)
     wait_for(unit, "after the tenant has grown")
     with client(unit) as at:
         same((at.words, at.get(0)), (2000, value), "the tenant that has grown")
-    print(f"{unit.name}: the page's commands for a backup of a server that serves, and of a stopped one, for drills, to restore it, when a tenant is down, "
-          "and for more words")
+    print(f"{unit.name}: the page's commands for a backup of a server that serves, and of a stopped one, for drills, to restore it, when a file was "
+          "replaced or a tenant is down, and for more words")
 
 
 def put_back(unit: Unit, text: str) -> None:

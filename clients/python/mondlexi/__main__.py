@@ -32,7 +32,7 @@ def parser_of() -> argparse.ArgumentParser:
     parser.add_argument("tenant", metavar="TENANT", nargs="?", help="whose words they are")
     parser.add_argument("command", metavar="COMMAND", nargs="*", help="get, read, cas, set, dump, load or watch, with its words; of the administrator: report")
     parser.add_argument("--admin", action="store_true", help="be the administrator, without a TENANT")
-    parser.add_argument("--words", action="store_true", help="with dump: all words, as mwshow --words prints them, for load and mwinit --from")
+    parser.add_argument("--words", action="store_true", help="with dump: all words, for load and mwinit --from; as mwshow --words prints them, but `places 1`, and no line `second layout` or `open`")
     parser.add_argument("--timeout", type=float, default=10.0, metavar="SECONDS", help="how long to wait for a reply (10)")
     parser.add_argument("--tls", action="store_true", help="speak TLS, with a proxy in front of the server; so do the following options")
     parser.add_argument("--ca", metavar="FILE", help="the authorities that may sign the proxy's certificate, in place of the system's")
