@@ -169,7 +169,7 @@ def manual(name: str, version: str, day: str) -> str:
 
 def options_of(source: str) -> List[str]:
     """The options that a source gives to the command line of its program."""
-    return re.findall(r'"([a-z-]+)",\s+Given::', (TOP / source).read_text(encoding="utf-8"))
+    return re.findall(r'Argument \{\s+name: "([a-z-]+)"', (TOP / source).read_text(encoding="utf-8"))
 
 
 def faults() -> List[str]:
@@ -181,5 +181,5 @@ def faults() -> List[str]:
         except (ValueError, OSError) as error:
             found.append(f"man page of {name}: {error}")
     rows = set(re.findall(r"^\| `--([a-z-]+)", section_text(OPERATING, "mwserve"), re.MULTILINE))
-    options = set(options_of("crates/mw_config/src/command_line.rt"))
+    options = set(options_of("crates/mw_config/src/options.rt"))
     return found + [f"{OPERATING}: the table of mwserve and its command line differ in --{name}" for name in sorted(rows ^ options)]

@@ -72,7 +72,8 @@ class Row:
                 else:
                     self.edits.append(item if "/" in item else f"{item}/{cells[0]}")
             self.is_whole, call = bool(named), cells[3]
-        self.call = "".join(edit.split("/")[0] for edit in self.edits[:1]) + f"/{call}" if call else ""
+        own = "".join(edit.split("/")[0] for edit in self.edits[:1])
+        self.call = call if "/" in call or not call else f"{own}/{call}"
 
 
 def lines_told():

@@ -1,8 +1,9 @@
 //! Tests the machine of a request (`mw_actor`): it is told what each of its steps found, and must ask for the right
 //! next step.
+use crate::checks::holds;
 use crate::script::Step;
 use mw_actor::*;
-use mw_look::{Call, Got, Kind, Told};
+use mw_look::{Call, Kind, Told};
 use mw_words::{At, Entries, Entry, Job, Reply, WORN_NUMBER};
 
 // The statuses that have no fields.
@@ -131,14 +132,25 @@ const FAILING: &[Step] = &[
 
 const READING: &[Step] = &[Step::Load(At::Door(3), 1), Step::Load(WORD, DIRTY)];
 
-// Tells whether the actor asks for these steps, in this order, and has no reply before they are made.
-fn follows(actor: &mut Actor, script: &[Step]) -> bool {
+// The next step of the change, after which it is told nothing more.
+const ROW: &[Step] = &[Step::Won(Kind::Row, At::Row(2), 0, 0x0100_0000_0000_0007)];
+
+// The door has a fault, the quota is used up, or there is room.
+const FAULTY_DOOR: &[Step] = &[Step::Load(At::Door(3), 0x8000_0000_0000_0001)];
+
+const FULL_DOOR: &[Step] = &[Step::Load(At::Door(3), 4)];
+
+const FREE_DOOR: &[Step] = &[Step::Load(At::Door(3), 3)];
+
+// Tells whether the actor asks for these steps, in this order, and so does a copy of it, and it has no reply before
+// they are made. It is told this as the next number of a request.
+fn follows(actor: &mut Actor, next: u64, script: &[Step]) -> bool {
     for step in script {
         let (asked, got) = step.played();
-        if actor.ask() != asked || actor.reply().is_some() {
+        let is_asked = actor.ask() == asked && actor.copy().ask() == asked;
+        if !is_asked || actor.reply().is_some() {
             return false;
         }
-        let next = 9;
         actor.tell(Told { got, next });
     }
     true
@@ -156,67 +168,57 @@ fn change_of_one_word() -> Actor {
     Actor::new(2, 3, 4, 2, Job::Cas(entries))
 }
 
-// A change: its name, the steps for which it asks, part after part, and its reply.
-type Row = (&'static str, &'static [&'static [Step]], Option<Reply>);
+// A change: its name, the next number of a request, the steps for which it asks, part after part, and its reply.
+type Row = (&'static str, u64, &'static [&'static [Step]], Option<Reply>);
 
 // Tells whether the actor asks for these steps, part after part, and ends with this reply.
-fn ends(actor: &mut Actor, parts: &[&[Step]], reply: Option<Reply>) -> bool {
+fn ends(actor: &mut Actor, next: u64, parts: &[&[Step]], reply: Option<Reply>) -> bool {
     for part in parts {
-        if !follows(actor, part) {
+        if !follows(actor, next, part) {
             return false;
         }
     }
     actor.reply() == reply
 }
 
-static CHANGES: [Row; 3] = [
-    ("alone", &[OPENING, HOLDING, LETTING_GO], Some(Reply::Yes)),
+static CHANGES: [Row; 7] = [
+    (
+        "alone",
+        9,
+        &[OPENING, HOLDING, LETTING_GO],
+        Some(Reply::Yes),
+    ),
     (
         "another value",
+        9,
         &[OPENING, REFUSING],
         Some(Reply::No(6, 11)),
     ),
-    ("the file fails", &[OPENING, FAILING], Some(Reply::Fault)),
+    ("the file fails", 9, &[OPENING, FAILING], Some(Reply::Fault)),
+    (
+        "another change is helped first",
+        9,
+        &[OPENING, HELPING, ROW],
+        None,
+    ),
+    ("a faulty door", 9, &[FAULTY_DOOR], Some(Reply::Fault)),
+    ("a full door", WORN_NUMBER, &[FULL_DOOR], Some(Reply::Busy)),
+    ("worn", WORN_NUMBER, &[FREE_DOOR], Some(Reply::Worn)),
 ];
 
 #[test]
-fn changes_that_end(rt: HostRuntime) {
-    for (name, parts, reply) in &CHANGES {
+fn changes(rt: HostRuntime) {
+    for (name, next, parts, reply) in &CHANGES {
         let mut actor = change_of_one_word();
-        assert!(rt; ends(&mut actor, parts, *reply), "{name}");
-    }
-}
-
-#[test]
-fn another_change_is_helped_first(rt: HostRuntime) {
-    let mut actor = change_of_one_word();
-    let helped = ends(&mut actor, &[OPENING, HELPING], None);
-    let row = Step::Won(Kind::Row, At::Row(2), 0, 0x0100_0000_0000_0007);
-    let (row, _) = row.played();
-    assert!(rt; helped && actor.ask() == row && actor.copy().ask() == row);
-}
-
-// A door, the next number of a request, and its reply.
-static AT_THE_DOOR: [(u64, u64, Reply); 3] = [
-    (0x8000_0000_0000_0001, 9, Reply::Fault),
-    (4, WORN_NUMBER, Reply::Busy),
-    (3, WORN_NUMBER, Reply::Worn),
-];
-
-#[test]
-fn requests_that_end_at_the_door(rt: HostRuntime) {
-    for (door, next, reply) in &AT_THE_DOOR {
-        let mut actor = change_of_one_word();
-        let (got, next) = (Got::Word(*door), *next);
-        actor.tell(Told { got, next });
-        assert!(rt; actor.reply() == Some(*reply), "door {door}");
+        holds(&rt, name, *next, ends(&mut actor, *next, parts, *reply));
     }
 }
 
 #[test]
 fn a_read_is_handed_through(rt: HostRuntime) {
     let mut actor = Actor::new(2, 3, 4, 2, Job::Get(6));
-    assert!(rt; ends(&mut actor, &[READING], Some(Reply::Val(8))), "a read");
-    let is_its_own = (actor.worker(), actor.tenant()) == (2, 3);
-    assert!(rt; is_its_own && *actor.job() == Job::Get(6), "whose it is");
+    let is_read = ends(&mut actor, 9, &[READING], Some(Reply::Val(8)));
+    let is_its_own = actor.worker() == 2 && actor.tenant() == 3;
+    let is_its_own = is_its_own && matches!(actor.job(), Job::Get(6));
+    holds(&rt, "a read", 6, is_read && is_its_own);
 }

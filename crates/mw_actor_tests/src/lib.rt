@@ -5,6 +5,8 @@
 #[cfg(test)]
 mod actor_tests;
 #[cfg(test)]
+mod checks;
+#[cfg(test)]
 mod look_tests;
 #[cfg(test)]
 mod pool_tests;

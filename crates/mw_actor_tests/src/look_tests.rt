@@ -1,9 +1,9 @@
 //! Tests the machine of a read (`mw_look`): it is told what each of its steps found, and must ask for the right
 //! next step.
+use crate::checks::holds;
 use crate::script::Step;
 use mw_look::*;
 use mw_words::{At, Reply};
-use std::process::Abort;
 
 const DOOR: At = At::Door(2);
 
@@ -236,14 +236,7 @@ fn reply_after(parts: &[&[Step]]) -> Option<Reply> {
     look.reply()
 }
 
-// Each of these reads ends as its row says.
-fn end<R: Abort>(rt: &R, rows: &[Row]) {
-    for (name, parts, reply) in rows {
-        assert!(rt; reply_after(parts) == Some(*reply), "{name}");
-    }
-}
-
-static READS: [Row; 7] = [
+static READS: [Row; 15] = [
     ("plain", &[FINDS_5], Reply::Val(5)),
     ("dirty", &[FINDS_DIRTY_9], Reply::Val(9)),
     ("failed", &[FINDS_FAULT], Reply::Fault),
@@ -263,14 +256,7 @@ static READS: [Row; 7] = [
         Reply::Val(41),
     ),
     ("planted", &[PLANTED_ENTRY_2], Reply::Val(40)),
-];
-
-#[test]
-fn reads_that_end(rt: HostRuntime) {
-    end(&rt, &READS);
-}
-
-static TWICE: [Row; 8] = [
+    // These begin again.
     (
         "held, done with",
         &[TO_THE_PIN, ENTRY_0_OF_DONE_YES, BACK, FINDS_5],
@@ -312,8 +298,10 @@ static TWICE: [Row; 8] = [
 ];
 
 #[test]
-fn reads_that_begin_again(rt: HostRuntime) {
-    end(&rt, &TWICE);
+fn reads(rt: HostRuntime) {
+    for (name, parts, reply) in &READS {
+        holds(&rt, name, 7, reply_after(parts) == Some(*reply));
+    }
 }
 
 // What no step of a read finds at its door.
@@ -333,13 +321,13 @@ fn stays_at_the_door(look: &mut Look) -> bool {
 #[test]
 fn what_does_not_fit_the_step_changes_nothing(rt: HostRuntime) {
     let mut look = Look::new(2, 7);
-    assert!(rt; stays_at_the_door(&mut look) && plays(&mut look, FINDS_5));
+    let plays_on = stays_at_the_door(&mut look) && plays(&mut look, FINDS_5);
     let before = look.reply();
     look.tell(Told {
         got: Got::Word(1),
         next: 9,
     });
-    let after = look.reply();
     let wanted = Some(Reply::Val(5));
-    assert!(rt; before == wanted && after == wanted);
+    let is_so = plays_on && before == wanted && look.reply() == wanted;
+    holds(&rt, "unfit", 0, is_so);
 }

@@ -1,4 +1,5 @@
 //! Tests the rules for doors and gates (`mw_pool`): admission, claims, pins and freed slots.
+use crate::checks::holds;
 use mw_pool::*;
 use mw_words::{Door, Gate, MAX_PINS, WORN_NUMBER};
 
@@ -32,10 +33,8 @@ static DOORS: [(bool, u16, u8, Admission); 6] = [
 fn a_door_admits_up_to_its_quota(rt: HostRuntime) {
     for (fault, used, quota, said) in &DOORS {
         let (fault, used) = (*fault, *used);
-        assert!(rt;
-            admit(Door { fault, used }, *quota) == *said,
-            "{used} of {quota}"
-        );
+        let is_so = admit(Door { fault, used }, *quota) == *said;
+        holds(&rt, "slots in use", u64::from(used), is_so);
     }
 }
 
@@ -78,7 +77,7 @@ fn is_claimed_and_freed(from: Gate, claimed: Option<Fields>, freed: Option<Field
 fn gates_that_are_claimed_and_freed(rt: HostRuntime) {
     for (at, (from, claimed, freed)) in CLAIMED.iter().enumerate() {
         let is_so = is_claimed_and_freed(gate(*from), *claimed, *freed);
-        assert!(rt; is_so, "row {at}");
+        holds(&rt, "row", at as u64, is_so);
     }
 }
 
@@ -108,6 +107,7 @@ fn is_pinned(from: Gate, seq: u64, wanted: Option<Fields>) -> bool {
 #[test]
 fn gates_that_are_pinned_and_unpinned(rt: HostRuntime) {
     for (at, (from, seq, pinned)) in PINNED.iter().enumerate() {
-        assert!(rt; is_pinned(gate(*from), *seq, *pinned), "row {at}");
+        let is_so = is_pinned(gate(*from), *seq, *pinned);
+        holds(&rt, "row", at as u64, is_so);
     }
 }

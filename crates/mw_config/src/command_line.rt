@@ -1,20 +1,19 @@
 //! Reads the command line of `mwserve`.
 //!
-//! Used by: mw_programs. A new option needs a field here, its use in mw_programs, a clause in `specs/CommandLine` if
-//! it has limits, and its row in docs/OPERATING. Change a limit there and in docs/PROTOCOL too, an option's name in
+//! Used by: mw_programs. A new option needs a field here, its row in `options`, its use in mw_programs, a clause in
+//! `specs/CommandLine` if it has limits, and its row in docs/OPERATING. Change a limit there and in docs/PROTOCOL too, an option's name in
 //! contrib and scripts (`git grep`), a text of [`ArgFault`] in mw_store_tests and scripts/check-sockets.
 ghost use Rattle.std.specs.Prelude.{ℕ, ◌≡◌, ◌≤◌, IfOk, IfSome, length, vec_len};
 ghost use Rattle.mw_config.specs.CommandLine.{ArePermittedArgs, AreSharedWell, IsPermittedMode, IsUpTo, SuitsWorkers};
 
 use crate::lease_terms::{LeaseTerms, lease_of};
-use clap::builder::ValueParser;
+use crate::options::command_line;
+use clap::ArgMatches;
 use clap::error::ErrorKind;
 use clap::parser::ValueSource;
-use clap::{Arg, ArgAction, ArgMatches, Command};
-use mw_main::VERSION;
 use mw_words::{MAX_CONNECTIONS, MAX_POOL, MAX_WORKERS};
 use std::alloc::{AllocError, Global};
-use thiserror::Error;
+use std::fmt;
 
 /// What the command line of a server asks for.
 #[derive(Debug, Drop)]
@@ -120,6 +119,9 @@ const OWNERS_MODE: u32 = 0o600;
 /// The largest file mode of a local socket: everybody may do everything.
 pub const MAX_SOCKET_MODE: u32 = 0o777;
 
+/// The option that the options for connections come after.
+const LISTEN: &str = "listen";
+
 /// The rules of how the options of a command line go together, of which clap knows nothing, as a refusal says them.
 const ONE_MODE: &str = "give exactly one of --listen and --script";
 
@@ -142,18 +144,25 @@ const SOME_CHANGE: &str = "--clients needs more --workers than --readers, and so
 const IN_RANGE: &str = "give --tenants, and each number in its range";
 
 /// Tells why a command line is not served.
-#[derive(Debug, Drop, Error)]
+#[derive(Drop)]
 pub enum ArgFault {
     /// It isn't of the form that the help tells, a number is out of range, or it asks for the help or the
     /// version.
-    #[error("{0}")]
     Refused(clap::Error),
     /// Its options break this rule.
-    #[error("mwserve: refused 1 command\nmwserve: {0}")]
     Mode(&'static str),
     /// Memory was refused.
-    #[error("mwserve: memory")]
     Memory,
+}
+
+impl fmt::Display for ArgFault {
+    fn fmt<W: fmt::Write>(&self, f: &mut fmt::Formatter<W>) -> fmt::Result {
+        match self {
+            ArgFault::Refused(fault) => fault.fmt(f),
+            ArgFault::Mode(rule) => write!(f, "mwserve: refused 1 command\nmwserve: {rule}"),
+            ArgFault::Memory => f.write_str("mwserve: memory"),
+        }
+    }
 }
 
 impl From<AllocError> for ArgFault {
@@ -194,7 +203,7 @@ impl From<clap::Error> for ArgFault {
 pub fn read_args(alloc: Global, args: &[String]) -> Result<Args, ArgFault>
     ensures permitted { IfOk result (λ args. ArePermittedArgs args) }
 {
-    let matches = command(alloc)?.try_get_matches_from(args)?;
+    let matches = command_line().matches(alloc, args)?;
     args_of(alloc, &matches)
 }
 
@@ -226,7 +235,7 @@ fn mode_of(alloc: Global, matches: &ArgMatches<'_>, workers: u8) -> Result<Mode,
     ensures permitted { IfOk result (λ mode. IsPermittedMode mode) }
     ensures suits { IfOk result (λ mode. SuitsWorkers workers mode) }
 {
-    match (matches.get_str("listen"), matches.get_str("script")) {
+    match (matches.get_str(LISTEN), matches.get_str("script")) {
         (Some(address), None) => listen_mode(alloc, matches, address, workers),
         (None, Some(script)) if !tell_of_connections(matches) => {
             Ok(Mode::Script(String::from_str(alloc, script)?))
@@ -236,15 +245,21 @@ fn mode_of(alloc: Global, matches: &ArgMatches<'_>, workers: u8) -> Result<Mode,
     }
 }
 
-/// Tells whether there is an option for connections only, other than `--listen`.
+/// Tells whether there is an option for connections only, other than `--listen`: they come after it in the table.
 fn tell_of_connections(matches: &ArgMatches<'_>) -> bool {
-    for option in &OF_CONNECTIONS {
-        let (name, _, _) = *option;
-        if let Some(ValueSource::CommandLine) = matches.value_source(name) {
+    let mut is_after_listen = false;
+    for option in command_line().arguments {
+        if is_after_listen && is_given(matches, option.name) {
             return true;
         }
+        is_after_listen |= option.name == LISTEN;
     }
     false
+}
+
+/// Tells whether an option was given.
+fn is_given(matches: &ArgMatches<'_>, name: &str) -> bool {
+    matches!(matches.value_source(name), Some(ValueSource::CommandLine))
 }
 
 /// Gives the mode for connections to this address, with what the other options say of them.
@@ -259,15 +274,20 @@ fn listen_mode(
     ensures suits { IfOk result (λ mode. SuitsWorkers workers mode) }
 {
     let socket_mode = socket_mode_of(matches.get_str("mode"))?;
-    let http_names = names_of(alloc, matches)?;
+    let names = names_of(matches)?;
     let shared = shared_of(matches, workers)?;
     let lease = lease_of(alloc, matches)?;
+    let Places {
+        address,
+        admin,
+        http,
+        http_names,
+    } = places_of(alloc, matches, address, names)?;
     let idle = number_of(matches, "idle", MAX_IDLE);
-    let address = String::from_str(alloc, address)?;
     Ok(Mode::Listen(Listening {
         address,
-        admin: copy_of(alloc, matches.get_str("admin"))?,
-        http: copy_of(alloc, matches.get_str("http"))?,
+        admin,
+        http,
         http_names,
         connections: number_of(matches, "connections", MAX_CONNECTIONS),
         shared,
@@ -282,36 +302,63 @@ fn listen_mode(
     }))
 }
 
+/// The addresses at which a server listens, and the names for its pages.
+#[derive(Drop)]
+struct Places {
+    address: String,
+    admin: Option<String>,
+    http: Option<String>,
+    http_names: Vec<String>,
+}
+
+/// Copies this address, those that the other options say, and these names.
+fn places_of(
+    alloc: Global,
+    matches: &ArgMatches<'_>,
+    address: &str,
+    names: &[&str],
+) -> Result<Places, AllocError>
+    ensures { IfOk result (λ places. vec_len places.http_names ≡ length names.now) }
+{
+    Ok(Places {
+        address: String::from_str(alloc, address)?,
+        admin: copy_of(alloc, matches.get_str("admin"))?,
+        http: copy_of(alloc, matches.get_str("http"))?,
+        http_names: copies_of(alloc, names)?,
+    })
+}
+
 /// Gives the names for the pages.
-fn names_of(alloc: Global, matches: &ArgMatches<'_>) -> Result<Vec<String>, ArgFault>
-    ensures { IfOk result (λ names. vec_len names ≤ MAX_HTTP_NAMES) }
+fn names_of<'m, 'a>(matches: &'m ArgMatches<'a>) -> Result<&'m [&'a str], ArgFault>
+    ensures { IfOk result (λ names. length names.now ≤ MAX_HTTP_NAMES) }
 {
     let Some(names) = matches.get_strs("http-name") else {
-        return Ok(Vec::new(alloc));
+        return Ok(&[]);
     };
     if matches.get_str("http").is_none() {
         return Err(ArgFault::Mode(PAGES));
     }
-    if names.len() > MAX_HTTP_NAMES {
+    if names.len() > MAX_HTTP_NAMES || !are_host_names(names) {
         return Err(ArgFault::Mode(HTTP_NAME));
     }
-    copies_of(alloc, names)
+    Ok(names)
 }
 
 /// Copies these names.
-fn copies_of(alloc: Global, names: &[&str]) -> Result<Vec<String>, ArgFault>
+fn copies_of(alloc: Global, names: &[&str]) -> Result<Vec<String>, AllocError>
     ensures { IfOk result (λ copies. vec_len copies ≡ length names.now) }
 {
     let mut copies = Vec::new(alloc);
     for name in names {
-        if !is_host_name(name.as_bytes()) {
-            return Err(ArgFault::Mode(HTTP_NAME));
-        }
         if copies.push(String::from_str(alloc, name)?).is_err() {
-            return Err(ArgFault::Memory);
+            return Err(AllocError);
         }
     }
     Ok(copies)
+}
+
+fn are_host_names(names: &[&str]) -> bool {
+    names.iter().all(|name| is_host_name(name.as_bytes()))
 }
 
 /// Tells whether a text is a name by which the pages may be called.
@@ -376,213 +423,4 @@ pub(crate) fn number_of(matches: &ArgMatches<'_>, name: &str, most: u32) -> Opti
         Some(number) if (1..=most).contains(&number) => Some(number),
         _ => None,
     }
-}
-
-/// Says what is given after an option.
-#[derive(Clone, Copy)]
-enum Given {
-    /// A text, which the help calls so, and which must be given.
-    Needed(&'static str),
-    /// A text, which the help calls so.
-    Text(&'static str),
-    /// The same, as often as it is given.
-    Texts(&'static str),
-    /// A number from 1 to the second part. The help calls it by the first part, which is its range.
-    Number(&'static str, u32),
-    /// The same. If none is given, it is the third part.
-    NumberOr(&'static str, u32, &'static str),
-    /// Nothing.
-    Flag,
-}
-
-/// The name of an option, without the two dashes, what is given after it, and what it is for.
-type Choice = (&'static str, Given, &'static str);
-
-/// What the help ends with.
-const AFTER_HELP: &str = "\
-Each line of the tenants file: name words quota path
-Example: mwinit t.mw 1000 4 && echo 't 1000 4 t.mw' > tenants && mwserve --tenants tenants --listen 127.0.0.1:7000
-Documents: docs/OPERATING.md beside README.md, or below /usr/share/doc/mondlexi";
-
-// The names of numbers in the help have these limits.
-const _: () = prove!(MAX_POOL == 256);
-
-const _: () = prove!(MAX_WORKERS == 64);
-
-const _: () = prove!(MAX_CLIENTS == 4096);
-
-const _: () = prove!(MAX_CONNECTIONS == 1_000_000);
-
-const _: () = prove!(MAX_FAULTS == 1_000_000);
-
-const _: () = prove!(MAX_IDLE == 86_400);
-
-/// The options that need no `--listen`, in the order of the help.
-const OPTIONS: [Choice; 9] = [
-    (
-        "tenants",
-        Given::Needed("FILE"),
-        "which tenants are served, and from which files",
-    ),
-    (
-        "pool",
-        Given::NumberOr("1..256", MAX_POOL as u32, "256"),
-        "how many changes of all tenants may be under way at a time",
-    ),
-    (
-        "workers",
-        Given::NumberOr("1..64", MAX_WORKERS as u32, "4"),
-        "how many requests are worked on at once; without --clients each client has a worker",
-    ),
-    (
-        "strict",
-        Given::Flag,
-        "serve nothing if a tenant's file doesn't open",
-    ),
-    (
-        "verbose",
-        Given::Flag,
-        "say after each note which file or address it is about, and what the system told",
-    ),
-    (
-        "journal",
-        Given::Flag,
-        "begin each note with its level, as the journal of systemd reads it: <3>, <4> or <6>",
-    ),
-    (
-        "times",
-        Given::Flag,
-        "begin each note with the time in UTC, as 2026-11-28T06:30:00.125Z",
-    ),
-    (
-        "script",
-        Given::Text("FILE"),
-        "the lines of one session, in place of connections",
-    ),
-    (
-        "listen",
-        Given::Text("ADDR"),
-        "where to wait for connections, each of them a session: HOST:PORT or unix:PATH",
-    ),
-];
-
-/// The options that need `--listen`.
-const OF_CONNECTIONS: [Choice; 15] = [
-    (
-        "admin",
-        Given::Text("ADDR"),
-        "where to wait for the administrator, who then has a worker beside the others",
-    ),
-    (
-        "http",
-        Given::Text("ADDR"),
-        "where to show the server's pages and figures over HTTP: HOST:PORT or unix:PATH; without it, nowhere",
-    ),
-    (
-        "http-name",
-        Given::Texts("NAME"),
-        "a name by which the pages may be called, beside addresses and localhost; it may be given 16 times",
-    ),
-    (
-        "connections",
-        Given::Number("1..1000000", MAX_CONNECTIONS),
-        "after how many connections to end; without it, never",
-    ),
-    (
-        "clients",
-        Given::Number("1..4096", MAX_CLIENTS as u32),
-        "how many clients are served at once, sharing the workers; without it, as many as there are workers",
-    ),
-    (
-        "readers",
-        Given::Number("1..64", MAX_WORKERS as u32),
-        "how many of the workers only read, with --clients; without it, a quarter of them",
-    ),
-    (
-        "wait",
-        Given::Number("1..86400", MAX_IDLE),
-        "after how many seconds to close a connection for which no session is free; without it, never",
-    ),
-    (
-        "idle",
-        Given::Number("1..86400", MAX_IDLE),
-        "after how many seconds of silence to end a session; without it, never",
-    ),
-    (
-        "line-time",
-        Given::Number("1..86400", MAX_IDLE),
-        "how many seconds a line or a reply may take from its first byte to its last; without it, as --idle",
-    ),
-    (
-        "faults",
-        Given::Number("1..1000000", MAX_FAULTS),
-        "after how many lines that are answered ERR to end a session; without it, never",
-    ),
-    (
-        "end-on-failure",
-        Given::Flag,
-        "end with status 3 when a tenant's file fails or is given up, so that another server may take its lock",
-    ),
-    (
-        "lease",
-        Given::Text("FILE"),
-        "a file to lock, and to write to again and again; replies that tell of words need it; without it, none does",
-    ),
-    (
-        "lease-time",
-        Given::Number("1..86400", MAX_IDLE),
-        "how many seconds a write to the file of --lease counts; needs --lease",
-    ),
-    (
-        "open",
-        Given::Flag,
-        "say no note on an address at which other machines may connect",
-    ),
-    (
-        "mode",
-        Given::Text("0..777"),
-        "the file mode of a local socket, in octal digits; without it, 600",
-    ),
-];
-
-fn command<'a>(alloc: Global) -> Result<Command<'a>, AllocError> {
-    let command = Command::new(alloc, "mwserve")
-        .version(VERSION)
-        .about("Serves tenants' words.")
-        .after_help(AFTER_HELP);
-    let command = with_options(alloc, command, &OPTIONS)?;
-    with_options(alloc, command, &OF_CONNECTIONS)
-}
-
-/// Gives the command with these options.
-fn with_options<'a>(
-    alloc: Global,
-    command: Command<'a>,
-    options: &[Choice],
-) -> Result<Command<'a>, AllocError> {
-    let mut command = command;
-    for option in options {
-        let (name, given, help) = *option;
-        let arg = Arg::new(alloc, name).long(name).help(help);
-        command = command.arg(with_value(arg, given))?;
-    }
-    Ok(command)
-}
-
-/// Says what is given after an option.
-fn with_value<'a>(arg: Arg<'a>, given: Given) -> Arg<'a> {
-    match given {
-        Given::Needed(value) => arg.value_name(value).required(true),
-        Given::Text(value) => arg.value_name(value),
-        Given::Texts(value) => arg.value_name(value).action(ArgAction::Append),
-        Given::Number(value, most) => with_number(arg, value, most),
-        Given::NumberOr(value, most, usual) => with_number(arg, value, most).default_value(usual),
-        Given::Flag => arg.action(ArgAction::SetTrue),
-    }
-}
-
-/// Says that a number from 1 to `most` is given after an option.
-fn with_number<'a>(arg: Arg<'a>, value: &'a str, most: u32) -> Arg<'a> {
-    arg.value_name(value)
-        .value_parser(ValueParser::unsigned(1, u64::from(most)))
 }

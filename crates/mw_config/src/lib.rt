@@ -10,6 +10,7 @@ mod forms;
 mod laws;
 mod lease_terms;
 mod lines;
+mod options;
 mod refusals;
 mod tenants;
 

@@ -1,22 +1,26 @@
-//! The listener for clients that stay for one request and its answer.
+//! The listener for clients that stay for one request and its answer, and such a client.
 //!
-//! mw_programs listens for them, and mw_server_pages serves them. Two limits of time run from the moment when the
+//! mw_programs listens for them, and mw_server_pages answers them. Two limits of time run from the moment when the
 //! client comes, one for all reads and one for all writes; `timed_stream.rt` keeps them. Nothing is proved of
-//! sockets.
+//! sockets; what was read and written is recorded.
+ghost use Rattle.mw_session.specs.KnownStreams.{reads_of, writes_of};
 
 use crate::lease::Lease;
 use crate::leased_stream::{ClientLease, LeasedStream};
 use crate::listening_socket::{Closer, ListeningSocket};
 use crate::network::Network;
-use crate::peer::StreamListener;
-use crate::sockets::open_door;
+use crate::promise::PagesPromise;
+use crate::sockets::{open_door, say_goodbye};
 use crate::timed_stream::{Span, TimedStream};
+use crate::visitors::{Visitor, VisitorListener};
+use mw_http::{Exchanged, Pages, exchange};
 use mw_session::RecordedStream;
 use std::fs::File;
 use std::io;
 use std::marker::PhantomData;
 use std::net::{Net, TcpListener, TcpStream};
 use std::rt::Files;
+use std::sync::Wait;
 use std::time::{Clock, Duration, Instant};
 
 /// How long a client may take, in seconds of at least 1.
@@ -37,6 +41,13 @@ pub struct BriefListener<'a, K, Q> {
     /// The lease that each answer needs, if it needs one.
     lease: Option<&'a Lease>,
     /// What its clients are promised.
+    promise: PhantomData<Q>,
+}
+
+/// A client that stays for one request. Nobody else has its stream.
+#[derive(Drop)]
+pub struct BriefClient<'a, K, Q> {
+    stream: RecordedStream<LeasedStream<TimedStream<'a, K>, ClientLease<'a, K>>>,
     promise: PhantomData<Q>,
 }
 
@@ -99,14 +110,12 @@ impl<'a, K, Q> BriefListener<'a, K, Q> {
     }
 }
 
-impl<'a, K: Clock + Sync, Q> StreamListener for BriefListener<'a, K, Q> {
-    type Stream = LeasedStream<TimedStream<'a, K>, ClientLease<'a, K>>;
+impl<'a, K: Clock + Sync, Q: PagesPromise> VisitorListener for BriefListener<'a, K, Q> {
+    type Visitor = BriefClient<'a, K, Q>;
 
     ghost accepts = { λ _ _ _. Unit {0} };
 
-    fn accept(
-        &mut self,
-    ) -> io::Result<RecordedStream<LeasedStream<TimedStream<'a, K>, ClientLease<'a, K>>>> {
+    fn accept(&mut self) -> io::Result<BriefClient<'a, K, Q>> {
         let stream = self.door.next()?;
         let begun = Instant::now(self.clock)?;
         let (request, whole) = (self.limits.request, self.limits.whole);
@@ -120,7 +129,31 @@ impl<'a, K: Clock + Sync, Q> StreamListener for BriefListener<'a, K, Q> {
             lease: self.lease,
             clock: self.clock,
         };
-        Ok(RecordedStream::new(LeasedStream::new(stream, lease)))
+        Ok(BriefClient {
+            stream: RecordedStream::new(LeasedStream::new(stream, lease)),
+            promise: PhantomData,
+        })
+    }
+}
+
+impl<'a, K: Clock, Q: PagesPromise> Visitor for BriefClient<'a, K, Q> {
+    ghost reads = { λ client. reads_of client.stream };
+
+    ghost writes = { λ client. writes_of client.stream };
+
+    ghost promised = { Q.shown };
+
+    fn exchange<P: Pages, R: Wait>(
+        &mut self,
+        rt: &R,
+        pages: &mut P,
+        names: &[String],
+    ) -> Exchanged {
+        exchange(rt, &mut self.stream, pages, names)
+    }
+
+    fn leave<R: Wait>(&mut self, rt: &R) {
+        say_goodbye(rt, &mut self.stream);
     }
 }
 

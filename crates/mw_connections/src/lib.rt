@@ -21,14 +21,17 @@
 //! [`Patient`] is a listener over another one. When the system has no room for a connection, it waits,
 //! longer each time, and says so once.
 //!
-//! A [`StreamListener`] gives streams in place of connections, for a server that reads and writes their bytes itself.
-//! [`listen_briefly`] makes one, whose clients stay for one request within [`BriefLimits`].
+//! A [`VisitorListener`] gives a [`Visitor`], who stays for one HTTP request, and is answered by [`mw_http::exchange`].
+//! [`listen_briefly`] makes one, for clients within [`BriefLimits`].
+//!
+//! Each of these clients is served as a [`Promise`] says that the type of the listener names. Nobody else has a client's
+//! stream, so nobody can tell it anything else.
 //!
 //! Each reply is sent at once: a TCP connection is set not to hold back what is written to it. If the
 //! system refuses that, the client is served all the same.
 //!
-//! Used by: mw_workers, which serves connections; mw_server_pages, which serves streams; mw_programs, which listens
-//! for both. The proofs are about what a session read and wrote, and how long it may wait; of sockets they say
+//! Used by: mw_workers, which serves connections; mw_server_pages, which answers visitors; mw_programs and
+//! mw_examples, which listen for both. The proofs are about what a session read and wrote, and how long it may wait; of sockets they say
 //! nothing. What a client or an operator sees of it is in docs/PROTOCOL and docs/OPERATING: change them together.
 #![tactic(auto)]
 
@@ -46,16 +49,17 @@ mod promise;
 mod sockets;
 mod time_limits;
 mod timed_stream;
+mod visitors;
 
-pub use brief::{BriefLimits, BriefListener, listen_briefly};
+pub use brief::{BriefClient, BriefLimits, BriefListener, listen_briefly};
 pub use lease::Lease;
 pub use leased_stream::{AsksLease, ClientLease, LeasedStream};
 pub use listening_socket::Closer;
 pub use metered::{MeteredConnection, MeteredListener};
 pub use network::Network;
 pub use patience::{FIRST_PAUSE, LONGEST_PAUSE, Patient, RoomWatch};
-pub use peer::{Connection, Listener, StreamListener};
-pub use promise::{Anything, Promise};
-pub use sockets::{Client, ClientListener, listen_at, port_of, say_goodbye};
+pub use peer::{Connection, Listener};
+pub use promise::{Anything, PagesPromise, Promise};
+pub use sockets::{Client, ClientListener, listen_at, port_of};
 pub use time_limits::TimeLimits;
-pub use timed_stream::TimedStream;
+pub use visitors::{Visitor, VisitorListener};

@@ -1,6 +1,7 @@
 //! The network of a server that has promised what its clients are served with.
 //!
-//! mw_programs is given one, and so can listen for no client whom it may serve otherwise. Change it with docs/PROMISES.
+//! mw_programs has one for its engine alone, and so can listen for no client whom it may serve otherwise. mw_examples has
+//! one for a socket. Change it with docs/PROMISES.
 use std::marker::PhantomData;
 
 /// The right to listen for clients, if they are served as `Q` promises. Of what `rt` may do with sockets it gives nothing else.

@@ -1,19 +1,16 @@
 //! Defines the traits of listeners and of a client's connection.
 //!
-//! Used by: `sockets.rt`, `patience.rt`, mw_workers, tests; mw_server_pages, for [`StreamListener`]. A new call needs
-//! a body in each implementation.
-ghost use Rattle.std.specs.Prelude.{ℕ, ◌≡◌, List, Option, IfOk};
+//! Used by: `sockets.rt`, `patience.rt`, mw_workers, mw_programs, tests. A new call needs a body in each implementation.
+ghost use Rattle.std.specs.Prelude.{ℕ, ◌≡◌, List, Option};
 ghost use Rattle.std.specs.declared.result.Result.{Result as Outcome};
 ghost use Rattle.std.specs.declared.io.Error.{Error as IoError};
 ghost use Rattle.mw_session.specs.ServiceCalls.{AreAnswered};
 ghost use Rattle.mw_session.specs.Talk.{Call};
-ghost use Rattle.mw_session.specs.StreamRecords.{ReadRecord, WriteRecord, no_reads, no_writes};
-ghost use Rattle.mw_session.specs.KnownStreams.{reads_of, writes_of};
-ghost use Rattle.mw_session.specs.declared.recorded_stream.RecordedStream.{RecordedStream as Recorded};
+ghost use Rattle.mw_session.specs.StreamRecords.{ReadRecord, WriteRecord};
 ghost use Rattle.mw_connections.specs.Promises.{KeepsPromise};
 ghost use Rattle.mw_connections.specs.Sessions.{IsSessionOf};
 
-use mw_session::{Ended, Others, PeerStream, RecordedStream, Service};
+use mw_session::{Ended, Others, Service};
 use std::alloc::Global;
 use std::io;
 use std::sync::Wait;
@@ -33,23 +30,6 @@ pub trait Listener {
     /// one.
     fn accept(&mut self) -> io::Result<Self::Connection>
         ensures { accepts self.old result self.new };
-}
-
-/// Gives clients' streams, for a server that reads and writes their bytes itself.
-pub trait StreamListener {
-    type Stream: PeerStream + Send + Drop;
-
-    // Says what one call of `accept` may answer in a state, and which state it leaves then.
-    ghost accepts: { Self → Outcome (Recorded Self.Stream) IoError → Self → Type 0 };
-
-    /// Takes the next client. Nobody may come, so this may wait for ever. Dropping the stream closes the connection.
-    ///
-    /// # Errors
-    ///
-    /// As [`Listener::accept`].
-    fn accept(&mut self) -> io::Result<RecordedStream<Self::Stream>>
-        ensures accepts { accepts self.old result self.new }
-        ensures fresh { IfOk result (λ stream. (reads_of stream ≡ no_reads) × (writes_of stream ≡ no_writes)) };
 }
 
 /// A client's connection, to be served once. Dropping it closes it.

@@ -1,6 +1,6 @@
 //! Implements listeners and connections by TCP sockets and local sockets.
 //!
-//! Used by: mw_programs, which calls [`listen_at`]; mw_server_pages, which ends its connections by [`say_goodbye`].
+//! Used by: mw_programs and mw_examples, which call [`listen_at`]; `brief.rt`, which ends its connections by [`say_goodbye`].
 //! No contract says what a socket carries; what was read and written is recorded. The limits at the top may have
 //! other numbers; docs/OPERATING and docs/PROTOCOL tell them.
 ghost use Rattle.std.specs.Prelude.{◌≡◌, None};
@@ -218,13 +218,13 @@ impl<'a, K: Clock, Q: Promise> Connection for Client<'a, K, Q> {
     }
 }
 
-/// Lets a client whose session has ended read all that it was told, before its connection is closed. The
+/// Lets a client whose session or exchange has ended read all that it was told, before its connection is closed. The
 /// system resets a connection that is closed with unread bytes, and then the client loses what it hasn't
 /// read.
 ///
 /// Nothing more is written. What the client still sends is read and dropped, until the client closes its
 /// side, was read [`LINGER_READS`] times, or is read no longer (`end_writing` of its stream), or a call fails.
-pub fn say_goodbye<T: PeerStream, R: Wait>(rt: &R, stream: &mut RecordedStream<T>)
+pub(crate) fn say_goodbye<T: PeerStream, R: Wait>(rt: &R, stream: &mut RecordedStream<T>)
     ensures { writes_of stream.new ≡ writes_of stream.old }
 {
     // If the system refuses this, the connection is closed all the same.

@@ -1,22 +1,23 @@
 -- An engine's identity (what stays the same for its whole life) and its table agree on lines, places, slots, passes and
 -- requests.
--- Used by: nearly all calls of Engine.
-use Rattle.std.specs.Prelude.{ℕ, ◌≡◌, ◌<◌, List, map}
+-- Used by: src/start.rt and nearly all other calls of Engine.
+use Rattle.std.specs.Prelude.{ℕ, ◌≡◌, ◌<◌, List, map, Option}
 use Rattle.std.proofs.Common.{sym, ap, subst, ◌∙◌}
 use Rattle.mw_words.specs.declared.jobs.Job.{Job}
 use Rattle.mw_actor.specs.ActorState.{first}
 use Rattle.mw_world.specs.declared.config.Config.{Config}
-use Rattle.mw_core.specs.FromTable.{IsFree, IsOf, IsIdleAfter, Pass, config_of, openings_of}
+use Rattle.mw_core.specs.FromTable.{IsFree, IsOf, IsIdleAfter, Pass, Shared, config_of, openings_of}
 use Rattle.mw_engine.specs.declared.tenant_words.TenantWords.{TenantWords}
 use Rattle.mw_engine.specs.LinesOfWorld.{places_told}
 use Rattle.mw_engine.specs.Brand.{Identity, identity_on}
+use Rattle.mw_engine.specs.DisksAtStart.{DiskAtStart}
 use Rattle.mw_engine.specs.Identity.{IsFor, Line, quota_told}
 use Rattle.mw_engine.specs.Passes.{IsPassOf}
 use Rattle.mw_engine.specs.Requests.{request_of}
 use Rattle.mw_engine.specs.TenantWords.{HasPass, lines_told, places_kept}
 use Rattle.mw_engine.proofs.PassAfterCall.{one_free, one_on}
 
-module _ (words : TenantWords) (identity : Identity) (same : identity_on words.core.shared (lines_told words) ≡ identity) where
+module _ (words : TenantWords) (identity : Identity) (same : identity_on words.core.shared (lines_told words) identity.disks ≡ identity) where
   pub same_lines : lines_told words ≡ identity.lines
   same_lines = ap (λ (one : Identity). one.lines) same
 
@@ -80,3 +81,7 @@ rested_of identity old new own rested = record {
   there = subst (λ (n : ℕ). n < identity.config.workers) (sym rested.same_worker) own.there;
   free = (λ i. (rested.same_seat i).me.0.files) ∙ own.free;
 }
+
+-- an identity has the disks with which it was made
+pub with_own_disks : (shared : Shared) (lines : List Line) (disks : List (Option DiskAtStart)) (identity : Identity) → identity_on shared lines disks ≡ identity → identity_on shared lines identity.disks ≡ identity
+with_own_disks shared lines disks identity same = subst (λ (all : List (Option DiskAtStart)). identity_on shared lines all ≡ identity) (ap (λ (one : Identity). one.disks) same) same

@@ -16,6 +16,7 @@ use Rattle.mw_engine.specs.Brand.{Identity}
 use Rattle.mw_engine.specs.Copies.{CopiesOne, IsBackupAsTold}
 use Rattle.mw_engine.specs.GuardedFile.{AgreesOnce, IsKept, KeepsFor}
 use Rattle.mw_engine.proofs.AgreementForms.{agrees_of, agrees_once}
+use Rattle.mw_engine.proofs.DisksOfFiles.{copied_on_disk}
 
 -- the file pass that a lock has
 some_of : (file_pass : Option FilePass) → is_some file_pass ≡ true → (one : FilePass) × (file_pass ≡ Some one)
@@ -54,6 +55,7 @@ module _ {D : Type 0} (facts : D → Facts) where
       config = kept.config;
       openings = kept.openings;
       opened = still_there facts old new read ∙ kept.opened;
+      its_disk = copied_on_disk facts identity.disks file_pass.tenant old.held new.held read.held kept.its_disk;
       agrees = still_agrees old new (file_kept file_pass) (opening_at identity.openings file_pass.tenant).quota identity.config.pool read represents kept.agrees;
     }
 

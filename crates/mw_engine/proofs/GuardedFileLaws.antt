@@ -13,10 +13,12 @@ use Rattle.mw_core.specs.FromTable.{FilePass, FileToken, IsFilePassOf, IsSoOfWor
 use Rattle.mw_core.specs.FileCalls.{FilesOnce, stake_by}
 use Rattle.mw_core.specs.Books.{AgreesThere}
 use Rattle.mw_engine.specs.Brand.{Identity, identity_on}
+use Rattle.mw_engine.specs.DisksAtStart.{IsOnItsDisk}
 use Rattle.mw_engine.specs.GuardedFile.{AgreesOnce, AreKept, IsKept, KeepsFor}
 use Rattle.mw_engine.proofs.AgreementForms.{agrees_of, agrees_once}
+use Rattle.mw_engine.proofs.DisksOfFiles.{called_on_disk}
 
-module _ {D : Type 0} (facts : D → Facts) (shared : Shared) (identity : Identity) (same : identity_on shared identity.lines ≡ identity) where
+module _ {D : Type 0} (facts : D → Facts) (shared : Shared) (identity : Identity) (same : identity_on shared identity.lines identity.disks ≡ identity) where
   -- it is a file pass of the table, and the book agrees with it
   pub file_pass_of : (book : Book D) (file_pass : FilePass) → IsKept facts identity book file_pass → IsFilePassOf shared file_pass
   file_pass_of book file_pass kept = record {
@@ -30,19 +32,21 @@ module _ {D : Type 0} (facts : D → Facts) (shared : Shared) (identity : Identi
       agrees_of facts book (file_kept file_pass) (opening_at (openings_of shared.table.shared.key) file_pass.tenant).quota (config_of shared.table.shared.key).pool
       (subst (λ (one : Identity). AgreesOnce facts book (file_kept file_pass) (opening_at one.openings file_pass.tenant).quota one.config.pool) (sym same) kept.agrees)
 
-  pub kept_of : (book : Book D) (file_pass : FilePass) → IsFilePassOf shared file_pass → is_some book.held ≡ (opening_at identity.openings file_pass.tenant).is_up → AgreesThere facts shared book file_pass
+  pub kept_of : (book : Book D) (file_pass : FilePass) → IsFilePassOf shared file_pass → is_some book.held ≡ (opening_at identity.openings file_pass.tenant).is_up
+      → IsOnItsDisk facts identity.disks file_pass.tenant book.held → AgreesThere facts shared book file_pass
       → IsKept facts identity book file_pass
-  kept_of book file_pass own opened agrees = record {
+  kept_of book file_pass own opened its_disk agrees = record {
     own = own.table ∙ ap (λ (one : Identity). one.table) same;
     config = own.config ∙ ap (λ (one : Identity). one.config) same;
     openings = own.openings ∙ ap (λ (one : Identity). one.openings) same;
     opened = opened;
+    its_disk = its_disk;
     agrees = subst (λ (one : Identity). AgreesOnce facts book (file_kept file_pass) (opening_at one.openings file_pass.tenant).quota one.config.pool) same
         (agrees_once facts book (file_kept file_pass) (opening_at (openings_of shared.table.shared.key) file_pass.tenant).quota (config_of shared.table.shared.key).pool agrees);
   }
 
 -- What a file pass tells is so in the engine's world.
-pub so_there : (shared : Shared) (identity : Identity) (file_pass : FilePass) → identity_on shared identity.lines ≡ identity
+pub so_there : (shared : Shared) (identity : Identity) (file_pass : FilePass) → identity_on shared identity.lines identity.disks ≡ identity
     → IsSoOfWorld (config_of shared.table.shared.key) (openings_of shared.table.shared.key) file_pass.seat.me.0.known_run file_pass.tenant (file_kept file_pass)
     → IsSoOfWorld identity.config identity.openings file_pass.seat.me.0.known_run file_pass.tenant (file_kept file_pass)
 so_there shared identity file_pass same so = subst (λ (one : Identity). IsSoOfWorld one.config one.openings file_pass.seat.me.0.known_run file_pass.tenant (file_kept file_pass)) same so
@@ -86,12 +90,14 @@ pub still_held : {D : Type 0} (facts : D → Facts) (waiting : List Waiting) (ol
 still_held facts waiting old new actor next before after file_passes kept once = still_on facts (LeavesEither file_passes.contents (stake_by once.end once.called file_passes)) before.held after.held once.safe
 
 -- The book and the file pass that come back from a call are kept as those of before the call were.
-pub kept_over : {D : Type 0} (facts : D → Facts) (shared : Shared) (identity : Identity) (same : identity_on shared identity.lines ≡ identity) (waiting : List Waiting) (old new : Pass) (actor next : ActorState) (before after : Book D) (file_pass returned : FilePass)
+pub kept_over : {D : Type 0} (facts : D → Facts) (shared : Shared) (identity : Identity) (same : identity_on shared identity.lines identity.disks ≡ identity) (waiting : List Waiting) (old new : Pass) (actor next : ActorState) (before after : Book D) (file_pass returned : FilePass)
     → IsKept facts identity before file_pass → FilesOnce facts waiting old new actor next before after (file_kept file_pass) (file_kept returned) → IsFilePassOf shared returned → returned.tenant ≡ file_pass.tenant
     → AgreesThere facts shared after returned → IsKept facts identity after returned
 kept_over facts shared identity same waiting old new actor next before after file_pass returned kept once own whose agrees =
     kept_of facts shared identity same after returned own
-    (still_held facts waiting old new actor next before after (file_kept file_pass) (file_kept returned) once ∙ (kept.opened ∙ ap (λ (tenant : ℕ). (opening_at identity.openings tenant).is_up) (sym whose))) agrees
+    (still_held facts waiting old new actor next before after (file_kept file_pass) (file_kept returned) once ∙ (kept.opened ∙ ap (λ (tenant : ℕ). (opening_at identity.openings tenant).is_up) (sym whose)))
+    (subst (λ (tenant : ℕ). IsOnItsDisk facts identity.disks tenant after.held) (sym whose)
+    (called_on_disk facts identity.disks file_pass.tenant (file_kept file_pass).contents (stake_by once.end once.called (file_kept file_pass)) before.held after.held once.safe kept.its_disk)) agrees
 
 none_there : (file_pass : Option FilePass) → is_some file_pass ≡ true → file_pass ≡ None → ⊥
 none_there None there is = cc

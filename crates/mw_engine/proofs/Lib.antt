@@ -1,6 +1,7 @@
 pub mod Branded
 pub mod Configured
 pub mod Disks
+pub mod DisksOfFiles
 pub mod RequestAfterStep
 pub mod Histories
 pub mod FileCopies

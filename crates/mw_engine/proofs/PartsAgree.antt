@@ -1,6 +1,6 @@
 -- When an engine's parts are made, its lines, table, passes, books and file passes agree with each other.
 -- Used by: EngineParts::new.
-use Rattle.std.specs.Prelude.{◌≡◌, ◌<◌, ℕ, All, List, [], ◌∷◌, length, map, not, slice_get, Option, Some, Vec}
+use Rattle.std.specs.Prelude.{◌≡◌, ◌<◌, ℕ, All, List, [], ◌∷◌, length, map, is_some, not, slice_get, Option, Some, Vec}
 use Rattle.std.specs.declared.alloc.Global.{Global}
 use Rattle.std.proofs.Common.{sym, ap, subst, ◌∙◌}
 use Rattle.std.proofs.lemmas.List.{length-map}
@@ -16,12 +16,14 @@ use Rattle.mw_core.specs.Books.{Agrees}
 use Rattle.mw_engine.specs.declared.listed.Listed.{Listed}
 use Rattle.mw_engine.specs.LinesOfWorld.{Agrees as AgreesWithWorld, line_given, places_told}
 use Rattle.mw_engine.specs.Brand.{identity_on}
+use Rattle.mw_engine.specs.DisksAtStart.{IsOnItsDisk, disks_in}
 use Rattle.mw_engine.specs.GuardedFile.{AreKept}
 use Rattle.mw_engine.specs.Lines.{line_of, places_of}
 use Rattle.mw_engine.specs.OpenedFiles.{AreMadeOf, FitLines, line_read, openings_read, places_found, tenant_read}
 use Rattle.mw_engine.specs.Passes.{IsNew}
 use Rattle.mw_engine.proofs.Configured.{line_is}
 use Rattle.mw_engine.proofs.AgreementForms.{agrees_once}
+use Rattle.mw_engine.proofs.DisksOfFiles.{begins_on_disk}
 use Rattle.mw_engine.proofs.OpenedParts.{AgreesWith, agrees_at, given_all, made_counts, places_all}
 
 -- the number of the next attempt of the first of these workers
@@ -64,7 +66,7 @@ module _ {D : Type 0} (facts : D → Facts) (shared : Shared) (config : Config) 
   }
 
   -- the passes are new
-  new_pass : (pass : Pass) → IsDealt shared (basis_of_start config openings) pass → IsNew (identity_on shared (map line_of kept)) pass
+  new_pass : (pass : Pass) → IsDealt shared (basis_of_start config openings) pass → IsNew (identity_on shared (map line_of kept) (disks_in facts books)) pass
   new_pass pass dealt = record {
     own = record {
       table = dealt.own.table;
@@ -80,7 +82,7 @@ module _ {D : Type 0} (facts : D → Facts) (shared : Shared) (config : Config) 
     begun = ap (λ (view : View). view.known_run) dealt.view ∙ ap (λ (b : Basis). Some (known_run_of b.config (opening_at b.openings) [] [])) (sym basis);
   }
 
-  pub new_passes : (passes : List Pass) → All (IsDealt shared (basis_of_start config openings)) passes → All (IsNew (identity_on shared (map line_of kept))) passes
+  pub new_passes : (passes : List Pass) → All (IsDealt shared (basis_of_start config openings)) passes → All (IsNew (identity_on shared (map line_of kept) (disks_in facts books))) passes
   new_passes passes all = λ index other low. new_pass _ (all index other low)
 
   -- there are as many books and file passes as lines
@@ -91,8 +93,15 @@ module _ {D : Type 0} (facts : D → Facts) (shared : Shared) (config : Config) 
     pub a_file_pass_each : length file_passes ≡ length kept
     a_file_pass_each = opened.count ∙ (tenants_are ∙ sym as_many)
 
+    -- the file of a book that agrees with what the start gave has not failed, and is on its disk
+    on_disk : (tenant : ℕ) (book : Book D) → slice_get books tenant ≡ Some book → AgreesWith facts (opening_at (openings_read lines files) tenant) book tenant config.pool
+        → IsOnItsDisk facts (disks_in facts books) tenant book.held
+    on_disk tenant book at_book both =
+        let given = opening_at (openings_read lines files) tenant in
+        begins_on_disk facts books tenant book given.words [] at_book (λ file is. sym both.0.shows.same_failed ∙ ap not (sym both.1 ∙ ap is_some is)) both.0.shows.stands
+
     -- each file pass is its tenant's, and the book agrees with it
-    pub books_agree : AreKept facts (identity_on shared (map line_of kept)) books file_passes
+    pub books_agree : AreKept facts (identity_on shared (map line_of kept) (disks_in facts books)) books file_passes
     books_agree = λ tenant book file_pass at_book at_file_pass.
         let one = opened.each tenant file_pass at_file_pass in
         let os = openings_read lines files in
@@ -107,6 +116,7 @@ module _ {D : Type 0} (facts : D → Facts) (shared : Shared) (config : Config) 
             config = one.own.config;
             openings = one.own.openings;
             opened = both.1 ∙ (λ i. (opening_at (sym openings_are i) (sym one.whose i)).is_up);
+            its_disk = subst (λ (n : ℕ). IsOnItsDisk facts (disks_in facts books) n book.held) (sym one.whose) (on_disk tenant book at_book both);
             agrees = agrees_once facts book (file_kept file_pass) (opening_at (openings_of shared.table.shared.key) file_pass.tenant).quota (config_of shared.table.shared.key).pool (subst (λ (file_passes : FileToken). Agrees facts book file_passes (opening_at (openings_of shared.table.shared.key) file_pass.tenant).quota (config_of shared.table.shared.key).pool) (sym told)
                 (subst (λ (n : ℕ). Agrees facts book (file_token_opened tenant (opening_at os tenant).quota config.pool (opening_at os tenant).words (not (opening_at os tenant).is_up))
                 (opening_at (openings_of shared.table.shared.key) n).quota (config_of shared.table.shared.key).pool) (sym one.whose)

@@ -58,7 +58,7 @@ pub formed_so : (words : TenantWords) (tenant : ℕ) (job : Job) → IsFor (line
 formed_so words tenant job asks = well_formed_is_formed (words_told (lines_told words) tenant) job asks.formed (words_few words tenant asks.there)
 
 -- A request that a tenant of the engine may make may come to an idle pass of the engine.
-pub may_come : (words : TenantWords) (identity : Identity) → identity_on words.core.shared (lines_told words) ≡ identity → (pass : Pass) (actor : ActorState) → IsPassOf identity pass → pass.idle ≡ true
+pub may_come : (words : TenantWords) (identity : Identity) → identity_on words.core.shared (lines_told words) identity.disks ≡ identity → (pass : Pass) (actor : ActorState) → IsPassOf identity pass → pass.idle ≡ true
     → IsRequest identity pass.worker actor → MayCome pass.seat.me.0 pass.worker actor
 may_come words identity same pass actor engines idle asks =
     let view = pass.seat.me.0 in
@@ -80,7 +80,7 @@ may_come words identity same pass actor engines idle asks =
     }
 
 -- The request that an engine makes of a tenant's job may come too.
-pub made_may_come : (words : TenantWords) (identity : Identity) → identity_on words.core.shared (lines_told words) ≡ identity → (pass : Pass) (tenant : ℕ) (asked job : Job) (actor : ActorState)
+pub made_may_come : (words : TenantWords) (identity : Identity) → identity_on words.core.shared (lines_told words) identity.disks ≡ identity → (pass : Pass) (tenant : ℕ) (asked job : Job) (actor : ActorState)
     → IsPassOf identity pass → pass.idle ≡ true → IsFor identity.lines tenant asked → job ≡ asked → actor ≡ request_of identity pass.worker tenant job → MayCome pass.seat.me.0 pass.worker actor
 made_may_come words identity same pass tenant asked job actor own idle formed copied is =
     subst (λ (one : ActorState). MayCome pass.seat.me.0 pass.worker one) (sym is)

@@ -2,6 +2,7 @@ pub mod LinesOfWorld
 pub mod Brand
 pub mod Copies
 pub mod DisksAtEnd
+pub mod DisksAtStart
 pub mod Figures
 pub mod FileCalls
 pub mod FromBelow

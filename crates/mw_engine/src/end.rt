@@ -100,7 +100,7 @@ impl<J: EngineBrand, D: Disk> GuardedFile<J, D> {
     /// The disk of the tenant's file; `None` if the file didn't open. The file pass is dropped, after the table
     /// confirms that what it tells is so in the world of the shared words.
     fn into_disk(self, core: &Core) -> Option<D>
-        requires engine { identity_on core.now.shared J.identity.lines ≡ J.identity }
+        requires engine { identity_on core.now.shared J.identity.lines J.identity.disks ≡ J.identity }
         ensures { GivenAs D.facts J.identity self.tenant result }
     {
         let GuardedFile {
@@ -119,7 +119,7 @@ impl<J: EngineBrand, D: Disk> GuardedFile<J, D> {
 
     /// The same, and a pass sees all changes that were sealed in the file.
     fn into_disk_with(self, core: &Core, pass: &mut Pass) -> Option<D>
-        requires engine { identity_on core.now.shared J.identity.lines ≡ J.identity }
+        requires engine { identity_on core.now.shared J.identity.lines J.identity.disks ≡ J.identity }
         requires own { IsPassOf J.identity pass.old }
         ensures own { IsPassOf J.identity pass.new }
         ensures stays { IsSamePass pass.old pass.new }

@@ -19,6 +19,6 @@ pub struct Engine<J: EngineBrand, D: Disk, H> {
     pub(crate) hold: H,
     pub(crate) books: Vec<FileLock<J, D>>,
     pub(crate) errands: Vec<ErrandBox<J, D>>,
-    ghost same: { identity_on words.core.shared (lines_told words) ≡ J.identity },
+    ghost same: { identity_on words.core.shared (lines_told words) J.identity.disks ≡ J.identity },
     ghost a_book_each: { length books.items ≡ length (lines_told words) },
 }

@@ -48,7 +48,7 @@ impl<J: EngineBrand, D: Disk> GuardedFile<J, D> {
 
     /// Makes the call on this file to which the pass's request has come.
     pub(crate) fn file(&mut self, core: &Core, pass: &mut Pass, actor: &mut Actor)
-        requires engine { identity_on core.now.shared J.identity.lines ≡ J.identity }
+        requires engine { identity_on core.now.shared J.identity.lines J.identity.disks ≡ J.identity }
         requires own { IsOneOf core.now.shared pass.old }
         requires carried { IsCarried pass.old actor.old }
         requires call { called_at actor.old.point ≢ None }

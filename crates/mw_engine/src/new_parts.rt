@@ -1,11 +1,12 @@
 //! Makes an engine's parts of the tenants' lines and their opened files: `EngineParts::new`.
 //!
-//! mw_opening calls it for `mwserve`. Change it with `specs/Lines`, `specs/OpenedFiles`, `specs/Passes` and
-//! `specs/Parts`.
+//! mw_opening calls it for `mwserve`. Change it with `specs/DisksAtStart`, `specs/Lines`, `specs/OpenedFiles`,
+//! `specs/Passes` and `specs/Parts`.
 ghost use Rattle.std.specs.Prelude.{◌≡◌, ◌≤◌, All, length, map, IfOk};
 ghost use Rattle.mw_config.specs.Limits.{ArePermitted};
 ghost use Rattle.mw_core.specs.FromTable.{AreInOrder};
 ghost use Rattle.mw_words.specs.declared.limits.TheConstants.{MAX_POOL, MAX_TENANTS, MAX_WORKERS};
+ghost use Rattle.mw_engine.specs.DisksAtStart.{disks_read};
 ghost use Rattle.mw_engine.specs.Lines.{HasFewPlaces, line_of, places_of};
 ghost use Rattle.mw_engine.specs.OpenedFiles.{AreMadeOf, FitLines, FitsLine, HaveFewPlaces, IsMadeOf, book_file, held_read, line_read, openings_read, places_found, tenant_read};
 ghost use Rattle.mw_engine.specs.Passes.{IsNew};
@@ -50,6 +51,7 @@ impl<D: Disk + Drop, H: Drop> EngineParts<D, H> {
         ensures config { IfOk result (λ made. (identity_of made.0).config ≡ world_read pool workers lines.now) }
         ensures start { IfOk result (λ made. (identity_of made.0).openings ≡ openings_read lines.now files.items) }
         ensures files { IfOk result (λ made. map book_file made.0.books.items ≡ map held_read files.items) }
+        ensures disks { IfOk result (λ made. (identity_of made.0).disks ≡ disks_read D.facts files.items) }
         ensures count { IfOk result (λ made. length made.1.items ≡ workers) }
         ensures passes { IfOk result (λ made. All (IsNew (identity_of made.0)) made.1.items) }
         ensures order { IfOk result (λ made. AreInOrder made.1.items) }

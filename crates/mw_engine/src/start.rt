@@ -20,11 +20,13 @@ use std::alloc::{AllocError, Global};
 use std::marker::PhantomData;
 
 impl<D: Disk + Drop, H: Drop> EngineParts<D, H> {
-    /// Makes the engine of these parts. It serves from now on.
+    /// Makes the engine of these parts. It serves from now on. Each lock keeps the book of its tenant's file, on the disk
+    /// that the file opened on (`IsKept` of `specs/GuardedFile`).
     ///
     /// # Errors
     ///
     /// [`AllocError`] if memory is out. The parts are dropped.
+    #[tactic(auto, using(crate::proofs::Branded::with_own_disks))]
     pub fn into_engine<J: EngineBrand>(self, alloc: Global) -> Result<Engine<J, D, H>, AllocError>
         requires { identity_of self ≡ J.identity }
         ensures words { IfOk result (λ engine. engine.words ≡ self.words) }

@@ -201,6 +201,20 @@ where
     let mut plain = new_plain(alloc, case, hold.latch);
     let (is_done, pass) = done_by_workers(rt, alloc, &engine, passes, case, hold, &mut plain);
     let is_looked_at = !matches!(case.play, Play::Sockets);
+    let disks = disks_of(alloc, engine, pass, is_looked_at);
+    are_left(alloc, disks, case, plain) && is_done
+}
+
+/// Takes an engine apart, and gives its disks: none if memory is refused. This pass of it looks at the files before, if
+/// there is one and it is told to.
+fn disks_of<'l, J: EngineBrand>(
+    alloc: Global,
+    engine: LatchedEngine<'l, J>,
+    pass: Option<Pass>,
+    is_looked_at: bool,
+) -> Vec<Option<LatchedDisk<'l>>>
+    requires own { IfSome pass (λ pass. IsPassOf J.identity pass) }
+{
     let ended = match pass {
         Some(last) => {
             let mut last = last;
@@ -212,11 +226,10 @@ where
         }
         None => engine.into_disks(alloc),
     };
-    let disks = match ended {
+    match ended {
         Ok(disks) => disks,
         Err(_) => Vec::new(alloc),
-    };
-    are_left(alloc, disks, case, plain) && is_done
+    }
 }
 
 /// Makes workers of these passes, and has all but the last do what the case says. Gives whether they do, and the pass

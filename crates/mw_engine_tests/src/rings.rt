@@ -27,27 +27,29 @@ pub(crate) fn ask_own<J: EngineBrand, R: Wait>(
     worker.reply.is_some()
 }
 
-/// Tells whether a worker's reply is right beside those of its two neighbours, and whether its own word is then as this
-/// says: a change is made just if no neighbour's was, and a refused one tells a word that a neighbour has changed.
-fn is_right<J: EngineBrand, R: Wait>(
+/// Gives the reply of the worker with a number.
+fn reply_of<J: EngineBrand, R: Wait>(
     workers: &[Worker<'_, '_, J, R>],
     number: u8,
+) -> Option<Reply> {
+    match workers.get(usize::from(number)) {
+        Some(worker) => worker.reply,
+        None => None,
+    }
+}
+
+/// Tells whether a worker's reply is right beside those of the workers before and after it, and whether its own word is
+/// then as this says: a change is made just if no neighbour's was, and a refused one tells a word that a neighbour has
+/// changed.
+fn is_right(
+    number: u8,
+    own: Option<Reply>,
+    last: Option<Reply>,
+    next: Option<Reply>,
     value: Option<Reply>,
 ) -> bool {
-    let last = usize::from(number.wrapping_add(RING - 1) % RING);
-    let next = usize::from(number.wrapping_add(1) % RING);
-    let (Some(own), Some(last), Some(next)) = (
-        workers.get(usize::from(number)),
-        workers.get(last),
-        workers.get(next),
-    ) else {
-        return false;
-    };
-    let (last, next) = (
-        last.reply == Some(Reply::Yes),
-        next.reply == Some(Reply::Yes),
-    );
-    let is_changed = match own.reply {
+    let (last, next) = (last == Some(Reply::Yes), next == Some(Reply::Yes));
+    let is_changed = match own {
         Some(Reply::Yes) if !last && !next => true,
         Some(Reply::No(addr, 1)) => {
             let is_own = addr == u16::from(number);
@@ -70,7 +72,10 @@ pub(crate) fn are_right<J: EngineBrand, R: Wait>(workers: Vec<Worker<'_, '_, J, 
             Some(reader) => reader.read(b"t", u16::from(number)),
             None => None,
         };
-        if !is_right(&workers, number, value) {
+        let own = reply_of(&workers, number);
+        let last = reply_of(&workers, number.wrapping_add(RING - 1) % RING);
+        let next = reply_of(&workers, number.wrapping_add(1) % RING);
+        if !is_right(number, own, last, next, value) {
             are_all = false;
         }
     }

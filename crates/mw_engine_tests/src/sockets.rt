@@ -1,11 +1,12 @@
 //! Serves clients over sockets: one while another one's request is held.
 //!
 //! Used by: `plays`.
-ghost use Rattle.std.specs.Prelude.{◌<◌, vec_len};
+ghost use Rattle.std.specs.Prelude.{◌<◌, List, vec_len};
+ghost use Rattle.mw_session.specs.Talk.{Call};
 
 use crate::latch::{Latch, comes_to};
 use crate::workers::Worker;
-use mw_connections::{Anything, Network, TimeLimits, listen_at, port_of};
+use mw_connections::{Anything, Listener, Network, TimeLimits, listen_at, port_of};
 use mw_engine::EngineBrand;
 use mw_workers::{ServeEnd, serve_all};
 use std::alloc::Global;
@@ -107,12 +108,40 @@ where
     let listener = listen_at(&network, "127.0.0.1:0", 0, limits)?;
     let port = port_of(&listener)?.unwrap_or(0);
     latch.set(2);
-    let (told, served) = thread::join(
+    serve_clients(rt, alloc, listener, port, workers, latch)
+}
+
+/// Tells whether these workers serve both clients so, who come to this listener, at this port.
+fn serve_clients<J, R, L>(
+    rt: &R,
+    alloc: Global,
+    listener: L,
+    port: u16,
+    workers: Vec<Worker<'_, '_, J, R>>,
+    latch: &Latch,
+) -> io::Result<bool>
+where
+    J: EngineBrand + Send + Sync,
+    R: Files<File = File>
+        + Net<Listener = TcpListener, Stream = TcpStream>
+        + Threads
+        + Wait
+        + Clock
+        + Sync,
+    L: Listener + Drop + Send,
+    requires some { 0 < vec_len workers }
+    requires anything { (calls : List Call) → L.Connection.promised calls }
+{
+    let (told, is_served) = thread::join(
         rt,
         || come_and_go(rt, port, latch),
         ||
-            requires { 0 < vec_len workers }
-        { serve_all(rt, alloc, listener, workers, Some(CONNECTIONS), None) },
+            requires some { 0 < vec_len workers }
+            requires anything { (calls : List Call) → L.Connection.promised calls }
+        {
+            let (end, _) = serve_all(rt, alloc, listener, workers, Some(CONNECTIONS), None);
+            end == ServeEnd::Served
+        },
     );
-    Ok(told? && served.0 == ServeEnd::Served)
+    Ok(told? && is_served)
 }

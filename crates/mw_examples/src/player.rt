@@ -21,7 +21,7 @@ use crate::files::play_file;
 use crate::outputs::{Output, Told, wait_for};
 use crate::stage::{Outcome, Stage, new_folder};
 use mw_init::init;
-use mw_programs::{Anything, Network, Printed, SeesPaths, ServerEnd, serve};
+use mw_programs::{Anything, OpensPaths, Printed, SeesPaths, ServerEnd, ServerNetwork, serve};
 use mw_test_peers::{Place, come_and_go};
 use std::alloc::{AllocError, Global};
 use std::fs::File;
@@ -60,7 +60,8 @@ where
         + Wait
         + Clock
         + Sync
-        + SeesPaths,
+        + SeesPaths
+        + OpensPaths,
 {
     for story in stories {
         let failed = play_cases(rt, host, story)?;
@@ -81,7 +82,8 @@ where
         + Wait
         + Clock
         + Sync
-        + SeesPaths,
+        + SeesPaths
+        + OpensPaths,
 {
     let whole = (story.lines, "");
     let (lines, cases) = story.lines.split_once("\nfor each of\n").unwrap_or(whole);
@@ -143,7 +145,8 @@ where
         + Wait
         + Clock
         + Sync
-        + SeesPaths,
+        + SeesPaths
+        + OpensPaths,
 {
     let mut stage = stage;
     let port = wait_for(stage.host, &stage.told.ready, 1);
@@ -162,7 +165,8 @@ where
         + Wait
         + Clock
         + Sync
-        + SeesPaths,
+        + SeesPaths
+        + OpensPaths,
 {
     for line in lines.split('\n') {
         if stage.failed.is_some() {
@@ -185,7 +189,8 @@ where
         + Wait
         + Clock
         + Sync
-        + SeesPaths,
+        + SeesPaths
+        + OpensPaths,
 {
     let (verb, rest) = line.split_once(' ').unwrap_or((line, ""));
     match verb {
@@ -211,7 +216,8 @@ where
         + Wait
         + Clock
         + Sync
-        + SeesPaths,
+        + SeesPaths
+        + OpensPaths,
 {
     let args = stage.command_line(verb, rest)?;
     let told = Told::new();
@@ -249,7 +255,8 @@ where
         + Wait
         + Clock
         + Sync
-        + SeesPaths,
+        + SeesPaths
+        + OpensPaths,
 {
     let mut out = Output {
         host,
@@ -267,13 +274,13 @@ where
         told,
         watched: "",
     };
-    let network: Network<'_, R, Anything> = Network::new(rt);
+    let network: ServerNetwork<'_, R, Anything> = ServerNetwork::new(rt);
     let end = ServerEnd::new();
     let status = match args.first() {
         Some(word) if word.as_str() == "mwinit" => init(rt, args, &mut out, &mut err),
         _ => serve(
             rt,
-            &network,
+            network,
             args,
             &mut Printed::new(&mut out),
             &mut err,

@@ -1,5 +1,6 @@
 //! Tests the programs by stories: each table of them, and servers with what is done beside them.
 use crate::faults::FAULTS;
+use crate::faulty_runtime::FaultyRuntime;
 use crate::making::FILES;
 use crate::operating::LINES;
 use crate::outputs::Told;
@@ -8,7 +9,6 @@ use crate::serving::SERVERS;
 use crate::sessions::SESSIONS;
 use crate::stage::{Stage, new_folder};
 use crate::tenants::{TENANTS, TENANTS_FILES};
-use mw_test_peers::FaultyRuntime;
 use std::thread;
 
 /// What a test says if a call of the system fails outside of a story's lines.

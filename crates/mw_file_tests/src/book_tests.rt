@@ -11,7 +11,6 @@ use std::alloc::Global;
 use std::process::Abort;
 
 /// Prepares in a new file of two words and six places, a call of whose device fails.
-#[derive(Clone, Copy)]
 struct Row {
     name: &'static str,
     /// The number of the device call that fails. The first seven calls are those of the opening.
@@ -30,7 +29,7 @@ const BROKEN: Option<Filed> = Some(Filed::Broken);
 
 const UNTOUCHED: Option<Filed> = Some(Filed::Untouched);
 
-const ROWS: [Row; 6] = [
+static ROWS: [Row; 6] = [
     Row {
         name: "the place is used up",
         fails: 14,
@@ -76,7 +75,7 @@ const ROWS: [Row; 6] = [
 ];
 
 /// Makes the changes that wait.
-fn waiting_of<R: Abort + AllocGlobal>(rt: &R, row: Row) -> Vec<Waiting> {
+fn waiting_of<R: Abort + AllocGlobal>(rt: &R, row: &Row) -> Vec<Waiting> {
     let mut waiting = Vec::new(rt.alloc());
     for (slot, value) in row.waiting {
         let one = Waiting {
@@ -89,7 +88,7 @@ fn waiting_of<R: Abort + AllocGlobal>(rt: &R, row: Row) -> Vec<Waiting> {
 }
 
 /// Makes the disk of a row's file.
-fn disk_of<R: Abort + AllocGlobal>(rt: &R, row: Row) -> MemDisk {
+fn disk_of<R: Abort + AllocGlobal>(rt: &R, row: &Row) -> MemDisk {
     let mut disk = disk_with(rt, &new_bytes(rt, 2, 3));
     disk.fail_next(row.fails).expect(rt, MEMORY);
     disk
@@ -120,7 +119,7 @@ fn prepare(book: &mut Book<MemDisk>, slot: u8, waiting: &[Waiting]) -> Option<Fi
 }
 
 /// A row's prepares in its book end as it says.
-fn end_in<R: Abort>(rt: &R, row: Row, book: &mut Book<MemDisk>, waiting: &mut Vec<Waiting>) {
+fn end_in<R: Abort>(rt: &R, row: &Row, book: &mut Book<MemDisk>, waiting: &mut Vec<Waiting>) {
     for (slot, wanted) in row.prepares {
         let found = prepare(book, *slot, waiting);
         same(rt, row.name, u64::from(*slot), &found, wanted);
@@ -129,7 +128,7 @@ fn end_in<R: Abort>(rt: &R, row: Row, book: &mut Book<MemDisk>, waiting: &mut Ve
 }
 
 /// A row's prepares end as it says.
-fn end_so<R: Abort + AllocGlobal>(rt: &R, row: Row) {
+fn end_so<R: Abort + AllocGlobal>(rt: &R, row: &Row) {
     let disk = disk_of(rt, row);
     let mut book = book_of(rt.alloc(), disk, row.places).expect(rt, row.name);
     end_in(rt, row, &mut book, &mut waiting_of(rt, row));
@@ -137,7 +136,7 @@ fn end_so<R: Abort + AllocGlobal>(rt: &R, row: Row) {
 
 #[test]
 fn prepares_of_a_book(rt: HostRuntime) {
-    for row in ROWS {
+    for row in &ROWS {
         end_so(&rt, row);
     }
 }

@@ -103,7 +103,6 @@ fn difference(found: &[u8], wanted: &[u8]) -> Option<usize> {
 }
 
 /// A file, what is done with it, and the calls that this makes on the device.
-#[derive(Clone, Copy)]
 struct Row {
     name: &'static str,
     start: Start,
@@ -161,7 +160,7 @@ fn has_bytes<R: Abort + AllocGlobal>(rt: &R, row: &str, calls: u64, disk: &MemDi
 }
 
 /// What is done with a row's file makes the row's calls on the device and no others.
-fn makes_calls<R: Abort + AllocGlobal>(rt: &R, row: Row) {
+fn makes_calls<R: Abort + AllocGlobal>(rt: &R, row: &Row) {
     let start = laid(rt, row.start);
     let mut wanted = Bytes {
         read: start.to_vec(rt.alloc()).expect(rt, MEMORY),
@@ -459,7 +458,7 @@ const SHORT_START: Start = Start {
 };
 
 /// Changes in the opened file.
-const CHANGES: [Row; 4] = [
+static CHANGES: [Row; 4] = [
     Row {
         name: "a change",
         start: SECOND_START,
@@ -504,12 +503,12 @@ const CHANGES: [Row; 4] = [
 
 #[test]
 fn bytes_of_changes(rt: HostRuntime) {
-    for row in CHANGES {
+    for row in &CHANGES {
         makes_calls(&rt, row);
     }
 }
 
-const OPENINGS: [Row; 3] = [
+static OPENINGS: [Row; 3] = [
     Row {
         name: "an opening that finishes open records",
         start: OPEN_START,
@@ -532,7 +531,7 @@ const OPENINGS: [Row; 3] = [
 
 #[test]
 fn bytes_of_openings(rt: HostRuntime) {
-    for row in OPENINGS {
+    for row in &OPENINGS {
         makes_calls(&rt, row);
     }
 }

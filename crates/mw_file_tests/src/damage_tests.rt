@@ -1,6 +1,6 @@
 //! Tests how a file's bytes are read: the damage that is told of a file with changed bytes, and the records of
 //! others.
-use crate::files::{WRITTEN, disk_with, left_on, new_bytes, opening, set_bytes};
+use crate::files::{WRITTEN, disk_with, left_on, new_bytes, opening, set_byte};
 use crate::opening_tests::migrated;
 use crate::same::{MEMORY, holds, same};
 use mw_disk::Disk;
@@ -45,293 +45,81 @@ fn bytes_of<R: Abort + AllocGlobal>(rt: &R, start: Start) -> Vec<u8> {
     }
 }
 
-/// A damaged file: its name, the file that it was, the changed bytes, how many bytes are kept, and the number of the
-/// damage, 0 if it has none.
-type Row = (&'static str, Start, &'static [(usize, u8)], usize, u8);
-
-/// Files in the first layout.
-const FIRST: [Row; 22] = [
-    ("another magic", Start::Small, &[(0, 0x58)], 184, 1),
-    (
-        "a magic that begins with 0",
-        Start::Small,
-        &[(0, 0)],
-        184,
-        1,
-    ),
-    ("no words", Start::Small, &[(8, 0)], 184, 2),
-    (
-        "one word too many for the bytes",
-        Start::Small,
-        &[(8, 3)],
-        184,
-        6,
-    ),
-    ("too many words", Start::Small, &[(9, 0x11)], 184, 2),
-    ("no places", Start::Small, &[(12, 0)], 184, 2),
-    ("too many places", Start::Small, &[(12, 33)], 184, 2),
-    (
-        "a byte before the switch byte",
-        Start::Small,
-        &[(14, 0x58)],
-        184,
-        0,
-    ),
-    (
-        "a switch byte with no offset",
-        Start::Small,
-        &[(15, 0xa5)],
-        184,
-        7,
-    ),
-    ("another switch byte", Start::Small, &[(15, 0x7f)], 184, 0),
-    (
-        "the lower byte above a value",
-        Start::Small,
-        &[(38, 1)],
-        184,
-        3,
-    ),
-    (
-        "the upper byte above a value",
-        Start::Small,
-        &[(39, 1)],
-        184,
-        3,
-    ),
-    (
-        "an open record of no entry",
-        Start::Small,
-        &[(48, 0xa5)],
-        184,
-        4,
-    ),
-    ("another commit byte", Start::Small, &[(48, 0x7f)], 184, 0),
-    (
-        "a closed record of nine entries",
-        Start::Small,
-        &[(49, 9)],
-        184,
-        0,
-    ),
-    (
-        "an open record of nine entries",
-        Start::Small,
-        &[(48, 0xa5), (49, 9)],
-        184,
-        4,
-    ),
-    ("the same magic", Start::Small, &[(0, b'M')], 184, 0),
-    ("one byte short", Start::Small, &[(0, b'M')], 183, 6),
-    (
-        "one byte short of a head",
-        Start::Small,
-        &[(0, b'M')],
-        31,
-        6,
-    ),
-    (
-        "another magic, short of a head",
-        Start::Small,
-        &[(0, 0x58)],
-        31,
-        6,
-    ),
-    (
-        "two open records of one word",
-        Start::TwoPlaces,
-        &TWO_OPEN,
-        320,
-        5,
-    ),
-    (
-        "an open and a closed record",
-        Start::TwoPlaces,
-        &ONE_OPEN,
-        320,
-        0,
-    ),
+/// The damaged files of each kind, one a line: a name, the changed bytes, how many bytes are kept, and the number of the damage, 0
+/// if it has none.
+static DAMAGED: [(Start, &str); 4] = [
+    (Start::Small, SMALL),
+    (Start::TwoPlaces, TWO_PLACES),
+    (Start::Switched, SWITCHED),
+    (Start::Migrated, MIGRATED),
 ];
 
-/// Two records, each of address 0 and value 1: both are open.
-const TWO_OPEN: [(usize, u8); 6] = [
-    (48, 0xa5),
-    (49, 1),
-    (64, 1),
-    (184, 0xa5),
-    (185, 1),
-    (200, 1),
-];
+/// Damaged files that were new, in the first layout.
+const SMALL: &str = "\
+another magic > 0=88 > 184 > 1
+a magic that begins with 0 > 0=0 > 184 > 1
+no words > 8=0 > 184 > 2
+one word too many for the bytes > 8=3 > 184 > 6
+too many words > 9=17 > 184 > 2
+no places > 12=0 > 184 > 2
+too many places > 12=33 > 184 > 2
+a byte before the switch byte > 14=88 > 184 > 0
+a switch byte with no offset > 15=165 > 184 > 7
+another switch byte > 15=127 > 184 > 0
+the lower byte above a value > 38=1 > 184 > 3
+the upper byte above a value > 39=1 > 184 > 3
+an open record of no entry > 48=165 > 184 > 4
+another commit byte > 48=127 > 184 > 0
+a closed record of nine entries > 49=9 > 184 > 0
+an open record of nine entries > 48=165 49=9 > 184 > 4
+the same magic > 0=77 > 184 > 0
+one byte short > 0=77 > 183 > 6
+one byte short of a head > 0=77 > 31 > 6
+another magic, short of a head > 0=88 > 31 > 6";
 
-/// The same, but the second one is closed.
-const ONE_OPEN: [(usize, u8); 6] = [
-    (48, 0xa5),
-    (49, 1),
-    (64, 1),
-    (184, 0x7f),
-    (185, 1),
-    (200, 1),
-];
+/// The same with two records, each of address 0 and value 1: both are open, or the second one is closed.
+const TWO_PLACES: &str = "\
+two open records of one word > 48=165 49=1 64=1 184=165 185=1 200=1 > 320 > 5
+an open and a closed record > 48=165 49=1 64=1 184=127 185=1 200=1 > 320 > 0";
 
-/// Files in their second layout.
-const SECOND: [Row; 24] = [
-    (
-        "bytes of the first head",
-        Start::Switched,
-        &[(14, 0x58), (24, 0x58)],
-        760,
-        0,
-    ),
-    (
-        "sizes of the first layout",
-        Start::Switched,
-        &[(8, 0), (12, 0)],
-        760,
-        0,
-    ),
-    (
-        "a first layout of no words",
-        Start::Switched,
-        &[(15, 0x7f), (8, 0)],
-        760,
-        2,
-    ),
-    (
-        "the first magic",
-        Start::Switched,
-        &[(0, 0x58), (16, 0)],
-        760,
-        1,
-    ),
-    (
-        "the first magic, short",
-        Start::Switched,
-        &[(0, 0x58), (16, 0)],
-        31,
-        6,
-    ),
-    (
-        "an offset in the head",
-        Start::Switched,
-        &[(16, 31), (184, 0)],
-        760,
-        7,
-    ),
-    (
-        "the greatest offset",
-        Start::Switched,
-        &[(16, 0x20), (17, 0x91)],
-        760,
-        6,
-    ),
-    (
-        "an offset too great",
-        Start::Switched,
-        &[(16, 0x21), (17, 0x91)],
-        760,
-        7,
-    ),
-    (
-        "a far offset",
-        Start::Switched,
-        &[(23, 1), (184, 0)],
-        760,
-        7,
-    ),
-    (
-        "a head one byte short",
-        Start::Switched,
-        &[(184, 0), (192, 0)],
-        215,
-        6,
-    ),
-    (
-        "another magic in a head alone",
-        Start::Switched,
-        &[(184, 0), (192, 0)],
-        216,
-        7,
-    ),
-    (
-        "another second magic",
-        Start::Switched,
-        &[(184, 0), (192, 0)],
-        760,
-        7,
-    ),
-    ("no words", Start::Switched, &[(192, 0), (233, 17)], 760, 2),
-    (
-        "too many words",
-        Start::Switched,
-        &[(193, 0x11), (233, 17)],
-        760,
-        2,
-    ),
-    (
-        "too many places",
-        Start::Switched,
-        &[(196, 65), (233, 17)],
-        760,
-        2,
-    ),
-    (
-        "more places than bytes",
-        Start::Switched,
-        &[(196, 64), (233, 17)],
-        760,
-        6,
-    ),
-    (
-        "one byte short",
-        Start::Switched,
-        &[(232, 0xa5), (233, 17)],
-        759,
-        6,
-    ),
-    (
-        "an open record of 17 entries",
-        Start::Switched,
-        &[(232, 0xa5), (233, 17)],
-        760,
-        4,
-    ),
-    (
-        "a closed record of 17 entries",
-        Start::Switched,
-        &[(232, 0x7f), (233, 17)],
-        760,
-        0,
-    ),
-    (
-        "a value too great",
-        Start::Switched,
-        &[(222, 1), (233, 17)],
-        760,
-        3,
-    ),
-    (
-        "a value of the first layout",
-        Start::Switched,
-        &[(199, 0xa5), (38, 1)],
-        760,
-        0,
-    ),
-    (
-        "migrated, another magic",
-        Start::Migrated,
-        &[(184, 0)],
-        760,
-        7,
-    ),
-    ("migrated, one byte short", Start::Migrated, &[], 759, 6),
-    (
-        "migrated, 17 entries",
-        Start::Migrated,
-        &[(232, 0xa5), (233, 17)],
-        760,
-        4,
-    ),
-];
+/// Damaged files in their second layout.
+const SWITCHED: &str = "\
+bytes of the first head > 14=88 24=88 > 760 > 0
+sizes of the first layout > 8=0 12=0 > 760 > 0
+a first layout of no words > 15=127 8=0 > 760 > 2
+the first magic > 0=88 16=0 > 760 > 1
+the first magic, short > 0=88 16=0 > 31 > 6
+an offset in the head > 16=31 184=0 > 760 > 7
+the greatest offset > 16=32 17=145 > 760 > 6
+an offset too great > 16=33 17=145 > 760 > 7
+a far offset > 23=1 184=0 > 760 > 7
+a head one byte short > 184=0 192=0 > 215 > 6
+another magic in a head alone > 184=0 192=0 > 216 > 7
+another second magic > 184=0 192=0 > 760 > 7
+no words > 192=0 233=17 > 760 > 2
+too many words > 193=17 233=17 > 760 > 2
+too many places > 196=65 233=17 > 760 > 2
+more places than bytes > 196=64 233=17 > 760 > 6
+one byte short > 232=165 233=17 > 759 > 6
+an open record of 17 entries > 232=165 233=17 > 760 > 4
+a closed record of 17 entries > 232=127 233=17 > 760 > 0
+a value too great > 222=1 233=17 > 760 > 3
+a value of the first layout > 199=165 38=1 > 760 > 0";
+
+/// The same, of a migrated file.
+const MIGRATED: &str = "\
+migrated, another magic > 184=0 > 760 > 7
+migrated, one byte short >  > 759 > 6
+migrated, 17 entries > 232=165 233=17 > 760 > 4";
+
+/// Changes bytes as a text says: `AT=VALUE`, with spaces between.
+fn change(bytes: &mut Vec<u8>, changes: &str) {
+    for change in changes.split_whitespace() {
+        let (at, value) = change.split_once('=').unwrap_or((change, ""));
+        let at = at.parse().unwrap_or(usize::MAX);
+        set_byte(bytes, at, value.parse().unwrap_or(0));
+    }
+}
 
 /// Gives the number of the damage that is told of these bytes, 0 if they have none.
 fn told(bytes: &[u8]) -> u8 {
@@ -360,32 +148,45 @@ fn told_by_opening<R: Abort + AllocGlobal>(rt: &R, row: &str, bytes: &Vec<u8>) -
     number
 }
 
-/// This damage is told of a file.
-fn is_told<R: Abort + AllocGlobal>(rt: &R, row: Row) {
-    let (name, start, changes, kept, number) = row;
+/// Splits a line's text from what is after its next ` > `.
+fn part_of(line: &str) -> (&str, &str) {
+    line.split_once(" > ").unwrap_or((line, ""))
+}
+
+/// The damage that a line says is told of its file.
+fn is_told<R: Abort + AllocGlobal>(rt: &R, start: Start, line: &str) {
+    let (name, rest) = part_of(line);
+    let (changes, rest) = part_of(rest);
+    let (kept, number) = part_of(rest);
+    let kept = kept.parse().unwrap_or(usize::MAX);
+    let number = number.parse().unwrap_or(u8::MAX);
     let mut bytes = bytes_of(rt, start);
-    set_bytes(&mut bytes, changes);
+    change(&mut bytes, changes);
     bytes.truncate(kept);
     holds(rt, name, kept as u64, bytes.len() == kept);
     let found = [told(&bytes), told_by_opening(rt, name, &bytes)];
     same(rt, name, 2, &found, &[number, number]);
 }
 
+/// The same for each of these lines.
+fn are_told<R: Abort + AllocGlobal>(rt: &R, start: Start, lines: &str) {
+    for line in lines.split('\n') {
+        is_told(rt, start, line);
+    }
+}
+
 #[test]
 fn damages_are_told(rt: HostRuntime) {
-    for row in FIRST {
-        is_told(&rt, row);
+    for (start, lines) in &DAMAGED {
+        are_told(&rt, *start, lines);
     }
-    for row in SECOND {
-        is_told(&rt, row);
-    }
-    same(&rt, "a damaged record", 0, &Damage::Record.number(), &4);
+    let numbers = [Damage::Record.number(), Damage::Overlap.number()];
     same(
         &rt,
-        "records that overlap",
+        "a damaged record, and records that overlap",
         0,
-        &Damage::Overlap.number(),
-        &5,
+        &numbers,
+        &[4, 5],
     );
 }
 
@@ -444,29 +245,36 @@ fn a_file_is_read(rt: HostRuntime) {
     is_read(&rt, &switched_with_a_record(), 184);
 }
 
-/// What a layout's head, its parts and its sizes must be: offsets and sizes that were found, and those that are wanted.
-fn sizes() -> [(&'static str, u64, u64); 8] {
+/// Gives offsets and sizes: of a home word, of the first and the second place, of a first and a second layout, of the largest
+/// of both, and of the largest file.
+fn sizes() -> [u64; 8] {
     [
-        ("a home word", home_at(184, 1), 224),
-        ("the first place", place_at(184, 2, 0), 232),
-        ("the second place", place_at(184, 2, 1), 496),
-        ("a first layout", size(2, 2), 320),
-        ("a second layout", size2(2, 2), 576),
-        ("the largest first one", size(4096, 32), MAX_FIRST as u64),
-        ("the largest second one", size2(4096, 64), MAX_SECOND as u64),
-        (
-            "the largest file",
-            size(4096, 32) + size2(4096, 64),
-            MAX_FILE as u64,
-        ),
+        home_at(184, 1),
+        place_at(184, 2, 0),
+        place_at(184, 2, 1),
+        size(2, 2),
+        size2(2, 2),
+        size(4096, 32),
+        size2(4096, 64),
+        size(4096, 32) + size2(4096, 64),
     ]
 }
 
+/// What these must be.
+const SIZES: [u64; 8] = [
+    224,
+    232,
+    496,
+    320,
+    576,
+    MAX_FIRST as u64,
+    MAX_SECOND as u64,
+    MAX_FILE as u64,
+];
+
 #[test]
 fn parts_lie_one_behind_the_other(rt: HostRuntime) {
-    for (name, found, wanted) in sizes() {
-        same(&rt, name, 0, &found, &wanted);
-    }
+    same(&rt, "offsets and sizes", 0, &sizes(), &SIZES);
     let heads = [header(2, 1), header2(2, 2)];
     let wanted = [
         *b"MWCASF1\n\x02\0\0\0\x01\0\0\0\0\0\0\0\0\0\0\0\0\0\0\0\0\0\0\0",

@@ -111,7 +111,7 @@ fn disk_of_four<R: Abort + AllocGlobal>(rt: &R, script: &[u64]) -> MemDisk {
 }
 
 /// The second and the sixth call fail. The third write leaves a gap, which has zeros.
-const SCRIPT: [MemoryTurn; 11] = [
+static SCRIPT: [MemoryTurn; 11] = [
     MemoryTurn::Call(Turn::Len(Ok(4))),
     MemoryTurn::Call(Turn::Sync(FAULT)),
     MemoryTurn::Call(Turn::Write(1, &[9, 9], Ok(()))),
@@ -133,7 +133,7 @@ fn a_disk_in_memory_fails_where_its_script_says(rt: HostRuntime) {
 
 /// The second call fails, and no other one of the next ones, but for a read of more bytes than there are, and a write
 /// for which there is not enough memory. Then the disk stops after one call.
-const FAIL_AND_STOP: [MemoryTurn; 13] = [
+static FAIL_AND_STOP: [MemoryTurn; 13] = [
     MemoryTurn::Fail(2),
     MemoryTurn::Call(Turn::Write(0, &[5], Ok(()))),
     MemoryTurn::Call(Turn::Write(5, &[6], FAULT)),
@@ -150,7 +150,7 @@ const FAIL_AND_STOP: [MemoryTurn; 13] = [
 ];
 
 /// A copy of a disk that has stopped has stopped too.
-const STOPPED: [MemoryTurn; 3] = [
+static STOPPED: [MemoryTurn; 3] = [
     MemoryTurn::Crash(&[6, 6], &[5, 6, 3, 4]),
     MemoryTurn::Call(Turn::Len(Err(DiskFault))),
     MemoryTurn::Call(Turn::Faults(5)),
@@ -183,7 +183,7 @@ fn nameless_file<R: Abort + AllocGlobal + Env + Files<File = File>>(rt: &R, id: 
 }
 
 /// A disk of no bytes gives what is written to it. It refuses reads past it, and writes past every file's end.
-const USE: [Turn; 8] = [
+static USE: [Turn; 8] = [
     Turn::Write(3, b"abcd", Ok(())),
     Turn::Sync(Ok(())),
     Turn::Read(3, *b"abcd"),
@@ -277,7 +277,7 @@ fn slow_file() -> SlowFile {
 
 /// Writes at 0, 3 and 4, each of which is read again. Then a write and a read that end after the last of eight
 /// bytes: a write takes none there, and a read gives none.
-const SHORT_CALLS: [Turn; 13] = [
+static SHORT_CALLS: [Turn; 13] = [
     Turn::Write(0, b"abcd", Ok(())),
     Turn::Sync(Ok(())),
     Turn::Read(0, *b"abcd"),

@@ -6,7 +6,7 @@ use crate::files::{
     OFTEN, TORN, Trouble, WRITTEN, bring_trouble, disk_with, faults, leaves, left, new_bytes,
     new_file, opened, opens_with, over_and_over,
 };
-use crate::same::{MEMORY, holds, same};
+use crate::same::{MEMORY, hold, holds, same};
 use crate::turn_tests::WAITING;
 use mw_disk::{Disk, DiskFault, MemDisk};
 use mw_file::{FileFault, Place, TenantFile};
@@ -96,7 +96,7 @@ fn leaves_words<R: Abort + AllocGlobal>(
 }
 
 /// Torn bytes that are shorter than most writes.
-const SHORT: [&[u8]; 3] = [&[], &[0x00], &[0xa5]];
+static SHORT: [&[u8]; 3] = [&[], &[0x00], &[0xa5]];
 
 /// A file whose device has trouble after so many calls answers as it must, twice. After each, crashes leave
 /// the right words.
@@ -124,7 +124,7 @@ fn a_crash_in_each_call(rt: HostRuntime) {
 
 /// The words that a crash may leave after so many calls of a change and of its seal: the words before the seal, those
 /// after it, or either while its sync is made.
-const MAY_LEAVE: [(u8, &[&[u64]]); 6] = [
+static MAY_LEAVE: [(u8, &[&[u64]]); 6] = [
     (0, &[&[0, 0]]),
     (1, &[&[0, 0]]),
     (2, &[&[0, 0]]),
@@ -149,47 +149,42 @@ fn crash_in_a_seal<R: Abort + AllocGlobal>(rt: &R, calls: u8, may: &[&[u64]]) {
 
 #[test]
 fn a_crash_in_a_seal_leaves_nothing_of_a_change_that_waits(rt: HostRuntime) {
-    for (calls, may) in MAY_LEAVE {
-        crash_in_a_seal(&rt, calls, may);
+    for (calls, may) in &MAY_LEAVE {
+        crash_in_a_seal(&rt, *calls, may);
     }
+}
+
+/// Tells whether a copy of a file answers as it must, has its own words then, and left the file's bytes as they were.
+fn copy_is_apart<R: Abort + AllocGlobal>(rt: &R) -> [bool; 3] {
+    let file = new_file(rt, 2, 1);
+    let before = left(rt, &file, WRITTEN);
+    let mut copy = file.copy(rt.alloc()).expect(rt, MEMORY);
+    let is_answered = answers(rt, &mut copy) == answers_to(9).0;
+    let has_words = opens_with(rt, &left(rt, &copy, WRITTEN), &[&[1, 2]]);
+    [is_answered, has_words, left(rt, &file, WRITTEN) == before]
 }
 
 #[test]
 fn a_copy_goes_its_own_way(rt: HostRuntime) {
-    let file = new_file(&rt, 2, 1);
-    let before = left(&rt, &file, WRITTEN);
-    let mut copy = file.copy(rt.alloc()).expect(&rt, MEMORY);
-    same(
-        &rt,
-        "the copy",
-        0,
-        &answers(&rt, &mut copy),
-        &answers_to(9).0,
-    );
-    let is_right = opens_with(&rt, &left(&rt, &copy, WRITTEN), &[&[1, 2]]);
-    holds(&rt, "the copy's words", 0, is_right);
-    holds(
-        &rt,
-        "the file's bytes",
-        0,
-        left(&rt, &file, WRITTEN) == before,
-    );
+    hold(&rt, "a copy", &copy_is_apart(&rt));
+}
+
+/// Tells whether a write for which there is not enough memory fails, is counted as refused, and leaves a file that
+/// answers as it must; and whether no call of a new file is counted so.
+fn is_refused_alone<R: Abort + AllocGlobal>(rt: &R) -> [bool; 4] {
+    let mut disk = disk_with(rt, &new_bytes(rt, 2, 1));
+    let written = disk.write_at(1 << 63, &[1]);
+    let mut refused = opened(rt, disk);
+    let is_counted = refused.refused() == 1;
+    [
+        written == Err(DiskFault),
+        is_counted,
+        answers(rt, &mut refused) == answers_to(9).0,
+        new_file(rt, 2, 1).refused() == 0,
+    ]
 }
 
 #[test]
 fn a_call_that_is_refused_memory_fails(rt: HostRuntime) {
-    let mut disk = disk_with(&rt, &new_bytes(&rt, 2, 1));
-    // There is not enough memory. The next calls succeed.
-    let written = disk.write_at(1 << 63, &[1]);
-    holds(&rt, "the write", 0, written == Err(DiskFault));
-    let mut refused = opened(&rt, disk);
-    same(&rt, "calls that were refused", 0, &refused.refused(), &1);
-    same(
-        &rt,
-        "the file",
-        0,
-        &answers(&rt, &mut refused),
-        &answers_to(9).0,
-    );
-    same(&rt, "a new file", 0, &new_file(&rt, 2, 1).refused(), &0);
+    hold(&rt, "a refusal", &is_refused_alone(&rt));
 }

@@ -26,7 +26,7 @@ pub(crate) const SET_FIRST: &[u8] = &[0xa5, 0xff, 0x5a, 0x00];
 
 /// Bytes that a crash leaves, again and again, in what was not synced: these four, and a mixture that begins
 /// with a clear commit byte.
-pub(crate) const TORN: [&[u8]; 5] = [WRITTEN, ZEROS, ONES, &[0x00, 0xa5, 0xff, 0x5a], SET_FIRST];
+pub(crate) static TORN: [&[u8]; 5] = [WRITTEN, ZEROS, ONES, &[0x00, 0xa5, 0xff, 0x5a], SET_FIRST];
 
 /// Makes the bytes of a new file, with all words 0. Its opening gives it twice as many places.
 pub(crate) fn new_bytes<R: Abort + AllocGlobal>(rt: &R, words: u16, places: u16) -> Vec<u8>

@@ -4,8 +4,8 @@
 //! Used by: `power_tests`, `damage_tests`.
 use crate::file_tests::{answers, answers_to, troubled_file};
 use crate::files::{
-    SET_FIRST, TORN, Trouble, WRITTEN, disk_leaves, disk_with, left, left_on, new_bytes, opened,
-    opening, set_bytes, troubled,
+    SET_FIRST, TORN, Trouble, WRITTEN, byte_at, disk_leaves, disk_with, left, left_on, new_bytes,
+    opened, opening, set_bytes, troubled,
 };
 use crate::same::{MEMORY, holds, same};
 use crate::turn_tests::with_two_records;
@@ -43,7 +43,7 @@ enum Bytes {
     Second,
 }
 
-const FILES: [File; 6] = [
+static FILES: [File; 6] = [
     File {
         name: "a new file",
         bytes: Bytes::New,
@@ -111,15 +111,15 @@ pub(crate) fn old_bytes<R: Abort + AllocGlobal>(rt: &R) -> Vec<u8> {
 
 /// The commit bytes and counts of a file's two records: the first prepared, the second sealed. The second
 /// layout begins at 328, its places at 384 and 648.
-const TWO_RECORDS: [(usize, u8); 4] = [(384, 0), (385, 1), (648, 0xa5), (649, 2)];
+static TWO_RECORDS: [(usize, u8); 4] = [(384, 0), (385, 1), (648, 0xa5), (649, 2)];
 
 /// Makes a file of three words whose first record is prepared, and whose second one is sealed.
 fn two_records<R: Abort + AllocGlobal>(rt: &R) -> Vec<u8> {
     let left = left(rt, &with_two_records(rt), WRITTEN);
     same(rt, "the length", 0, &(left.len() as u64), &1440);
-    for (at, byte) in TWO_RECORDS {
-        let is_right = left.get(at) == Some(&byte);
-        holds(rt, "two records", at as u64, is_right);
+    for (at, byte) in &TWO_RECORDS {
+        let is_right = byte_at(&left, *at) == *byte;
+        holds(rt, "two records", *at as u64, is_right);
     }
     left
 }
@@ -133,7 +133,7 @@ fn first_of_three<R: Abort + AllocGlobal>(rt: &R) -> Vec<u8> {
 
 /// Two open records of a file of three words and two places in its first layout, in its places at 56 and
 /// 192. One sets word 0 to 1, the other sets words 1 and 2 to 2 and 3.
-const FIRST_RECORDS: [(usize, u8); 9] = [
+static FIRST_RECORDS: [(usize, u8); 9] = [
     (56, 0xa5),
     (57, 1),
     (72, 1),
@@ -147,7 +147,7 @@ const FIRST_RECORDS: [(usize, u8); 9] = [
 
 /// The same records in the places at 384 and 648 of the second layout, and the switch byte with the offset
 /// 328 of that layout.
-const SECOND_RECORDS: [(usize, u8); 12] = [
+static SECOND_RECORDS: [(usize, u8); 12] = [
     (15, 0xa5),
     (16, 0x48),
     (17, 0x01),
@@ -176,7 +176,7 @@ fn add_second<R: Abort + AllocGlobal>(
 }
 
 /// What [`old_bytes`] gets with its second layout: words 5 and 0, and two places, both closed.
-const MIGRATED: [(usize, u8); 3] = [(15, 0xa5), (16, 0xb8), (216, 5)];
+static MIGRATED: [(usize, u8); 3] = [(15, 0xa5), (16, 0xb8), (216, 5)];
 
 /// Makes the old file with its second layout after the first.
 pub(crate) fn migrated<R: Abort + AllocGlobal>(rt: &R) -> Vec<u8> {
@@ -261,14 +261,19 @@ fn keeps_words_again<R: Abort + AllocGlobal>(rt: &R, file: &File, image: &[u8]) 
     }
 }
 
-/// A file is opened with trouble after each device call in turn, and crashes leave its words.
+/// A file is opened with trouble after so many device calls, and crashes leave its words.
+fn keeps_words_after<R: Abort + AllocGlobal>(rt: &R, file: &File, image: &[u8], calls: u8) {
+    open_with_trouble(rt, file, image, calls, Trouble::Once);
+    let disk = open_with_trouble(rt, file, image, calls, Trouble::Stop);
+    if file.crashes_twice {
+        keeps_words_again(rt, file, &left_on(rt, &disk, SET_FIRST));
+    }
+}
+
+/// The same after each device call in turn.
 fn keeps_words_in_each<R: Abort + AllocGlobal>(rt: &R, file: &File, image: &[u8]) {
     for calls in 0..=file.calls {
-        open_with_trouble(rt, file, image, calls, Trouble::Once);
-        let disk = open_with_trouble(rt, file, image, calls, Trouble::Stop);
-        if file.crashes_twice {
-            keeps_words_again(rt, file, &left_on(rt, &disk, SET_FIRST));
-        }
+        keeps_words_after(rt, file, image, calls);
     }
 }
 

@@ -87,7 +87,7 @@ type Row = (
     &'static [&'static [u64]],
 );
 
-const CHANGE: [Row; 5] = [
+static CHANGE: [Row; 5] = [
     (
         "the record",
         Play::Change,
@@ -125,7 +125,7 @@ const CHANGE: [Row; 5] = [
     ),
 ];
 
-const MIGRATION: [Row; 3] = [
+static MIGRATION: [Row; 3] = [
     (
         "the second layout",
         Play::Migration,

@@ -14,10 +14,20 @@ pub(crate) fn same<R: Abort, T: Debug + PartialEq>(
     found: &T,
     wanted: &T,
 ) {
-    assert_eq!(rt; found, wanted, "{row}, at {at}");
+    assert!(rt;
+        *found == *wanted,
+        "{row}, at {at}: {found:?} in place of {wanted:?}"
+    );
 }
 
 /// Checks that something is so, in this row of a test, and at this number in it.
 pub(crate) fn holds<R: Abort>(rt: &R, row: &str, at: u64, is_so: bool) {
     assert!(rt; is_so, "{row}, at {at}");
+}
+
+/// Checks that each of these is so, in this row of a test. The number tells which isn't, from 0 on.
+pub(crate) fn hold<R: Abort>(rt: &R, row: &str, are_so: &[bool]) {
+    for (at, is_so) in are_so.iter().enumerate() {
+        holds(rt, row, at as u64, *is_so);
+    }
 }

@@ -32,7 +32,7 @@ enum Shared {
 }
 
 /// The change in each place.
-const CHANGES: [[(u16, u64); 2]; 4] = [
+static CHANGES: [[(u16, u64); 2]; 4] = [
     [(0, 0x1111_1111_1111), (1, 0x2222_2222_2222)],
     [(2, 0x3333_3333_3333), (3, 0x4444_4444_4444)],
     [(4, 0x5555_5555_5555), (5, 0x6666_6666_6666)],
@@ -257,7 +257,7 @@ fn fails_in<R: Abort + AllocGlobal>(rt: &R, case: Case) {
 }
 
 /// Bytes that a crash leaves in what was not synced.
-const MIXED: [&[u8]; 2] = [&[0x00, 0xa5, 0xff, 0x5a], SET_FIRST];
+static MIXED: [&[u8]; 2] = [&[0x00, 0xa5, 0xff, 0x5a], SET_FIRST];
 
 /// If a crash cuts off the opening of a file after so many device calls, the file opens with these words. Gives
 /// whether the opening went well.
@@ -307,7 +307,6 @@ fn cut_off_twice_in<R: Abort + AllocGlobal>(rt: &R, case: Case) -> u64 {
 
 /// Calls of one kind on several files: how many files there are if the power fails in them, torn at each byte, and how
 /// many device calls are made by openings that a crash cuts off, after a crash in the call.
-#[derive(Clone, Copy)]
 struct Calls {
     call: Shared,
     cases: &'static [(&'static str, &'static [u8; 4])],
@@ -317,7 +316,7 @@ struct Calls {
 
 /// In each of these calls the power fails at each byte, each device call fails, and a crash is followed by another
 /// one in the opening. The files that are tried, and the device calls of openings, are so many.
-fn keep_words<R: Abort + AllocGlobal>(rt: &R, calls: Calls) {
+fn keep_words<R: Abort + AllocGlobal>(rt: &R, calls: &Calls) {
     let mut files: u64 = 0;
     let mut openings: u64 = 0;
     for (name, places) in calls.cases {
@@ -341,7 +340,7 @@ fn keep_words<R: Abort + AllocGlobal>(rt: &R, calls: Calls) {
 }
 
 /// Changes are prepared together.
-const PREPARES: Calls = Calls {
+static PREPARES: Calls = Calls {
     call: Shared::Prepare,
     cases: &[
         ("prepare aa..", b"aa.."),
@@ -354,11 +353,11 @@ const PREPARES: Calls = Calls {
 
 #[test]
 fn a_prepare_of_several_changes(rt: HostRuntime) {
-    keep_words(&rt, PREPARES);
+    keep_words(&rt, &PREPARES);
 }
 
 /// One change is sealed.
-const SEALS: Calls = Calls {
+static SEALS: Calls = Calls {
     call: Shared::Seal,
     cases: &[
         ("seal c...", b"c..."),
@@ -374,11 +373,11 @@ const SEALS: Calls = Calls {
 
 #[test]
 fn a_seal_beside_other_changes(rt: HostRuntime) {
-    keep_words(&rt, SEALS);
+    keep_words(&rt, &SEALS);
 }
 
 /// One change is sealed, and the call prepares others.
-const SEALS_AHEAD: Calls = Calls {
+static SEALS_AHEAD: Calls = Calls {
     call: Shared::Seal,
     cases: &[
         ("seal ca..", b"ca.."),
@@ -391,11 +390,11 @@ const SEALS_AHEAD: Calls = Calls {
 
 #[test]
 fn a_seal_that_prepares_others(rt: HostRuntime) {
-    keep_words(&rt, SEALS_AHEAD);
+    keep_words(&rt, &SEALS_AHEAD);
 }
 
 /// All sealed changes are settled.
-const SETTLES: Calls = Calls {
+static SETTLES: Calls = Calls {
     call: Shared::Settle,
     cases: &[
         ("settle ss..", b"ss.."),
@@ -412,11 +411,11 @@ const SETTLES: Calls = Calls {
 
 #[test]
 fn a_settle_of_several_changes(rt: HostRuntime) {
-    keep_words(&rt, SETTLES);
+    keep_words(&rt, &SETTLES);
 }
 
 /// All sealed changes are settled, and the call prepares others.
-const SETTLES_AHEAD: Calls = Calls {
+static SETTLES_AHEAD: Calls = Calls {
     call: Shared::Settle,
     cases: &[
         ("settle sa..", b"sa.."),
@@ -429,5 +428,5 @@ const SETTLES_AHEAD: Calls = Calls {
 
 #[test]
 fn a_settle_that_prepares_others(rt: HostRuntime) {
-    keep_words(&rt, SETTLES_AHEAD);
+    keep_words(&rt, &SETTLES_AHEAD);
 }

@@ -23,7 +23,6 @@ enum Turn {
 }
 
 /// A new file, and what is done with it.
-#[derive(Clone, Copy)]
 struct Row {
     name: &'static str,
     start: Start,
@@ -93,7 +92,7 @@ fn take<R: Abort + AllocGlobal>(
 }
 
 /// Plays a row, and gives the file then.
-fn play<R: Abort + AllocGlobal>(rt: &R, row: Row) -> TenantFile<MemDisk> {
+fn play<R: Abort + AllocGlobal>(rt: &R, row: &Row) -> TenantFile<MemDisk> {
     let mut file = file_of(rt, row.start);
     for (at, turn) in row.turns.iter().enumerate() {
         take(rt, row.name, at as u64, &mut file, *turn);
@@ -104,7 +103,7 @@ fn play<R: Abort + AllocGlobal>(rt: &R, row: Row) -> TenantFile<MemDisk> {
 /// Plays each of these rows.
 fn play_all<R: Abort + AllocGlobal>(rt: &R, rows: &[Row]) {
     for row in rows {
-        play(rt, *row);
+        play(rt, row);
     }
 }
 
@@ -135,7 +134,7 @@ const CANCEL_0: Turn = Turn::Call(Step::Cancel(0), DONE);
 const CANCEL_1: Turn = Turn::Call(Step::Cancel(1), DONE);
 
 /// Two changes in a new file.
-const TWO_RECORDS: Row = Row {
+static TWO_RECORDS: Row = Row {
     name: "two records",
     start: Start::ThreeWordsTwoPlaces,
     turns: &[IS_FIRST, IS_SECOND, IS_SEALED],
@@ -144,11 +143,11 @@ const TWO_RECORDS: Row = Row {
 /// Makes a file of three words with four places. The change of word 0 is prepared in its first place, and that
 /// of the others is sealed in its second.
 pub(crate) fn with_two_records<R: Abort + AllocGlobal>(rt: &R) -> TenantFile<MemDisk> {
-    play(rt, TWO_RECORDS)
+    play(rt, &TWO_RECORDS)
 }
 
 /// Changes are canceled, and the lowest free place is taken again.
-const CANCELS: [Row; 4] = [
+static CANCELS: [Row; 4] = [
     Row {
         name: "both places are taken",
         start: Start::ThreeWords,
@@ -211,7 +210,7 @@ const SEAL_0: Turn = Turn::Call(Step::Seal(0), DONE);
 const SETTLE_0: Turn = Turn::Call(Step::Settle(0), DONE);
 
 /// The calls of a change, each of which prepares the one that waits, and the seal of that one.
-const PREPARED_AHEAD: [Row; 3] = [
+static PREPARED_AHEAD: [Row; 3] = [
     Row {
         name: "prepared by a prepare",
         start: Start::TwoWords,
@@ -263,7 +262,7 @@ const SETTLE_1: Turn = Turn::Call(Step::Settle(1), DONE);
 const COPY_FAILS: Turn = Turn::Copy(Err(CopyFault::Disk));
 
 /// Copies of a file whose change of word 0 is prepared, and whose change of words 1 and 2 is sealed.
-const COPIES: [Row; 4] = [
+static COPIES: [Row; 4] = [
     Row {
         name: "the words of the copy's moment",
         start: Start::ThreeWords,

@@ -1,2 +1,3 @@
 pub mod ReadHeads
 pub mod Widths
+mod ExchangeLaws

@@ -1,6 +1,6 @@
 -- Defines the head of an answer: a status line and field lines (RFC 9112, sections 4 and 5). The fields are those of RFC
 -- 9110: Date (6.6.1), Allow (10.2.1), Content-Type (8.3), Content-Length (8.6) and Connection (7.6.1).
--- Used by: heads.rt, mw_server_pages.
+-- Used by: heads.rt.
 use Rattle.std.specs.Prelude.{ℕ, ◌==◌, ◌++◌, List, [], length, Option, None, Some, codes, decimal, if◌then◌else◌}
 use Rattle.mw_http.specs.declared.heads.ContentType.{ContentType}
 use Rattle.mw_http.specs.declared.heads.ContentType.TheVariants.{Text, Html, Metrics, Bytes, Style, Script}

@@ -1,5 +1,5 @@
 -- Defines what a request's target asks for.
--- Used by: targets.rt, mw_server_pages. A change here changes what clients may ask for, and docs/OPERATING with it.
+-- Used by: targets.rt, exchanges.rt, pages.rt, mw_server_pages. A change here changes what clients may ask for, and docs/OPERATING with it.
 use Rattle.std.specs.Prelude.{ℕ, ◌+◌, ◌-◌, ◌==◌, Bool, not, ◌&&◌, ◌||◌, List, length, take, drop, nat_eq, nat_le, nat_lt, slice_range, Option, None, Some, is_some, codes, bytes_eq, if◌then◌else◌}
 use Rattle.std.specs.List.{prefix_len, starts_with, ends_with}
 use Rattle.std.specs.Option.{option_and_then, option_map}

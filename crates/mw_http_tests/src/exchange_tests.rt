@@ -1,7 +1,7 @@
 //! Tests exchanges with HTTP clients: what a client says and is told, also cut into pieces, and with a peer that fails.
 use crate::checks::{MEMORY, holds};
 use crate::http_peers::CountedPages;
-use mw_server_pages::{Exchanged, exchange};
+use mw_http::{Exchanged, exchange};
 use mw_session::{Duplex, RecordedStream};
 use mw_test_peers::{Failure, Page, Sender};
 use std::io::ErrorKind;

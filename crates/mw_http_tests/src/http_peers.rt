@@ -1,7 +1,7 @@
 //! Pages and peers for tests of exchanges.
 
-use mw_http::{ContentType, Route, Status};
-use mw_server_pages::{Date, FileCopies, NoCopy, Page, Pages};
+use mw_http::{ContentType, Date, Page, Pages, Route, Status};
+use mw_server_pages::{FileCopies, NoCopy};
 use mw_words::Name;
 use std::alloc::Global;
 use std::cell::Cell;

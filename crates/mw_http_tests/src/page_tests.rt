@@ -1,12 +1,12 @@
 //! Tests what a server shows: its pages by a service, and each text by hand.
 use crate::checks::{MEMORY, holds};
 use crate::http_peers::{HandClock, OneFile};
-use mw_http::{ContentType, Route, Status};
+use mw_http::{ContentType, Page, Pages, Route, Status};
 use mw_metrics::{CloseReason, FilePlace, Meters, ServerCounters, TenantCounters, TenantMetrics};
 use mw_report::TenantFigures;
 use mw_server_pages::{
-    Capacity, Curve, Limit, LimitKind, NoCopy, Pages, Point, Recent, ServerPages, Version,
-    health_text, status_page,
+    Capacity, Curve, Limit, LimitKind, NoCopy, Point, Recent, ServerPages, Version, health_text,
+    status_page,
 };
 use mw_test_peers::Shelf;
 use mw_words::{Entries, Job, Name, Reply};
@@ -246,14 +246,23 @@ static ROWS: [Row; 17] = [
     },
 ];
 
+impl Row {
+    /// Tells whether this page is the answer.
+    fn suits(&self, page: &Page) -> bool {
+        page.status == self.status && page.kind == self.kind && self.body.suits(&page.body)
+    }
+}
+
 /// Tells whether what a row asks for is answered as it says.
 fn is_answered(clock: &HandClock, row: &Row) -> bool {
     let meters = Meters::new(clock);
-    let Some(mut pages) = pages_of(clock, &meters, row.file) else {
-        return false;
-    };
-    let page = pages.page(&row.asked.route());
-    page.status == row.status && page.kind == row.kind && row.body.suits(&page.body)
+    match pages_of(clock, &meters, row.file) {
+        Some(pages) => {
+            let mut pages = pages;
+            row.suits(&pages.page(&row.asked.route()))
+        }
+        None => false,
+    }
 }
 
 #[test]
@@ -433,20 +442,30 @@ static CURVES: [&[u8]; 2] = [
     b"<td>0 (most 2) <svg viewBox=\"0 0 180 30\" aria-hidden=\"true\"><path d=\"M0 0V30H180\"/><polyline points=\"177,0 180,30 \"/></svg></td><td>0 (most 2000) <svg",
 ];
 
+/// Records thirty changes.
+fn record_changes(meters: &Meters) {
+    let job = Job::Cas(Entries::new());
+    for _ in 0..30 {
+        meters.record_request(0, &job, &Reply::Yes, 2_000_000);
+    }
+}
+
+/// Tells whether this part is in the status page after so many seconds more.
+fn shows(pages: &mut OnePages<'_>, clock: &HandClock, seconds: u64, part: &[u8]) -> bool {
+    thread::sleep(clock, Duration::from_secs(seconds));
+    is_in(part, &pages.page(&Route::Page).body)
+}
+
 /// Thirty changes in 15 seconds, and then none.
 #[test]
 fn curves_show_what_was_counted(rt: HostRuntime) {
     let clock = HandClock::new(rt.alloc());
     let meters = Meters::new(&clock);
     let mut pages = pages_of(&clock, &meters, Ok(FILE)).expect(&rt, MEMORY);
-    let job = Job::Cas(Entries::new());
-    for _ in 0..30 {
-        meters.record_request(0, &job, &Reply::Yes, 2_000_000);
-    }
+    record_changes(&meters);
     for (number, wanted) in CURVES.iter().enumerate() {
-        thread::sleep(&clock, Duration::from_secs(15));
-        let page = pages.page(&Route::Page);
-        holds(&rt, "a curve", number, is_in(wanted, &page.body));
+        let is_right = shows(&mut pages, &clock, 15, wanted);
+        holds(&rt, "a curve", number, is_right);
     }
 }
 
@@ -478,8 +497,7 @@ fn a_limit_is_near_from_three_quarters_on(rt: HostRuntime) {
     let mut pages = pages_of(&clock, &meters, Ok(FILE)).expect(&rt, MEMORY);
     for (begin, end, seconds, part) in &TURNS {
         turn(meters.server(), *begin, *end);
-        thread::sleep(&clock, Duration::from_secs(*seconds));
-        let page = pages.page(&Route::Page);
-        holds(&rt, part, 0, is_in(part.as_bytes(), &page.body));
+        let is_right = shows(&mut pages, &clock, *seconds, part.as_bytes());
+        holds(&rt, part, 0, is_right);
     }
 }

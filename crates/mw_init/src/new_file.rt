@@ -9,9 +9,10 @@ ghost use Rattle.mw_init.specs.Dump.{IsFileOf};
 
 use crate::dump::DumpFault;
 use crate::dumped_file::{file_of_dump, file_of_zeros};
+use clap::ArgMatches;
+use clap::builder::ValueParser;
 use clap::error::ErrorKind;
-use clap::{Arg, ArgAction, ArgMatches, Command, value_parser};
-use mw_main::VERSION;
+use mw_command_line::{Argument, CommandLine, PLACE, TEXT};
 use mw_record::{FIRST_PLACES, size};
 use mw_words::MAX_WORDS;
 use std::alloc::{AllocError, Global};
@@ -37,27 +38,64 @@ const _: () = prove!(MAX_WORDS == 4096);
 
 const _: () = prove!(FIRST_PLACES == 32);
 
+/// The command line of `mwinit`.
+fn command_line() -> CommandLine {
+    CommandLine {
+        name: "mwinit",
+        about: "Makes a file of words, all 0 or those of a dump.",
+        arguments: &ARGUMENTS,
+        after_help: AFTER_HELP,
+    }
+}
+
+static ARGUMENTS: [Argument; 4] = [
+    Argument {
+        name: "from",
+        value: &["DUMP"],
+        help: "what mwshow --words printed of the file whose words it gets",
+        ..TEXT
+    },
+    Argument {
+        name: "PATH",
+        help: "the file to make",
+        ..PLACE
+    },
+    Argument {
+        name: "WORDS",
+        parser: ValueParser::Signed(1, MAX_WORDS as i64),
+        help: "how many words it has, 1 to 4096",
+        ..PLACE
+    },
+    Argument {
+        name: "PLACES",
+        parser: ValueParser::Signed(1, FIRST_PLACES as i64),
+        help: "how many changes it can hold at a time, 1 to 32",
+        ..PLACE
+    },
+];
+
+/// What is told before the system's error if the dump doesn't exist, may not be read, or a call of the system on it
+/// failed.
+const NO_DUMP: &str = "cannot read the dump\nmwinit: ";
+
+/// The same if the file exists already, or a call of the system on it failed.
+const NO_FILE: &str = "cannot make\nmwinit: the file: ";
+
+/// The same if a call of the system on the file's folder failed. The file was removed.
+const NO_FOLDER: &str = "cannot make\nmwinit: its folder: ";
+
+/// The same if the output takes no more.
+const NO_OUTPUT: &str = "cannot make\nmwinit: standard output: ";
+
 /// Tells why no file was made.
 #[derive(Debug, Drop, Error)]
 enum InitFault {
-    /// The command line is wrong, or asks for the help or the version.
-    #[error("{0}")]
-    Args(clap::Error),
-    /// The dump doesn't exist, may not be read, or a call of the system on it failed, which is told on a second line.
-    #[error("mwinit: cannot read the dump\nmwinit: {0}")]
-    NoDump(io::Error),
+    /// The system failed so, and this is told before it.
+    #[error("mwinit: {0}{1}")]
+    System(&'static str, io::Error),
     /// No file is made of this dump.
     #[error("{0}")]
     Dump(DumpFault),
-    /// The file exists already, or a call of the system on it failed, which is told on a second line.
-    #[error("mwinit: cannot make\nmwinit: the file: {0}")]
-    File(io::Error),
-    /// A call of the system on the file's folder failed. The file was removed.
-    #[error("mwinit: cannot make\nmwinit: its folder: {0}")]
-    Folder(io::Error),
-    /// The output takes no more.
-    #[error("mwinit: cannot make\nmwinit: standard output: {0}")]
-    Output(io::Error),
     /// Memory was refused.
     #[error("mwinit: cannot make\nmwinit: memory")]
     Memory,
@@ -92,49 +130,65 @@ pub fn init<R: Files<File = File> + AllocGlobal, O: Write, E: Write>(
     out: &mut O,
     err: &mut E,
 ) -> u8 {
-    match make(rt, args, out) {
-        Ok(()) => 0,
-        Err(InitFault::Args(fault)) if !fault.use_stderr() => {
-            u8::from(write!(out, "{fault}").is_err())
-        }
-        Err(InitFault::Args(fault)) => {
-            // The text that clap makes ends with a line feed.
-            let _ = write!(err, "{fault}");
-            if let ErrorKind::ValueValidation = fault.kind() {
-                let _ = writeln!(
-                    err,
-                    "mwinit: WORDS is 1 to {MAX_WORDS}, PLACES 1 to {FIRST_PLACES}"
-                );
-            }
-            2
-        }
-        Err(fault) => {
-            let _ = writeln!(err, "{fault}");
-            1
-        }
+    match read_args(rt.alloc(), args) {
+        Ok(file) => match make(rt, &file, out) {
+            Ok(()) => 0,
+            Err(fault) => tell(&fault, err),
+        },
+        Err(fault) => refuse(&fault, out, err),
     }
 }
 
+/// Writes why a command line asks for no file, or the help or the version, if it asks for one. Gives the exit status.
+fn refuse<O: Write, E: Write>(fault: &clap::Error, out: &mut O, err: &mut E) -> u8 {
+    if let ErrorKind::OutOfMemory = fault.kind() {
+        return tell(&InitFault::Memory, err);
+    }
+    let status = command_line().tell(fault, out, err);
+    if let ErrorKind::ValueValidation = fault.kind() {
+        let _ = writeln!(
+            err,
+            "mwinit: WORDS is 1 to {MAX_WORDS}, PLACES 1 to {FIRST_PLACES}"
+        );
+    }
+    status
+}
+
+/// Writes why no file was made. Gives the exit status.
+fn tell<E: Write>(fault: &InitFault, err: &mut E) -> u8 {
+    let _ = writeln!(err, "{fault}");
+    1
+}
+
+/// Makes the file, and writes `made SIZE` to `out`.
 fn make<R: Files<File = File> + AllocGlobal, O: Write>(
     rt: &R,
-    args: &[String],
+    file: &NewFile<'_>,
     out: &mut O,
 ) -> Result<(), InitFault> {
-    let file = read_args(rt.alloc(), args)?;
-    let bytes = contents(rt, &file)?;
+    let bytes = contents(rt, file)?;
     // The lock is held until `_made` is closed at the end of this function.
-    let _made = match write_file(rt, &file, &bytes) {
+    let _made = match write_file(rt, file, &bytes) {
         Ok(made) => made,
-        Err(fault) => return Err(InitFault::File(fault)),
+        Err(fault) => return Err(InitFault::System(NO_FILE, fault)),
     };
+    finish(rt, file, out)
+}
+
+/// Syncs the folder of a file that was made, and tells its size.
+fn finish<R: Files<File = File>, O: Write>(
+    rt: &R,
+    file: &NewFile<'_>,
+    out: &mut O,
+) -> Result<(), InitFault> {
     if let Err(fault) = sync_folder(rt, file.path) {
         // A crash may lose the file's name, so nobody may serve it.
         let _ = rt.remove_file(file.path);
-        return Err(InitFault::Folder(fault));
+        return Err(InitFault::System(NO_FOLDER, fault));
     }
     match writeln!(out, "made {}", size(file.words, file.places)) {
         Ok(()) => Ok(()),
-        Err(fault) => Err(InitFault::Output(fault)),
+        Err(fault) => Err(InitFault::System(NO_OUTPUT, fault)),
     }
 }
 
@@ -150,20 +204,11 @@ impl From<DumpFault> for InitFault {
     }
 }
 
-impl From<clap::Error> for InitFault {
-    fn from(fault: clap::Error) -> Self {
-        match fault.kind() {
-            ErrorKind::OutOfMemory => InitFault::Memory,
-            _ => InitFault::Args(fault),
-        }
-    }
-}
-
-fn read_args<'a>(alloc: Global, args: &'a [String]) -> Result<NewFile<'a>, InitFault> {
-    let matches = command(alloc)?.try_get_matches_from(args)?;
+fn read_args<'a>(alloc: Global, args: &'a [String]) -> Result<NewFile<'a>, clap::Error> {
+    let matches = command_line().matches(alloc, args)?;
     match new_file_of(&matches) {
         Some(file) => Ok(file),
-        None => Err(InitFault::Memory),
+        None => Err(clap::Error::from(AllocError)),
     }
 }
 
@@ -190,50 +235,6 @@ fn number_of(matches: &ArgMatches<'_>, name: &str, most: u16) -> Option<u16>
         .filter(|number| (1..=most).contains(number))
 }
 
-fn command<'a>(alloc: Global) -> Result<Command<'a>, AllocError> {
-    let command = Command::new(alloc, "mwinit")
-        .version(VERSION)
-        .about("Makes a file of words, all 0 or those of a dump.")
-        .after_help(AFTER_HELP);
-    let command = command.arg(dump(alloc))?.arg(path(alloc))?;
-    let command = command.arg(size_of(
-        alloc,
-        "WORDS",
-        MAX_WORDS,
-        "how many words it has, 1 to 4096",
-    ))?;
-    command.arg(size_of(
-        alloc,
-        "PLACES",
-        FIRST_PLACES,
-        "how many changes it can hold at a time, 1 to 32",
-    ))
-}
-
-/// The option for the path of a dump.
-fn dump<'a>(alloc: Global) -> Arg<'a> {
-    Arg::new(alloc, "from")
-        .long("from")
-        .value_name("DUMP")
-        .action(ArgAction::Set)
-        .help("what mwshow --words printed of the file whose words it gets")
-}
-
-/// The argument for the path of the file.
-fn path<'a>(alloc: Global) -> Arg<'a> {
-    Arg::new(alloc, "PATH")
-        .required(true)
-        .help("the file to make")
-}
-
-/// An argument for a size of the file: a number from 1 to `most`.
-fn size_of<'a>(alloc: Global, name: &'a str, most: u16, help: &'a str) -> Arg<'a> {
-    Arg::new(alloc, name)
-        .required(true)
-        .value_parser(value_parser!(u16).range(1..=i64::from(most)))
-        .help(help)
-}
-
 /// Gives the bytes of the new file: with the words of the dump, if there is one, or zeros. It only reads.
 fn contents<R: Files<File = File> + AllocGlobal>(
     rt: &R,
@@ -257,13 +258,13 @@ fn read_text<R: Files<File = File> + AllocGlobal>(
 ) -> Result<Vec<u8>, InitFault> {
     let file = match File::open(rt, path) {
         Ok(file) => file,
-        Err(fault) => return Err(InitFault::NoDump(fault)),
+        Err(fault) => return Err(InitFault::System(NO_DUMP, fault)),
     };
     let mut text = Vec::new(rt.alloc());
     match file.take(MAX_DUMP).read_to_end(&mut text) {
         Ok(_) => Ok(text),
         Err(fault) if fault.kind() == io::ErrorKind::OutOfMemory => Err(InitFault::Memory),
-        Err(fault) => Err(InitFault::NoDump(fault)),
+        Err(fault) => Err(InitFault::System(NO_DUMP, fault)),
     }
 }
 

@@ -1,18 +1,21 @@
 -- What holds after each reply to a session. Used by: mwserve.
 use Rattle.std.specs.Prelude.{ℕ, ◌≡◌, List, [], ◌∷◌, Some}
+use Rattle.std.proofs.Common.{inr}
 use Rattle.mw_words.specs.declared.jobs.Job.{Job}
 use Rattle.mw_words.specs.declared.replies.Reply.{Reply}
 use Rattle.mw_words.specs.declared.replies.Reply.TheVariants.{Val, Yes as SaysYes, No as SaysNo, Busy as SaysBusy, Fault as SaysFault, Worn as SaysWorn}
 use Rattle.mw_lone.specs.Store.{entries_of}
 use Rattle.mw_disk.specs.Facts.{Facts}
 use Rattle.mw_rule.specs.KnownRuns.{known_run_of}
+use Rattle.mw_rule.specs.Splits.{learns}
 use Rattle.mw_rule.specs.declared.views.View.{View}
 use Rattle.mw_rule.proofs.KnownRunLaws.{on_again}
 use Rattle.mw_table.specs.TableAtStart.{StartedWith}
+use Rattle.mw_table.proofs.Meetings.{learns_lives, lives}
 use Rattle.mw_session.specs.Talk.{Call, Finds, Asks, Counts}
 use Rattle.mw_session.specs.Transitions.{GoesThrough}
 use Rattle.mw_engine.specs.Brand.{Identity}
-use Rattle.mw_engine.specs.FromBelow.{Pass}
+use Rattle.mw_engine.specs.FromBelow.{Pass, said_in}
 use Rattle.mw_engine.specs.History.{IsAnswered}
 use Rattle.mw_service.specs.EngineAnswers.{ByBorrower, ByWorker}
 use Rattle.mw_service.specs.OwnReplies.{AnswersOwn, Kept}
@@ -25,7 +28,7 @@ use Rattle.mw_law_threads.proofs.Durable.DurableLaws.{moments_keep_changes, mome
 use Rattle.mw_law_threads.proofs.History.AnswerMomentLaws.{answers_have_moments}
 use Rattle.mw_law_threads.proofs.History.AnswersInOneRunLaws.{in_one_run, in_time}
 use Rattle.mw_law_threads.proofs.Sessions.OwnRequestLaws.{own_requests, sessions}
-use Rattle.mw_law_threads.proofs.Sessions.SessionChangeLaws.{since_answer}
+use Rattle.mw_law_threads.proofs.Sessions.NoteLaws.{learned_since, since_answer, told_since}
 use Rattle.mw_law_threads.proofs.Sessions.LearnedRuns.{learned_run}
 
 module _ {D : Type 0} (facts : D → Facts) (first now : View) (tenant : ℕ) (job : Job) where
@@ -34,7 +37,7 @@ module _ {D : Type 0} (facts : D → Facts) (first now : View) (tenant : ℕ) (j
       → LeavesChangeOfRun facts at.config (StartedWith at.config at.found) at.tied known.view tenant one.token.request (entries_of job) one.answered.place
       (stake_at facts crash) (first_disk facts crash) (last_disk facts crash)
   kept_after SaysYes one is at known crash =
-      moments_keep_changes facts at.config (StartedWith at.config at.found) at.table known.id tenant first now known.view job at.tied crash known.at known.live one known.knows
+      moments_keep_changes facts at.config (StartedWith at.config at.found) at.table tenant first now job at.tied crash known one
   kept_after (Val value) one is at known crash = absurd (let e : Val value ≡ SaysYes = is in cc)
   kept_after (SaysNo address value) one is at known crash = absurd (let e : SaysNo address value ≡ SaysYes = is in cc)
   kept_after SaysBusy one is at known crash = absurd (let e : SaysBusy ≡ SaysYes = is in cc)
@@ -51,7 +54,7 @@ module _ {D : Type 0} (facts : D → Facts) (first now : View) (tenant : ℕ) (j
         own_requests at.config (StartedWith at.config at.found) at.table at.tied first now begins ends tenant job asked reply said one that known also apart;
     kept = kept_after reply one;
     wholly = λ at known crash.
-        moments_leave_wholly_or_not facts at.config (StartedWith at.config at.found) at.table known.id tenant first now known.view job reply at.tied crash known.at known.live one known.knows;
+        moments_leave_wholly_or_not facts at.config (StartedWith at.config at.found) at.table tenant first now job reply at.tied crash known one;
   }
 
 module _ {D : Type 0} (facts : D → Facts) (identity : Identity) where
@@ -66,6 +69,14 @@ module _ {D : Type 0} (facts : D → Facts) (identity : Identity) where
         timed = on_again (run_in old.note) first.known_run (Some (known_run_of last.config (one.answered.run one.whole).behind.openings (one.answered.run one.whole).behind.before after.true_at.until))
             (learned_run its.0.0.seat.me.0 first old.note its.0.2.borrows.learns) after.true_at.known;
         noted = λ calls note goes. since_answer identity its.0.0 its.0.1 old.note new.note its.0.2.borrows one.keeps calls note goes;
+        learning = λ calls note goes pass own at id here. record {
+          id = id;
+          view = learns pass.seat.me.0 (said_in note);
+          at = here;
+          live = learns_lives pass.seat.me.0 (said_in note) (lives pass);
+          knows = inr (told_since identity its.0.0 its.0.1 old.note new.note its.0.2.borrows one.keeps calls note goes pass own);
+        };
+        learned = λ calls note goes pass own view learned. learned_since identity its.0.0 its.0.1 old.note new.note its.0.2.borrows one.keeps calls note goes pass own view learned;
         two = λ calls kept tokens id other asked said that at are goes has apart known also.
             sessions at.config (StartedWith at.config at.found) at.table at.tied tokens are identity id other tenant job asked reply said
             (record { old = old; new = new; last = kept; calls = calls; its = its; goes = goes; has = has }) that apart known also;

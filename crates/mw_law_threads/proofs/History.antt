@@ -2,6 +2,7 @@
 pub mod AnswerMomentLaws
 pub mod ArrivalsInRuns
 pub mod HandOuts
+pub mod KnownMoments
 pub mod SameReplies
 pub mod AnswersInOneRunLaws
 pub mod OneHistoryLaws

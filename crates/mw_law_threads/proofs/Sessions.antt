@@ -1,4 +1,4 @@
 -- The proofs of what the laws of all passes say of sessions. This page only lists its modules.
-pub mod SessionChangeLaws
+pub mod NoteLaws
 pub mod LearnedRuns
 pub mod OwnRequestLaws

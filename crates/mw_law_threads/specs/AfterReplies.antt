@@ -1,5 +1,5 @@
 -- Defines what holds after each reply to a session, at each later moment of its server at which some thread knows what the pass knew with
--- the reply. mwserve promises it to every client, and docs/PROMISES says it in words.
+-- the reply, or learns it from a note. mwserve promises it to every client, and docs/PROMISES says it in words.
 -- Used by: mwserve. A change here changes what the program promises.
 use Rattle.std.specs.Prelude.{ℕ, ◌≡◌, ◌≢◌, ◌⊎◌, List, [], ◌∷◌, Option, Some, None}
 use mathlib.Core.Option.{some}
@@ -15,6 +15,7 @@ use Rattle.mw_world.specs.declared.config.Config.{Config}
 use Rattle.mw_world.specs.Definition.Events.{WorldEvent}
 use Rattle.mw_rule.specs.KnownRuns.{KnownRun, ExtendsKnownRun, known_run_of}
 use Rattle.mw_rule.specs.Rule.{Continues, TableInvariant}
+use Rattle.mw_rule.specs.Splits.{learns}
 use Rattle.mw_rule.specs.Steps.{ExtendsView}
 use Rattle.mw_rule.specs.declared.views.View.{View}
 use Rattle.mw_rule.specs.declared.views.WorkerToken.{WorkerToken}
@@ -23,7 +24,7 @@ use Rattle.mw_table.specs.TableAtStart.{StartedWith}
 use Rattle.mw_session.specs.Talk.{Call, Finds, Asks, Counts}
 use Rattle.mw_session.specs.Transitions.{GoesThrough}
 use Rattle.mw_engine.specs.Brand.{Identity}
-use Rattle.mw_engine.specs.FromBelow.{Note, Pass, said_in}
+use Rattle.mw_engine.specs.FromBelow.{HasLearned, Note, Pass, said_in}
 use Rattle.mw_engine.specs.History.{IsAnswered}
 use Rattle.mw_engine.specs.Passes.{IsPassOf}
 use Rattle.mw_service.specs.declared.token_views.TokenView.{TokenView}
@@ -49,7 +50,8 @@ abbrev pub GoesOnTo : Moment → List WorldEvent → Table ActorState View → T
 GoesOnTo moment more next = Continues moment.config (StartedWith moment.config moment.found) moment.table moment.tied more next
 
 -- A reply that a pass gave, whichever session was told it. `first` is what the pass knew when the request came, `now` what it knew with the
--- reply. Each clause but the first is of moments at which some thread knows as much: the pass itself, or a session by its note.
+-- reply. Each clause but the first is of moments at which some thread knows as much (`IsKnownAt`): the pass itself, a session by its note,
+-- or a pass that learns the note or has learned it.
 --
 -- - `true_at`: the reply, unless it is WORN, was true at a moment between the arrival of its request and itself. For YES: by one event the
 --   words that the request expects became the words that it wants.
@@ -88,6 +90,9 @@ run_in (Some kept) = (said_in kept).known_run
 -- - `timed`: in its run the request comes after all that the session's note told before, so after the replies to its earlier requests.
 -- - `noted`: what a later note of the session tells, after whichever calls, goes on from what the pass knew. So each clause of `after` is of
 --   the moments at which some thread knows what that note tells.
+-- - `learning`: when a pass of the engine learns such a note, the pass is told it first, and then loads a word. Between the two the note
+--   is used up. At each moment between them the pass counts as a thread that knows as much.
+-- - `learned`: once it has learned the note, it knows as much.
 -- - `two`: a reply of the tenant that another borrower gave is to another request, whichever passes both borrowed. Two YES then have two
 --   changes. The tokens of both are at two places of one table under its rule.
 pub record AfterLoan {D : Type 0} (facts : D → Facts) (identity : Identity) (old new : Kept) {tenant : ℕ} {job : Job} {reply : Reply} (its : AnswersOwn identity old (Asks tenant job reply) new) : Type 0 where
@@ -95,6 +100,10 @@ pub record AfterLoan {D : Type 0} (facts : D → Facts) (identity : Identity) (o
   pub timed : ExtendsKnownRun (run_in old.note) (Some (known_run_of its.0.1.seat.me.0.config (its.0.2.answered.answered.run its.0.2.answered.whole).behind.openings
       (its.0.2.answered.answered.run its.0.2.answered.whole).behind.before after.true_at.until))
   pub noted : (calls : List Call) (last : Note) → GoesThrough (AnswersWith identity) new.note calls (Some last) → ExtendsView its.0.1.seat.me.0 (said_in last)
+  pub learning : (calls : List Call) (last : Note) → GoesThrough (AnswersWith identity) new.note calls (Some last) → (pass : Pass) → IsPassOf identity pass → (at : Moment) (id : ℕ)
+      → get_elem? at.table.views id ≡ some (learns pass.seat.me.0 (said_in last)) → IsKnownAt at.table its.0.1.seat.me.0
+  pub learned : (calls : List Call) (last : Note) → GoesThrough (AnswersWith identity) new.note calls (Some last) → (pass : Pass) → IsPassOf identity pass → (view : View)
+      → HasLearned (said_in last) pass.seat.me.0 view → ExtendsView its.0.1.seat.me.0 view
   pub two : (calls : List Call) (last : Kept) (tokens : Table ℕ TokenView) (id other : ℕ) (asked : Job) (said : Reply) (that : WasAnswered identity tokens other tenant asked said) (at : Moment)
       → AreOwn tokens → GoesThrough (AnswersOwn identity) new calls last → Has tokens id last.tokens → id ≢ other
       → IsKnownAt at.table its.0.1.seat.me.0 → IsKnownAt at.table that.its.0.1.seat.me.0 → AreTwoRequests its.0.2.answered that.its.0.2.answered

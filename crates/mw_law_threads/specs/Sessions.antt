@@ -1,3 +1,2 @@
 -- What the laws of all passes say of sessions. This page only lists its modules.
-pub mod SessionChanges
 pub mod OwnRequests

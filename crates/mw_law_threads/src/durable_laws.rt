@@ -1,6 +1,6 @@
 //! States which files a crash may leave after a change was answered YES, FAULT or nothing. The functions are empty:
 //! their contracts are the facts, and a change of one changes a theorem.
-ghost use Rattle.mw_law_threads.specs.Durable.Durable.{CallsKeepChanges, CallsLeaveWholeChanges, CallsLeaveWhollyOrNot, MomentsKeepChanges, MomentsLeaveWholeChanges, MomentsLeaveWhollyOrNot};
+ghost use Rattle.mw_law_threads.specs.Durable.Durable.{CallsKeepChanges, CallsLeaveWholeChanges, CallsLeaveWhollyOrNot, MomentsLeaveWholeChanges};
 ghost use Rattle.mw_law_threads.specs.Durable.Starts.{EnginesStartWithChanges, StartsFindChanges};
 
 use mw_disk::Disk;
@@ -21,29 +21,24 @@ pub fn calls_keep_changes<D: Disk>()
     ensures wholly { CallsLeaveWhollyOrNot D.facts }
 {}
 
-/// The same at every moment of the shared words, for all passes. The changes are those of the run that ties the shared
-/// words to the model. The crash comes while no call on the file is under way, or in any pass's call: before the call's
-/// event, by which the run goes on, or after it (`CrashMoment`).
+/// At every moment of the shared words a crash leaves whole changes: those of the run that ties the shared words to the
+/// model. It comes while no call on the file is under way, in any pass's call, before the call's event, by which the run goes
+/// on, or after it, or in a copy for a backup (`CrashMoment`).
 ///
-/// - `whole`: of an honest disk, a crash leaves the words of the latest start with all sealed changes put over them. One
-///   whole change more may be there: the one that a call seals, before its event, or else the one in doubt. No change of
-///   the request is sealed whose change is in doubt.
-/// - `kept`: a change that any pass was answered YES by then is one of the sealed changes, at its own place, whoever
-///   makes the calls on the file.
-/// - `wholly`: if any pass was answered by then, with any reply, also FAULT, the change of its request is there wholly or
-///   not at all. So is the change of a request that got no answer: each change is just what one request asked for.
+/// Of an honest disk, it leaves the words of the latest start with all sealed changes put over them. One whole change more may
+/// be there: the one that a call seals, before its event, or else the one in doubt. No change of the request is sealed
+/// whose change is in doubt. Each change is just what one request asked for, also of one that got no answer. What it leaves
+/// of the change of a request that was answered, `specs/AfterReplies` says (`kept`, `wholly`).
 ///
 /// After a call's event its device calls are over. So the code has it (`file` of mw_core); no contract says it.
-pub fn every_moment_keeps_changes<B: Begins, D: Disk>()
-    ensures whole { (key : B) → MomentsLeaveWholeChanges D.facts (B.config key) (B.begun key) }
-    ensures kept { (key : B) → MomentsKeepChanges D.facts (B.config key) (B.begun key) }
-    ensures wholly { (key : B) → MomentsLeaveWhollyOrNot D.facts (B.config key) (B.begun key) }
+pub fn every_moment_leaves_whole_changes<B: Begins, D: Disk>()
+    ensures { (key : B) → MomentsLeaveWholeChanges D.facts (B.config key) (B.begun key) }
 {}
 
 /// A start finds what a crash left. It opens these bytes on a disk that is honest and synced.
 ///
 /// The crash came at a moment at which it leaves whole changes, by [`calls_keep_changes`] or
-/// [`every_moment_keeps_changes`]. If the opening goes well, it finds the words of the start before with all changes put
+/// [`every_moment_leaves_whole_changes`]. If the opening goes well, it finds the words of the start before with all changes put
 /// over them that were sealed since, or these with the one at stake. So a change that was answered YES is among the
 /// changes that the start finds. If the opening fails, it found no damage.
 pub fn starts_find_changes<D: Disk, E: Disk>()

@@ -32,7 +32,7 @@ pub fn servers_in_turn_are_of_one_store()
     ensures { ServersInTurnAreOfOneStore }
 {}
 
-/// A crash of running threads leaves whole changes, by [`every_moment_keeps_changes`](crate::every_moment_keeps_changes), and
+/// A crash of running threads leaves whole changes, by [`every_moment_leaves_whole_changes`](crate::every_moment_leaves_whole_changes), and
 /// an engine starts with them, by [`engines_start_with_changes`](crate::engines_start_with_changes). So the start found what
 /// [`next_runs_are_of_one_store`] asks for, of the run that ties the shared words to the model, if its opening went well. It is so
 /// also if the crash cut off a seal.

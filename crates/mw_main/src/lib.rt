@@ -1,7 +1,7 @@
 //! Begins every program: holds the standard streams open, reads the command line as texts, and gives the exit status.
 //! It has the version that all programs tell.
 //!
-//! Used by: many crates from mw_file_command on. Each of the five programs begins by it; the others tell the version.
+//! Used by: many crates from mw_command_line on. Each of the five programs begins by it; the others tell the version.
 //! Change [`VERSION`] with the clients' own (clients/), docs/OPERATING, CHANGELOG and mw_examples; scripts/package
 //! reads it.
 #![tactic(auto)]

@@ -1,6 +1,6 @@
 //! Tells why a tenant's file isn't served.
 //!
-//! Used by: `opening`, which writes the notes; `tenant_disks`. docs/OPERATING lists the texts of the notes;
+//! Used by: `opening`, which writes the notes; `tenant_disks`; mw_examples, whose runtime fails. docs/OPERATING lists the texts of the notes;
 //! mw_examples, scripts/check-refusals and check-locks expect some: change them together.
 ghost use Rattle.std.specs.Prelude.{◌≡◌};
 

@@ -30,5 +30,5 @@ pub use notes::{NoteForm, Notes, note_cause, note_place, note_why};
 pub use opened_parts::{OpenedParts, are_all_open, open_parts};
 pub use opening::{TenantsFault, read_tenants_file};
 pub use plain_file::{ReadFault, open_plain};
-pub use tenant_disks::{LockedFiles, Opened, OpensDisks, TenantDisk};
+pub use tenant_disks::{LockedFiles, Opened, OpensDisks, OpensPaths, TenantDisk};
 pub use watched_file::WatchedFile;

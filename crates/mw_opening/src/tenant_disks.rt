@@ -1,9 +1,10 @@
 //! Opens the disks of the tenants' files: what [`open_parts`](crate::open_parts) needs of whoever opens them, and the
 //! system's files, each under a lock.
 //!
-//! Used by: `opening`, `opened_parts`; mw_programs makes the [`LockedFiles`]. [`OpensDisks`] says what is known of
+//! Used by: `opening`, `opened_parts`; mw_programs makes the [`LockedFiles`]; mw_examples has a runtime that fails. [`OpensPaths`] says what is known of
 //! the files that a server opens.
 ghost use Rattle.std.specs.Prelude.{◌<◌, ℕ, List, IfErr, IfOk};
+ghost use Rattle.std.specs.declared.fs.File.{File as SystemFile};
 ghost use Rattle.mw_words.specs.declared.limits.TheConstants.{MAX_TENANTS};
 ghost use Rattle.mw_opening.specs.declared.file_fault.FileFault.{FileFault as Fault};
 
@@ -48,6 +49,45 @@ pub trait OpensDisks {
         requires { tenant < MAX_TENANTS };
 }
 
+/// Opens the file at a path, under a lock. A server's code is for any runtime that does, so it has what a ghost member says only
+/// from a call. The other bounds of a runtime give it files of which nothing is known.
+pub trait OpensPaths {
+    // This is the file at this path, which is given by its bytes.
+    ghost is_at: { List ℕ → SystemFile → Type 0 };
+
+    // The file at this path was not opened, for this fault.
+    ghost is_refused: { List ℕ → Fault → Type 0 };
+
+    /// Opens the file at this path for reading and writing, locks it, and has the system drop its copies of it. The lock is
+    /// held until the file is closed. The states are those of the tenants' files, and this is the number of the file's
+    /// tenant.
+    ///
+    /// # Errors
+    ///
+    /// [`FileFault::CannotOpen`] if the file can't be opened. [`FileFault::InUse`] if another opening has the lock.
+    /// [`FileFault::CannotLock`] if its file system has no locks. [`FileFault::Disk`] if the system refuses to drop its copies.
+    fn open_locked(&self, path: &str, states: &FileStates, tenant: usize) -> Result<File, FileFault>
+        requires { tenant < MAX_TENANTS }
+        ensures at { IfOk result (λ file. is_at path.now file) }
+        ensures refused { IfErr result (λ fault. is_refused path.now fault) };
+}
+
+impl OpensPaths for HostRuntime {
+    // No contract of the library says of which path a file is, or why it isn't opened.
+    ghost is_at = { λ _ _. Unit {0} };
+
+    ghost is_refused = { λ _ _. Unit {0} };
+
+    fn open_locked(
+        &self,
+        path: &str,
+        states: &FileStates,
+        tenant: usize,
+    ) -> Result<File, FileFault> {
+        open_locked(self, path, states, tenant)
+    }
+}
+
 /// The disk of a tenant's file: it keeps the last error, which file it is, and how long its calls took. `R` is the clock.
 pub type TenantDisk<'a, R> = FileDisk<WatchedFile<'a, File, R>>;
 
@@ -80,18 +120,21 @@ impl<'a, R> LockedFiles<'a, R> {
     }
 }
 
-impl<'a, R: Files<File = File> + Clock> OpensDisks for LockedFiles<'a, R> {
+impl<'a, R: OpensPaths + Clock> OpensDisks for LockedFiles<'a, R> {
     type Device = TenantDisk<'a, R>;
 
-    // No contract of the library says of which path a file is, or why it isn't opened.
-    ghost is_over = { λ _ _. Unit {0} };
+    ghost is_over = { λ path disk. R.is_at path disk.file.file };
 
-    ghost is_refused = { λ _ _. Unit {0} };
+    ghost is_refused = { R.is_refused };
 
     fn open(&self, tenant: usize, path: &str) -> Result<TenantDisk<'a, R>, FileFault> {
-        let file = open_locked(self.rt, path, self.states, tenant)?;
-        let (state, counters) = (self.states.of(tenant), self.counters_of(tenant));
-        Ok(FileDisk::new(WatchedFile::new(file, state, self.rt, counters)))
+        match self.rt.open_locked(path, self.states, tenant) {
+            Ok(file) => {
+                let (state, counters) = (self.states.of(tenant), self.counters_of(tenant));
+                Ok(FileDisk::new(WatchedFile::new(file, state, self.rt, counters)))
+            }
+            Err(fault) => Err(fault),
+        }
     }
 
     fn last_error(&self, tenant: usize) -> &LastError {
@@ -99,13 +142,7 @@ impl<'a, R: Files<File = File> + Clock> OpensDisks for LockedFiles<'a, R> {
     }
 }
 
-/// Opens a file for reading and writing, locks it, and has the system drop its copies of it. The lock is held until the
-/// file is closed. The states are those of the tenants' files, and this is the number of the file's tenant.
-///
-/// # Errors
-///
-/// [`FileFault::CannotOpen`] if the file can't be opened. [`FileFault::InUse`] if another opening has the lock.
-/// [`FileFault::CannotLock`] if its file system has no locks. [`FileFault::Disk`] if the system refuses to drop its copies.
+/// Opens a file as [`OpensPaths::open_locked`] says.
 fn open_locked<R: Files<File = File>>(
     rt: &R,
     path: &str,

@@ -35,7 +35,9 @@ impl<'a, F, K: Clock> WatchedFile<'a, F, K> {
         state: &'a FileState,
         clock: &'a K,
         counters: Option<&'a TenantCounters>,
-    ) -> Self {
+    ) -> Self
+        ensures { result.file ≡ file }
+    {
         WatchedFile {
             file,
             state,

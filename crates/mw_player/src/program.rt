@@ -12,7 +12,7 @@ ghost use Rattle.mw_player.specs.Replayed.{MayPrint, PrintsAll, Replays, fault_a
 
 use crate::player::{PlayFault, Player};
 use crate::reasons::Reason;
-use mw_file_command::{AskedFile, FileCommand, FileFault, open_plain};
+use mw_command_line::{Argument, AskedFile, CommandLine, FILE, FLAG, FileFault, open_plain};
 use mw_schedule::{Schedule, ScheduleFault, ScheduleLine, broken_rule, read_schedule};
 use std::alloc::{AllocError, Global};
 use std::fs::File;
@@ -104,16 +104,35 @@ impl From<io::Error> for ReplayFault {
     }
 }
 
-const COMMAND: FileCommand = FileCommand {
-    name: "mwreplay",
-    about: "Plays a schedule, and prints the replies.",
-    switch: "trace",
-    switch_help: "also prints each claim of a slot that is won",
-    file_help: "the schedule to play",
-    after_help: "\
+/// The switch that has claims of slots printed.
+const TRACE: &str = "trace";
+
+/// What the help ends with.
+const AFTER_HELP: &str = "\
 Example: mwreplay --trace schedule
-Documents: docs/SCHEDULES.md beside README.md, or below /usr/share/doc/mondlexi",
-};
+Documents: docs/SCHEDULES.md beside README.md, or below /usr/share/doc/mondlexi";
+
+/// The command line of `mwreplay`.
+fn command_line() -> CommandLine {
+    CommandLine {
+        name: "mwreplay",
+        about: "Plays a schedule, and prints the replies.",
+        arguments: &ARGUMENTS,
+        after_help: AFTER_HELP,
+    }
+}
+
+static ARGUMENTS: [Argument; 2] = [
+    Argument {
+        name: TRACE,
+        help: "also prints each claim of a slot that is won",
+        ..FLAG
+    },
+    Argument {
+        help: "the schedule to play",
+        ..FILE
+    },
+];
 
 /// Plays the schedule in the file that the command line `args` names, by [`replay_file`]: `mwreplay [--trace]
 /// FILE`. The program's own name comes first. If help or the version is asked for, `out` gets its text.
@@ -128,7 +147,7 @@ pub fn replay_args<R: Files<File = File> + AllocGlobal, O: Write, E: Write>(
     out: &mut O,
     err: &mut E,
 ) -> u8 {
-    match COMMAND.read(rt.alloc(), args, out, err) {
+    match command_line().read_file(rt.alloc(), TRACE, args, out, err) {
         Ok(AskedFile { path, is_switched }) => replay_file(rt, path, is_switched, out, err),
         Err(status) => status,
     }

@@ -16,61 +16,19 @@ use crate::schedule_tests::{
 use mw_look::Kind;
 use mw_player::{PlayFault, Player, replay, replay_args, replay_schedule};
 use mw_schedule::{Command, Schedule, StepKind, read_schedule};
-use std::fs::File;
 use std::io::{self, ErrorKind, Read, Write};
 use std::process::Abort;
-use std::rt::Files;
-
-/// What a program gave: its exit status, and what it wrote to its two outputs.
-#[derive(Drop)]
-struct Played {
-    status: u8,
-    out: String,
-    err: String,
-}
 
 /// What a program must give: its exit status, and what it writes to its two outputs.
 pub type Wanted<'a> = (u8, &'a str, &'a str);
 
-/// Gives the text of these bytes.
-fn text_of<R: Abort>(rt: &R, bytes: Vec<u8>) -> String {
-    String::from_utf8(bytes).expect(rt, "a text")
-}
-
-impl Played {
-    /// Makes what a program gave that ended with this status.
-    fn new<R: Abort>(rt: &R, status: u8, out: Vec<u8>, err: Vec<u8>) -> Played {
-        Played {
-            status,
-            out: text_of(rt, out),
-            err: text_of(rt, err),
-        }
-    }
-
-    /// Plays the schedule that is read from `input`.
-    fn of<R: Abort + AllocGlobal, I: Read>(rt: &R, input: &mut I, trace: bool) -> Played {
-        let mut out = Vec::new(rt.alloc());
-        let mut err = Vec::new(rt.alloc());
-        let status = replay(rt, input, trace, &mut out, &mut err);
-        Played::new(rt, status, out, err)
-    }
-
-    /// Runs the command line with this argument.
-    fn of_arg<R: Files<File = File> + Abort + AllocGlobal>(rt: &R, arg: &str) -> Played {
-        let args = [owned(rt, "mwreplay"), owned(rt, arg)];
-        let mut out = Vec::new(rt.alloc());
-        let mut err = Vec::new(rt.alloc());
-        let status = replay_args(rt, &args, &mut out, &mut err);
-        Played::new(rt, status, out, err)
-    }
-
-    /// The program gave just this. `what` says what was played.
-    fn is<R: Abort>(&self, rt: &R, what: &str, wanted: Wanted<'_>) {
-        let (status, out, err) = wanted;
-        let is_so = self.status == status && self.out.as_str() == out && self.err.as_str() == err;
-        let (ended, printed, said) = (self.status, self.out.as_str(), self.err.as_str());
-        assert!(rt; is_so, "{what}: status {ended}, {printed}, {said}");
-    }
+/// A program ended with this status, and wrote this to its two outputs, just as it must. `what` says what was played.
+fn gave<R: Abort>(rt: &R, what: &str, found: (u8, &[u8], &[u8]), wanted: Wanted<'_>) {
+    let (status, out, err) = found;
+    let is_so = status == wanted.0 && out == wanted.1.as_bytes() && err == wanted.2.as_bytes();
+    let printed = str::from_utf8(out).unwrap_or("no text");
+    let said = str::from_utf8(err).unwrap_or("no text");
+    assert!(rt; is_so, "{what}: status {status}, {printed}, {said}");
 }
 
 /// Gives an owned text.
@@ -91,56 +49,61 @@ pub fn play<R: Abort + AllocGlobal>(
     trace: bool,
     wanted: Wanted<'_>,
 ) {
-    let played = Played::of(rt, &mut text.as_bytes(), trace);
-    played.is(rt, what, wanted);
+    play_from(rt, what, &mut text.as_bytes(), trace, wanted);
 }
 
-/// What is given for a schedule that is no plain file.
-const NOT_PLAIN: Wanted<'static> = (1, "", "mwreplay: cannot read\nmwreplay: not a plain file\n");
+/// The same of the schedule that is read from `input`.
+fn play_from<R: Abort + AllocGlobal, I: Read>(
+    rt: &R,
+    what: &str,
+    input: &mut I,
+    trace: bool,
+    wanted: Wanted<'_>,
+) {
+    let mut out = Vec::new(rt.alloc());
+    let mut err = Vec::new(rt.alloc());
+    let status = replay(rt, input, trace, &mut out, &mut err);
+    gave(rt, what, (status, out.as_slice(), err.as_slice()), wanted);
+}
 
-/// Schedules that can't be read, and what is given for each. A device may have no end: the second one is empty, and would be a
-/// wrong schedule if it was read.
-static UNREAD: [(&str, Wanted<'static>); 3] = [
+/// What is said of a schedule that is no plain file.
+const NOT_PLAIN: &str = "mwreplay: cannot read\nmwreplay: not a plain file\n";
+
+/// Arguments of the command line, each with the status that is given. The first three are schedules that can't be read,
+/// with what is said. A device may have no end: the second one is empty, and would be a wrong schedule if it was read.
+/// The others are no schedules. For these the program writes to its output if the status is 0, else to its other output.
+static ARGUMENTS: [(&str, u8, Option<&str>); 5] = [
     (
         "no-such-schedule",
-        (
-            1,
-            "",
-            "mwreplay: cannot read\nmwreplay: No such file or directory (os error 2)\n",
-        ),
+        1,
+        Some("mwreplay: cannot read\nmwreplay: No such file or directory (os error 2)\n"),
     ),
-    ("/dev/null", NOT_PLAIN),
-    (".", NOT_PLAIN),
+    ("/dev/null", 1, Some(NOT_PLAIN)),
+    (".", 1, Some(NOT_PLAIN)),
+    ("--trace", 2, None),
+    ("--help", 0, None),
 ];
 
-#[test]
-fn schedules_that_are_not_read(rt: HostRuntime) {
-    for (path, wanted) in &UNREAD {
-        let refused = Played::of_arg(&rt, path);
-        refused.is(&rt, path, *wanted);
+/// Tells whether a program that ended with this status wrote to the output that goes with it, and to that alone: just
+/// this, if it must say it.
+fn is_told(status: u8, out: &[u8], err: &[u8], said: Option<&str>) -> bool {
+    match said {
+        Some(said) => out.is_empty() && err == said.as_bytes(),
+        None => out.is_empty() == (status != 0) && err.is_empty() == (status == 0),
     }
 }
 
-/// Command lines without a schedule, each with its status. The program writes to its output if that is 0, else to its
-/// other output, and to one of them alone.
-static WITHOUT_SCHEDULE: [(&str, u8); 2] = [("--trace", 2), ("--help", 0)];
-
-/// Tells whether a program ended with this status, and wrote to the output that goes with it alone.
-fn is_told(played: &Played, status: u8) -> bool {
-    let is_well = status == 0;
-    played.status == status && played.out.is_empty() != is_well && played.err.is_empty() == is_well
-}
-
 #[test]
-fn command_lines_without_a_schedule(rt: HostRuntime) {
-    for (arg, status) in &WITHOUT_SCHEDULE {
-        let played = Played::of_arg(&rt, arg);
-        holds(
-            &rt,
-            arg,
-            u64::from(played.status),
-            is_told(&played, *status),
-        );
+fn command_lines(rt: HostRuntime) {
+    for (arg, wanted, said) in &ARGUMENTS {
+        let mut args = Vec::new(rt.alloc());
+        args.push(owned(&rt, "mwreplay")).expect(&rt, MEMORY);
+        args.push(owned(&rt, arg)).expect(&rt, MEMORY);
+        let mut out = Vec::new(rt.alloc());
+        let mut err = Vec::new(rt.alloc());
+        let status = replay_args(&rt, &args, &mut out, &mut err);
+        let is_so = status == *wanted && is_told(status, &out, &err, *said);
+        holds(&rt, arg, u64::from(status), is_so);
     }
 }
 
@@ -210,22 +173,22 @@ fn lines_that_end_a_schedule(rt: HostRuntime) {
     );
 }
 
-/// Plays a schedule that was read already.
-fn played_schedule<R: Abort + AllocGlobal>(rt: &R, schedule: Schedule) -> Played
+/// A schedule that was read already ends well, and prints this.
+fn play_read<R: Abort + AllocGlobal>(rt: &R, schedule: Schedule, printed: &str)
     requires { IsSchedule schedule }
 {
     let mut out = Vec::new(rt.alloc());
     let mut err = Vec::new(rt.alloc());
     let status = replay_schedule(rt, schedule, false, &mut out, &mut err);
-    Played::new(rt, status, out, err)
+    let found = (status, out.as_slice(), err.as_slice());
+    gave(rt, "a given schedule", found, (0, printed, ""));
 }
 
 #[test]
 fn a_given_schedule_is_played(rt: HostRuntime) {
     let text = b"pool 1\nworkers 1\ntenant t 1 1\ncome 0 t CAS 0:0:1\nend 0\n";
     let schedule = read_schedule(rt.alloc(), text).expect(&rt, "a schedule");
-    let played = played_schedule(&rt, schedule);
-    played.is(&rt, "a given schedule", (0, "0 t YES\n", ""));
+    play_read(&rt, schedule, "0 t YES\n");
 }
 
 /// Makes a player that has played the schedule of this text.
@@ -244,25 +207,21 @@ const ONE_CAME: &[u8] = b"pool 1\nworkers 1\ntenant t 1 1\ncome 0 t CAS 0:0:1\n"
 
 /// Tells whether the worker 0 of a player, which is one step before its door is raised, doesn't come there with no
 /// step left, and does with one, with none again, and goes past it.
-fn counts_steps<W: Write>(player: &mut Player, out: &mut W) -> [bool; 4] {
+fn counts_steps<W: Write>(player: &mut Player, out: &mut W) -> bool {
     let admits = StepKind::Change(Kind::Admit);
     let early = player.go_before(0, admits, 0, out);
     let there = player.go_before(0, admits, 1, out);
     let again = player.go_before(0, admits, 0, out);
     let past = player.obey(Command::To(0, admits), out);
-    [
-        matches!(early, Err(PlayFault::DidNotArrive)),
-        there.is_ok(),
-        again.is_ok(),
-        past.is_ok(),
-    ]
+    let is_early = matches!(early, Err(PlayFault::DidNotArrive));
+    is_early && there.is_ok() && again.is_ok() && past.is_ok()
 }
 
 #[test]
 fn steps_are_counted(rt: HostRuntime) {
     let mut out = Vec::new(rt.alloc());
     let mut player = player_of(&rt, ONE_CAME, &mut out);
-    let is_so = counts_steps(&mut player, &mut out) == [true; 4];
+    let is_so = counts_steps(&mut player, &mut out);
     holds(&rt, "early, there, again, past", 0, is_so);
 }
 
@@ -310,9 +269,8 @@ fn a_reader_that_fails(rt: HostRuntime) {
     let mut input = Failing {
         rest: SLOT_RECYCLED.as_bytes(),
     };
-    let played = Played::of(&rt, &mut input, false);
     let wanted = (1, "", "mwreplay: cannot read\nmwreplay: timed out\n");
-    played.is(&rt, "a reader that fails", wanted);
+    play_from(&rt, "a reader that fails", &mut input, false, wanted);
 }
 
 #[test]

@@ -1,6 +1,6 @@
 -- Defines what the clients of a server are promised: an engine answers them that was made of the files which a start opened.
 -- Used by: src/services.rt, src/serving.rt, mwserve. A change here changes what mwserve may serve its clients with.
-use Rattle.std.specs.Prelude.{◌≡◌, ℕ, Bool, List, Option, Vec}
+use Rattle.std.specs.Prelude.{◌≡◌, ℕ, Bool, List, map, Option, Vec}
 use Rattle.std.specs.declared.alloc.Global.{Global}
 use Rattle.mw_config.specs.declared.lines.TenantLine.{TenantLine}
 use Rattle.mw_disk.specs.Facts.{Facts}
@@ -8,10 +8,10 @@ use Rattle.mw_file.specs.declared.tenant_file.TenantFile.{TenantFile}
 use Rattle.mw_session.specs.Talk.{Call}
 use Rattle.mw_engine.specs.Brand.{Identity}
 use Rattle.mw_engine.specs.Passes.{IsPassOf}
-use Rattle.mw_opening.specs.FromBelow.{DeviceCall, openings_read}
+use Rattle.mw_opening.specs.FromBelow.{DeviceCall, disks_read, line_read, openings_read}
 use Rattle.mw_opening.specs.SyncedOpenings.{AreOfLines}
 use Rattle.mw_opening.specs.declared.file_fault.FileFault.{FileFault}
-use Rattle.mw_server_pages.specs.Calls as page
+use Rattle.mw_server_pages.specs.FromHttp as page
 use Rattle.mw_server_pages.specs.Shown.{Gives}
 use Rattle.mw_service.specs.EngineAnswers.{Answers, ByBorrower, ByWorker, Pass}
 use Rattle.mw_programs.specs.Copies.{IsCopyOf}
@@ -21,16 +21,19 @@ abbrev pub ShowsOne : {D : Type 0} → (D → Facts) → Identity → Pass → p
 ShowsOne facts identity old call new = (version : List ℕ) × Gives (Answers identity) (λ files name copy left. (left ≡ files) × IsCopyOf facts identity name copy) version old (tt {0}) call new (tt {0})
 
 module _ {D : Type 0} (facts : D → Facts) (makes : DeviceCall → Bool → D → D → Type 0) (is_over : List ℕ → D → Type 0) (is_refused : List ℕ → FileFault → Type 0) where
-  -- The engine of this identity begins with the words and places of files that were opened, each of its own tenant's line.
+  -- The engine of this identity has the tenants of these lines, and begins with the words and places of files that were opened, each of
+  -- its own tenant's line. Its disks at the start are those of these files.
   pub record IsOfStart (identity : Identity) : Type 0 where
     pub lines : List TenantLine
     pub files : List (Option (TenantFile D × Vec ℕ Global))
     pub opened : AreOfLines facts makes is_over is_refused lines files
+    pub named : identity.lines ≡ map line_read lines
     pub begins : identity.openings ≡ openings_read lines files
+    pub disks : identity.disks ≡ disks_read facts files
 
-  -- The calls of the pages, in order, were answered with one pass of an engine that begins with the files which a start opened.
-  pub record AreShown (calls : List page.Call) : Type 0 where
-    pub identity : Identity
+  -- The calls of the pages, in order, were answered with one pass of the engine of this identity, which begins with the files that a
+  -- start opened.
+  pub record AreShown (identity : Identity) (calls : List page.Call) : Type 0 where
     pub start : IsOfStart identity
     pub old : Pass
     pub new : Pass
@@ -43,6 +46,7 @@ pub record Promises {D : Type 0} (facts : D → Facts) (identity : Identity) (ke
   pub borrowers : (calls : List Call) → ByBorrower identity calls → kept calls
   pub pages : (old new : Pass) (calls : List page.Call) → IsPassOf identity old → page.AreAnswered (ShowsOne facts identity) old new calls → shown calls
 
--- The same of each engine that begins with the files which a start opened.
-abbrev pub PromisesOfStart : {D : Type 0} → (D → Facts) → (DeviceCall → Bool → D → D → Type 0) → (List ℕ → D → Type 0) → (List ℕ → FileFault → Type 0) → (List Call → Type 0) → (List page.Call → Type 0) → Type 0
-PromisesOfStart facts makes is_over is_refused kept shown = (identity : Identity) → IsOfStart facts makes is_over is_refused identity → Promises facts identity kept shown
+-- The same of each engine that begins with the files which a start opened: what is promised of its own answers.
+abbrev pub PromisesOfStart : {D : Type 0} → (D → Facts) → (DeviceCall → Bool → D → D → Type 0) → (List ℕ → D → Type 0) → (List ℕ → FileFault → Type 0)
+    → (Identity → List Call → Type 0) → (Identity → List page.Call → Type 0) → Type 0
+PromisesOfStart facts makes is_over is_refused kept_by shown_by = (identity : Identity) → IsOfStart facts makes is_over is_refused identity → Promises facts identity (kept_by identity) (shown_by identity)

@@ -47,11 +47,7 @@ impl<'a> HeldLease<'a> {
     ) -> Result<Self, ServeFault> {
         match HeldLease::begun(rt, terms, meters) {
             Ok(held) => Ok(held),
-            Err(fault) => {
-                error!(notes; "mwserve: cannot take the lease");
-                note_why(notes, terms.path.as_str(), "", &fault);
-                Err(ServeFault::Failed)
-            }
+            Err(fault) => Err(cannot_take(notes, terms.path.as_str(), &fault)),
         }
     }
 
@@ -110,9 +106,13 @@ impl<'a> HeldLease<'a> {
             Ok(now) => self.lease.is_good_at(rt, now),
             Err(_) => false,
         };
-        if self.was_good.swap(is_good, Ordering::SeqCst) == is_good {
-            return;
+        if self.was_good.swap(is_good, Ordering::SeqCst) != is_good {
+            self.tell(rt, notes, is_good);
         }
+    }
+
+    /// Writes that the lease is good again, or else that it is lost.
+    fn tell<R: Wait + Clock, L: Log>(&self, rt: &R, notes: &L, is_good: bool) {
         let age = self.meters.lease_age(rt).unwrap_or(0) / NANOS_OF_MILLI;
         if is_good {
             warn!(notes; "mwserve: the lease is good again, {age} ms after the start of its last beat");
@@ -121,6 +121,13 @@ impl<'a> HeldLease<'a> {
         }
         note_place(notes, self.terms.path.as_str());
     }
+}
+
+/// Writes that the lease in the file at this path can't be had, and why.
+fn cannot_take<L: Log>(notes: &L, path: &str, fault: &LeaseFault) -> ServeFault {
+    error!(notes; "mwserve: cannot take the lease");
+    note_why(notes, path, "", fault);
+    ServeFault::Failed
 }
 
 /// Looks at the lease, if there is one, and then at the files of all tenants.

@@ -2,28 +2,30 @@
 //!
 //! Used by: `services`. Change it with docs/OPERATING, which has what it prints and its notes.
 ghost use Rattle.std.specs.Prelude.{◌<◌, vec_len};
-ghost use Rattle.mw_connections.specs.Promises.{KeepsPromise};
-ghost use Rattle.mw_server_pages.specs.PagesPromises.{PagesKeep};
+ghost use Rattle.mw_connections.specs.Promises.{KeepsPromise, PagesKeep};
 
 use crate::beats::{HeldLease, LeaseLook};
 use crate::console::Console;
-use crate::doors::{AdminDoor, ClientDoors, Doors, PagesDoor, open_doors};
-use crate::pages::show_pages;
+use crate::doors::{AdminDoor, ClientDoors, DoorTerms, Doors, PagesDoor, open_doors};
+use crate::pages::{PagesEnd, show_pages};
 use crate::replaced::{FileLook, PERIOD, Stop, look_on};
 use crate::room_notes::RoomNotes;
 use crate::serving::ServeFault;
 use log::Log;
 use mw_config::Listening;
-use mw_connections::{ClientListener, Lease, MeteredListener, Network, Patient};
+use mw_connections::{
+    BriefListener, ClientListener, Lease, Listener, MeteredListener, Network, Patient, RoomWatch,
+};
 use mw_metrics::Meters;
 use mw_server_pages::{Pages, PagesPromise};
 use mw_session::Service;
 use mw_workers::{Desk, ServeEnd, serve_all, serve_beside};
+use std::alloc::AllocError;
 use std::fs::File;
 use std::net::{Net, TcpListener, TcpStream};
 use std::rt::Files;
 use std::sync::Wait;
-use std::thread::{self, Threads};
+use std::thread::{self, Scope, Threads};
 use std::time::Clock;
 
 /// What the start of a server made, but its engine.
@@ -61,7 +63,7 @@ pub(crate) fn serve_clients<
     R,
     N,
     Q: PagesPromise,
-    C: Console<Q>,
+    C: Console,
     L: Log + Sync,
     T: FileLook + Sync,
 >(
@@ -77,15 +79,16 @@ where
     requires keeps { KeepsPromise S.answered Q.kept }
     requires pages { PagesKeep G.answered Q.shown }
 {
-    let counters = server.meters.server();
-    let doors = open_doors(
-        server.network,
-        server.listening,
-        console,
-        server.notes,
-        counters,
-    )?;
-    serve_watched(server, doors.with_lease(server.lease()), services, pages)
+    let terms = DoorTerms {
+        network: server.network,
+        listening: server.listening,
+        counters: server.meters.server(),
+        lease: server.lease(),
+    };
+    match open_doors(&terms, console, server.notes) {
+        Ok(doors) => serve_watched(server, doors, services, pages),
+        Err(fault) => Err(fault),
+    }
 }
 
 /// Serves clients and shows the pages, while a thread looks at the tenants' files, and another one beats the lease, if there is
@@ -127,23 +130,34 @@ fn serve_watched<
             requires keeps { KeepsPromise S.answered Q.kept }
             requires pages { PagesKeep G.answered Q.shown }
         {
-            if scope
-                .spawn(move || look_on(rt, look, PERIOD, stop))
-                .is_err()
-            {
-                return Err(ServeFault::Memory);
-            }
-            if let Some(held) = server.held {
-                if scope.spawn(move || held.beat_on(rt, stop)).is_err() {
-                    stop.ask(rt);
-                    return Err(ServeFault::Memory);
-                }
-            }
-            let ended = serve_and_show(server, doors, services, pages);
+            let ended = if begin_looks(scope, rt, look, server.held, stop).is_ok() {
+                serve_and_show(server, doors, services, pages)
+            } else {
+                Err(ServeFault::Memory)
+            };
             stop.ask(rt);
             ended
         },
     )
+}
+
+/// Starts the thread that looks at the tenants' files, and the one that beats the lease, if there is one.
+///
+/// # Errors
+///
+/// One of them couldn't be started. The other one, if it was started, ends when it is asked to.
+fn begin_looks<'s, E, R: Wait + Clock + Sync + 's, T: FileLook + Sync + 's>(
+    scope: &Scope<'s, E>,
+    rt: &'s R,
+    files: &'s T,
+    held: Option<&'s HeldLease<'s>>,
+    stop: &'s Stop,
+) -> Result<(), AllocError> {
+    scope.spawn(move || look_on(rt, files, PERIOD, stop))?;
+    if let Some(held) = held {
+        scope.spawn(move || held.beat_on(rt, stop))?;
+    }
+    Ok(())
 }
 
 /// Serves clients, and shows the pages, if there are any and they have an address.
@@ -208,21 +222,45 @@ fn serve_beside_pages<
             requires keeps { KeepsPromise S.answered Q.kept }
             requires pages { PagesKeep G.answered Q.shown }
         {
-            if scope
-                .spawn(
-                    move ||
-                        requires keeps { PagesKeep G.answered Q.shown }
-                    { show_pages(rt, listener, pages, names, end) },
-                )
-                .is_err()
-            {
-                return Err(ServeFault::Memory);
-            }
-            let ended = serve_doors(server, doors, services);
+            let ended = if begin_pages(scope, rt, listener, pages, names, end).is_ok() {
+                serve_doors(server, doors, services)
+            } else {
+                Err(ServeFault::Memory)
+            };
             end.end();
             ended
         },
     )
+}
+
+/// Starts the thread that shows the pages.
+///
+/// # Errors
+///
+/// It couldn't be started.
+fn begin_pages<
+    's,
+    E,
+    G: Pages + Send + Drop + 's,
+    R: Wait + Clock + Sync + 's,
+    N: Clock + Sync + 's,
+    Q: PagesPromise + 's,
+>(
+    scope: &Scope<'s, E>,
+    rt: &'s R,
+    listener: BriefListener<'s, N, Q>,
+    pages: G,
+    names: &'s [String],
+    end: &'s PagesEnd,
+) -> Result<(), AllocError>
+    requires keeps { PagesKeep G.answered Q.shown }
+{
+    scope.spawn(
+        move ||
+            requires keeps { PagesKeep G.answered Q.shown }
+        { show_pages(rt, listener, pages, names, end) },
+    )?;
+    Ok(())
 }
 
 /// Serves the clients that come to the one address or to both.
@@ -242,11 +280,12 @@ fn serve_doors<
     requires some { 0 < vec_len services }
     requires keeps { KeepsPromise S.answered Q.kept }
 {
-    let room = RoomNotes::new(server.rt, server.notes, server.listening.address.as_str());
-    let (all, admin) = (doors.all, doors.admin);
+    let (rt, listening, counters) = (server.rt, server.listening, server.meters.server());
+    let room = RoomNotes::new(rt, server.notes, listening.address.as_str());
+    let (all, admin) = (MeteredListener::new(doors.all, counters), doors.admin);
     let ended = match admin {
         Some(admin) => serve_both(server, all, admin, services, &room),
-        None => serve_one(server, all, services, &room),
+        None => serve_one(rt, all, services, &room, listening),
     };
     match ended {
         ServeEnd::Served => Ok(()),
@@ -254,36 +293,19 @@ fn serve_doors<
     }
 }
 
-/// Serves the clients that come to the one address.
+/// Serves the clients of one listener. The room is told when the system has none for them.
 fn serve_one<
-    'e,
+    M: Listener + Drop,
     S: Service + Send + Drop,
+    W: RoomWatch,
     R: AllocGlobal + Threads + Wait + Clock + Sync,
-    N: Clock + Sync,
-    Q: PagesPromise,
-    L: Log + Sync,
-    T,
->(
-    server: &Server<'e, R, N, Q, L, T>,
-    clients: ClientListener<'e, N, Q>,
-    services: Vec<S>,
-    room: &RoomNotes<'_, L, R>,
-) -> ServeEnd
+>(rt: &R, clients: M, services: Vec<S>, room: &W, listening: &Listening) -> ServeEnd
     requires some { 0 < vec_len services }
-    requires keeps { KeepsPromise S.answered Q.kept }
+    requires keeps { KeepsPromise S.answered M.Connection.promised }
 {
-    let (rt, listening) = (server.rt, server.listening);
-    let clients = MeteredListener::new(clients, server.meters.server());
     let clients = Patient::new(clients, rt, room);
-    let (end, _) = serve_all(
-        rt,
-        rt.alloc(),
-        clients,
-        services,
-        listening.connections,
-        listening.wait,
-    );
-    end
+    let (connections, wait) = (listening.connections, listening.wait);
+    serve_all(rt, rt.alloc(), clients, services, connections, wait).0
 }
 
 /// Serves the clients that come to both addresses. The last service is for those of the administrator's address, and the
@@ -298,7 +320,7 @@ fn serve_both<
     T,
 >(
     server: &Server<'e, R, N, Q, L, T>,
-    clients: ClientListener<'e, N, Q>,
+    clients: MeteredListener<'e, ClientListener<'e, N, Q>>,
     admin: AdminDoor<'e, N, Q>,
     services: Vec<S>,
     room: &RoomNotes<'_, L, R>,
@@ -308,48 +330,40 @@ fn serve_both<
     let Some(both) = BothServices::new(services) else {
         return ServeEnd::Memory;
     };
-    let own_room = RoomNotes::new(server.rt, server.notes, admin.address);
-    serve_beside_desk(server, clients, admin, both, room, &own_room)
-}
-
-/// Serves the clients that come to both addresses.
-fn serve_beside_desk<
-    'e,
-    S: Service + Send + Drop,
-    R: AllocGlobal + Threads + Wait + Clock + Sync,
-    N: Clock + Sync,
-    Q: PagesPromise,
-    L: Log + Sync,
-    T,
->(
-    server: &Server<'e, R, N, Q, L, T>,
-    clients: ClientListener<'e, N, Q>,
-    admin: AdminDoor<'e, N, Q>,
-    both: BothServices<S>,
-    room: &RoomNotes<'_, L, R>,
-    own_room: &RoomNotes<'_, L, R>,
-) -> ServeEnd
-    requires keeps { KeepsPromise S.answered Q.kept }
-{
-    let (rt, listening, counters) = (server.rt, server.listening, server.meters.server());
+    let (rt, own_room) = (
+        server.rt,
+        RoomNotes::new(server.rt, server.notes, admin.address),
+    );
     let desk = Desk {
-        listener: MeteredListener::new(admin.listener, counters),
+        listener: MeteredListener::new(admin.listener, server.meters.server()),
         service: both.admin_service,
         closer: admin.closer,
-        watch: own_room,
+        watch: &own_room,
     };
-    let clients = MeteredListener::new(clients, counters);
+    serve_beside_desk(rt, clients, both.services, room, desk, server.listening)
+}
+
+/// Serves the clients of one listener as [`serve_one`] does, and those of the desk.
+fn serve_beside_desk<
+    M: Listener + Send + Drop,
+    S: Service + Send + Drop,
+    V: RoomWatch,
+    W: RoomWatch + Sync,
+    R: AllocGlobal + Threads + Wait + Clock + Sync,
+>(
+    rt: &R,
+    clients: M,
+    services: Vec<S>,
+    room: &V,
+    desk: Desk<'_, M, S, W>,
+    listening: &Listening,
+) -> ServeEnd
+    requires some { 0 < vec_len services }
+    requires keeps { KeepsPromise S.answered M.Connection.promised }
+{
     let clients = Patient::new(clients, rt, room);
-    let (end, _) = serve_beside(
-        rt,
-        rt.alloc(),
-        desk,
-        clients,
-        both.services,
-        listening.connections,
-        listening.wait,
-    );
-    end
+    let (connections, wait) = (listening.connections, listening.wait);
+    serve_beside(rt, rt.alloc(), desk, clients, services, connections, wait).0
 }
 
 /// The services for clients, and the one for the administrator.

@@ -7,8 +7,8 @@ ghost use Rattle.std.specs.Prelude.{List};
 ghost use Rattle.mw_session.specs.Talk.{Call};
 ghost use Rattle.mw_service.specs.EngineAnswers.{ByWorker};
 
+use crate::promise::{EngineNetwork, ServerPromise};
 use mw_config::ArgFault;
-use mw_connections::Promise;
 use mw_disk::Disk;
 use mw_engine::{EngineBrand, NoHold};
 use mw_service::{FaultWatch, Worker};
@@ -40,8 +40,8 @@ impl Address {
     }
 }
 
-/// Where a server writes what it has to tell. `serve` can write nothing else there, and a script is answered as `Q` promises.
-pub trait Console<Q: Promise> {
+/// Where a server writes what it has to tell.
+pub trait Console {
     /// Writes at which port clients find the server, or at which address if it has no port.
     ///
     /// # Errors
@@ -55,16 +55,27 @@ pub trait Console<Q: Promise> {
     ///
     /// It could not be written.
     fn help(&mut self, asked: &ArgFault) -> io::Result<()>;
+}
 
-    /// Serves one session, which reads the script and writes the replies, by this worker. A script may never end, so this may wait
-    /// for ever.
-    fn run<I: Read + Drop, J: EngineBrand, D: Disk + Drop, R: Wait, T: FaultWatch>(
+/// A console that can run a script, which is answered as `Q` promises.
+pub trait ScriptConsole<Q: ServerPromise>: Console {
+    /// Serves one session, which reads the script and writes the replies, by this worker. `keeps`: it keeps what was promised of
+    /// the engine `K`, for which the server's network was used up. A script may never end, so this may wait for ever.
+    fn run<N, K, I, J, D, R, T>(
         &mut self,
         alloc: Global,
+        network: &EngineNetwork<'_, N, Q, K>,
         script: I,
         worker: &mut Worker<'_, J, D, NoHold, R, T>,
     ) -> Ended
-        requires keeps { (calls : List Call) → ByWorker J.identity calls → Q.kept calls };
+    where
+        K: EngineBrand,
+        I: Read + Drop,
+        J: EngineBrand,
+        D: Disk + Drop,
+        R: Wait,
+        T: FaultWatch,
+        requires keeps { (calls : List Call) → ByWorker J.identity calls → Q.kept_by K.identity calls };
 }
 
 /// A console that prints by a writer.
@@ -80,7 +91,7 @@ impl<'a, W: Write> Printed<'a, W> {
     }
 }
 
-impl<W: Write, Q: Promise> Console<Q> for Printed<'_, W> {
+impl<W: Write> Console for Printed<'_, W> {
     fn tell(&mut self, which: Address, port: Option<u16>, address: &str) -> io::Result<()> {
         match port {
             Some(port) => tell_line(self.out, which.word(), &port),
@@ -92,13 +103,24 @@ impl<W: Write, Q: Promise> Console<Q> for Printed<'_, W> {
     fn help(&mut self, asked: &ArgFault) -> io::Result<()> {
         write!(self.out, "{asked}")
     }
+}
 
-    fn run<I: Read + Drop, J: EngineBrand, D: Disk + Drop, R: Wait, T: FaultWatch>(
+impl<W: Write, Q: ServerPromise> ScriptConsole<Q> for Printed<'_, W> {
+    fn run<N, K, I, J, D, R, T>(
         &mut self,
         alloc: Global,
+        _network: &EngineNetwork<'_, N, Q, K>,
         script: I,
         worker: &mut Worker<'_, J, D, NoHold, R, T>,
-    ) -> Ended {
+    ) -> Ended
+    where
+        K: EngineBrand,
+        I: Read + Drop,
+        J: EngineBrand,
+        D: Disk + Drop,
+        R: Wait,
+        T: FaultWatch,
+    {
         let mut stream = RecordedStream::new(Duplex {
             reader: script,
             writer: &mut *self.out,

@@ -9,8 +9,8 @@ use crate::serving::ServeFault;
 use log::{Log, error, warn};
 use mw_config::Listening;
 use mw_connections::{
-    BriefListener, ClientListener, Closer, Lease, Network, Promise, TimeLimits, listen_at,
-    listen_briefly, port_of,
+    BriefListener, ClientListener, Closer, Lease, Network, TimeLimits, listen_at, listen_briefly,
+    port_of,
 };
 use mw_metrics::ServerCounters;
 use mw_opening::{note_place, note_why};
@@ -26,33 +26,16 @@ pub(crate) struct Doors<'e, N, Q> {
     pub(crate) pages: Option<PagesDoor<'e, N, Q>>,
 }
 
-impl<'e, N, Q> Doors<'e, N, Q> {
-    /// Has all replies and pages need this lease. None: they need none.
-    pub(crate) fn with_lease(self, lease: Option<&'e Lease>) -> Self {
-        let (clients, pages) = (self.clients, self.pages);
-        Doors {
-            clients: ClientDoors {
-                all: clients.all.with_lease(lease),
-                port: clients.port,
-                admin: match clients.admin {
-                    Some(door) => Some(AdminDoor {
-                        address: door.address,
-                        listener: door.listener.with_lease(lease),
-                        port: door.port,
-                        closer: door.closer,
-                    }),
-                    None => None,
-                },
-            },
-            pages: match pages {
-                Some(door) => Some(PagesDoor {
-                    listener: door.listener.with_lease(lease),
-                    end: door.end,
-                }),
-                None => None,
-            },
-        }
-    }
+/// What the addresses of a server have in common.
+#[derive(Drop)]
+pub(crate) struct DoorTerms<'e, N, Q> {
+    /// Who may listen, and what the clients are promised.
+    pub(crate) network: &'e Network<'e, N, Q>,
+    pub(crate) listening: &'e Listening,
+    /// They count the bytes of the clients, if there are pages that tell them.
+    pub(crate) counters: &'e ServerCounters,
+    /// All replies and pages need it. None: they need none.
+    pub(crate) lease: Option<&'e Lease>,
 }
 
 /// The address for clients, and the one for the administrator if there is one.
@@ -82,42 +65,43 @@ pub(crate) struct PagesDoor<'e, N, Q> {
 }
 
 /// Listens at all addresses, and tells where: first at that of the pages, and once all are open the administrator's
-/// place, then `ready`. The counters count the bytes of the clients, if there are pages that tell them. A note tells of an
-/// address at which nobody can listen, and of one at which clients of other machines may come.
-pub(crate) fn open_doors<'e, N, Q: Promise, C: Console<Q>, L: Log>(
-    network: &Network<'e, N, Q>,
-    listening: &'e Listening,
+/// place, then `ready`. A note tells of an address at which nobody can listen, and of one at which clients of other machines
+/// may come.
+pub(crate) fn open_doors<'e, N, Q, C: Console, L: Log>(
+    terms: &DoorTerms<'e, N, Q>,
     console: &mut C,
     notes: &L,
-    counters: &'e ServerCounters,
 ) -> Result<Doors<'e, N, Q>, ServeFault>
 where
     N: Files<File = File> + Net<Listener = TcpListener, Stream = TcpStream>,
 {
-    let pages = match &listening.http {
-        Some(address) => Some(open_pages(network, address.as_str(), listening, console, notes)?),
-        None => None,
-    };
-    let (all, port) = open_clients(
-        network,
-        listening.address.as_str(),
-        listening,
-        notes,
-        counters,
-    )?;
-    let admin = match &listening.admin {
-        Some(address) => Some(open_admin(network, address.as_str(), listening, notes, counters)?),
-        None => None,
-    };
+    let pages = open_pages(terms, console, notes)?;
+    match open_client_doors(terms, console, notes) {
+        Ok(clients) => Ok(Doors { clients, pages }),
+        Err(fault) => Err(fault),
+    }
+}
+
+/// Listens at the addresses for clients and for the administrator, and tells where.
+fn open_client_doors<'e, N, Q, C: Console, L: Log>(
+    terms: &DoorTerms<'e, N, Q>,
+    console: &mut C,
+    notes: &L,
+) -> Result<ClientDoors<'e, N, Q>, ServeFault>
+where
+    N: Files<File = File> + Net<Listener = TcpListener, Stream = TcpStream>,
+{
+    let (all, port) = open_clients(terms, terms.listening.address.as_str(), notes)?;
+    let admin = open_admin(terms, notes)?;
     let clients = ClientDoors { all, port, admin };
-    match tell_doors(&clients, listening, console) {
-        Ok(()) => Ok(Doors { clients, pages }),
+    match tell_doors(&clients, terms.listening, console) {
+        Ok(()) => Ok(clients),
         Err(error) => Err(cannot_write(notes, &error)),
     }
 }
 
 /// Tells where clients find the server, the administrator first.
-fn tell_doors<N, Q: Promise, C: Console<Q>>(
+fn tell_doors<N, Q, C: Console>(
     doors: &ClientDoors<'_, N, Q>,
     listening: &Listening,
     console: &mut C,
@@ -162,18 +146,16 @@ fn note_open<L: Log>(notes: &L, listening: &Listening, address: &str, is_open: i
 
 /// Listens at this address for clients. Gives also its port, if it has one.
 fn open_clients<'e, N, Q, L: Log>(
-    network: &Network<'e, N, Q>,
+    terms: &DoorTerms<'e, N, Q>,
     address: &str,
-    listening: &Listening,
     notes: &L,
-    counters: &'e ServerCounters,
 ) -> Result<(ClientListener<'e, N, Q>, Option<u16>), ServeFault>
 where
     N: Files<File = File> + Net<Listener = TcpListener, Stream = TcpStream>,
 {
-    match clients_at(network, address, listening, counters) {
+    match clients_at(terms, address) {
         Ok((clients, port)) => {
-            note_open(notes, listening, address, clients.is_open());
+            note_open(notes, terms.listening, address, clients.is_open());
             Ok((clients, port))
         }
         Err(error) => Err(cannot_listen(notes, address, &error)),
@@ -182,83 +164,89 @@ where
 
 /// Listens at an address for clients, whose bytes the counters count if there are pages that tell them.
 fn clients_at<'e, N, Q>(
-    network: &Network<'e, N, Q>,
+    terms: &DoorTerms<'e, N, Q>,
     address: &str,
-    listening: &Listening,
-    counters: &'e ServerCounters,
 ) -> io::Result<(ClientListener<'e, N, Q>, Option<u16>)>
 where
     N: Files<File = File> + Net<Listener = TcpListener, Stream = TcpStream>,
 {
+    let listening = terms.listening;
     let limits = TimeLimits {
         silence: listening.idle,
         line: listening.line_time,
     };
-    let clients = listen_at(network, address, listening.socket_mode, limits)?;
+    let clients = listen_at(terms.network, address, listening.socket_mode, limits)?;
     let port = port_of(&clients)?;
-    let clients = clients.with_faults(listening.faults);
+    let clients = clients
+        .with_faults(listening.faults)
+        .with_lease(terms.lease);
     if listening.http.is_some() {
-        Ok((clients.counted_by(counters), port))
+        Ok((clients.counted_by(terms.counters), port))
     } else {
         Ok((clients, port))
     }
 }
 
-/// Listens at the administrator's address.
+/// Listens at the administrator's address, if there is one.
 fn open_admin<'e, N, Q, L: Log>(
-    network: &Network<'e, N, Q>,
-    address: &'e str,
-    listening: &Listening,
+    terms: &DoorTerms<'e, N, Q>,
     notes: &L,
-    counters: &'e ServerCounters,
-) -> Result<AdminDoor<'e, N, Q>, ServeFault>
+) -> Result<Option<AdminDoor<'e, N, Q>>, ServeFault>
 where
     N: Files<File = File> + Net<Listener = TcpListener, Stream = TcpStream>,
 {
-    let (listener, port) = open_clients(network, address, listening, notes, counters)?;
+    let listening = terms.listening;
+    let Some(address) = &listening.admin else {
+        return Ok(None);
+    };
+    let address = address.as_str();
+    let (listener, port) = open_clients(terms, address, notes)?;
     match listener.closer() {
-        Ok(closer) => Ok(AdminDoor {
+        Ok(closer) => Ok(Some(AdminDoor {
             address,
             listener,
             port,
             closer,
-        }),
+        })),
         Err(error) => Err(cannot_listen(notes, address, &error)),
     }
 }
 
-/// Listens at the address of the pages, and tells where.
-fn open_pages<'e, N, Q: Promise, C: Console<Q>, L: Log>(
-    network: &Network<'e, N, Q>,
-    address: &str,
-    listening: &Listening,
+/// Listens at the address of the pages, if there is one, and tells where.
+fn open_pages<'e, N, Q, C: Console, L: Log>(
+    terms: &DoorTerms<'e, N, Q>,
     console: &mut C,
     notes: &L,
-) -> Result<PagesDoor<'e, N, Q>, ServeFault>
+) -> Result<Option<PagesDoor<'e, N, Q>>, ServeFault>
 where
     N: Files<File = File> + Net<Listener = TcpListener, Stream = TcpStream>,
 {
-    let (door, port) = match pages_at(network, address, listening.socket_mode) {
+    let listening = terms.listening;
+    let Some(address) = &listening.http else {
+        return Ok(None);
+    };
+    let address = address.as_str();
+    let (door, port) = match pages_at(terms, address) {
         Ok(opened) => opened,
         Err(error) => return Err(cannot_listen(notes, address, &error)),
     };
     note_open(notes, listening, address, door.listener.is_open());
     match console.tell(Address::Pages, port, address) {
-        Ok(()) => Ok(door),
+        Ok(()) => Ok(Some(door)),
         Err(error) => Err(cannot_write(notes, &error)),
     }
 }
 
 /// Listens at an address for clients of the pages. Gives also its port, if it has one.
 fn pages_at<'e, N, Q>(
-    network: &Network<'e, N, Q>,
+    terms: &DoorTerms<'e, N, Q>,
     address: &str,
-    mode: u32,
 ) -> io::Result<(PagesDoor<'e, N, Q>, Option<u16>)>
 where
     N: Files<File = File> + Net<Listener = TcpListener, Stream = TcpStream>,
 {
-    let listener = listen_briefly(network, address, mode, LIMITS)?;
+    let mode = terms.listening.socket_mode;
+    let listener = listen_briefly(terms.network, address, mode, LIMITS)?.with_lease(terms.lease);
     let end = PagesEnd::new(listener.closer()?);
     let port = listener.port()?;
     Ok((PagesDoor { listener, end }, port))

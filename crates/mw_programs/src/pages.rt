@@ -1,7 +1,7 @@
 //! Shows the server's pages over HTTP, beside its clients, on a thread of its own.
 //!
 //! Used by: `doors`, `clients`. Change it with docs/OPERATING.
-ghost use Rattle.mw_server_pages.specs.PagesPromises.{PagesKeep};
+ghost use Rattle.mw_connections.specs.Promises.{PagesKeep};
 
 use mw_connections::{BriefLimits, BriefListener, Closer};
 use mw_main::VERSION;

@@ -2,9 +2,9 @@
 //! and the pages, with `--http`.
 //!
 //! Used by: `serving`, for `--listen`. Change it with docs/OPERATING.
-ghost use Rattle.std.specs.Prelude.{ℕ, ◌≡◌, ◌≤◌, ◌<◌, ◌+◌, All, IfOk, IfSome, is_some, if◌then◌else◌, vec_len};
+ghost use Rattle.std.specs.Prelude.{◌≡◌, ◌≤◌, ◌+◌, All, IfOk, IfSome, is_some, if◌then◌else◌, length, vec_len};
+ghost use Rattle.mw_connections.specs.Promises.{KeepsPromise, PagesKeep};
 ghost use Rattle.mw_engine.specs.Passes.{IsNew};
-ghost use Rattle.mw_server_pages.specs.PagesPromises.{PagesKeep};
 ghost use Rattle.mw_service.specs.TokenTables.{table_of};
 ghost use Rattle.mw_programs.specs.Promised.{Promises};
 
@@ -24,6 +24,7 @@ use mw_service::{
     Borrower, FaultWatch, MeteredService, NewTokenTable, PassPool, ReadPool, TokenBrand,
     TokenTable, Worker,
 };
+use mw_session::Service;
 use std::alloc::AllocError;
 use std::fs::File;
 use std::marker::Brand;
@@ -49,7 +50,7 @@ pub(crate) fn serve_all_clients<
     R,
     N,
     Q: PagesPromise,
-    C: Console<Q>,
+    C: Console,
     L: Log + Sync,
     T: FaultWatch + FileLook + Sync,
 >(
@@ -69,22 +70,45 @@ where
     let (rt, listening, meters) = (server.rt, server.listening, server.meters);
     let mut passes = passes;
     let pages = pages_for(rt, engine, &mut passes, listening, server.watch, meters)?;
+    match &listening.shared {
+        None => serve_workers(server, engine, passes, pages, console),
+        Some(shared) => serve_shared(server, engine, passes, pages, *shared, console),
+    }
+}
+
+/// Serves clients by a worker for each pass.
+fn serve_workers<
+    'e,
+    J,
+    D: Disk + Drop + Send + Sync,
+    R,
+    N,
+    Q: PagesPromise,
+    C: Console,
+    L: Log + Sync,
+    G: Pages + Send + Drop,
+    T: FaultWatch + FileLook + Sync,
+>(
+    server: &Server<'e, R, N, Q, L, T>,
+    engine: &'e Engine<J, D, NoHold>,
+    passes: Vec<Pass>,
+    pages: Option<G>,
+    console: &mut C,
+) -> Result<(), ServeFault>
+where
+    J: EngineBrand + Send + Sync,
+    R: AllocGlobal + Threads + Wait + Clock + Sync,
+    N: Files<File = File> + Net<Listener = TcpListener, Stream = TcpStream> + Clock + Sync,
+    requires new { All (IsNew J.identity) passes.items }
+    requires promise { Promises D.facts J.identity Q.kept Q.shown }
+    requires pages { PagesKeep G.answered Q.shown }
+{
     if passes.is_empty() {
         return Err(ServeFault::Memory);
     }
-    match &listening.shared {
-        None => {
-            let workers = workers_for(
-                rt,
-                engine,
-                passes,
-                server.watch,
-                counted(listening, meters),
-            )?;
-            serve_clients(server, workers, pages, console)
-        }
-        Some(shared) => serve_shared(server, engine, passes, pages, *shared, console),
-    }
+    let meter = counted(server.listening, server.meters);
+    let workers = workers_for(server.rt, engine, passes, server.watch, meter)?;
+    serve_clients(server, workers, pages, console)
 }
 
 /// Serves clients that share the passes, by a borrower for each of them. If there is an address for the administrator, the
@@ -96,7 +120,7 @@ fn serve_shared<
     R,
     N,
     Q: PagesPromise,
-    C: Console<Q>,
+    C: Console,
     L: Log + Sync,
     G: Pages + Send + Drop,
     T: FaultWatch + FileLook + Sync,
@@ -132,7 +156,7 @@ fn serve_borrowers<
     R,
     N,
     Q: PagesPromise,
-    C: Console<Q>,
+    C: Console,
     L: Log + Sync,
     G: Pages + Send + Drop,
     T: FaultWatch + FileLook + Sync,
@@ -155,14 +179,47 @@ where
     requires promise { Promises D.facts J.identity Q.kept Q.shown }
     requires pages { PagesKeep G.answered Q.shown }
 {
-    let (rt, listening) = (server.rt, server.listening);
-    let meter = counted(listening, server.meters);
+    let meter = counted(server.listening, server.meters);
+    let has_admin = server.listening.admin.is_some();
     let tokens = made.named::<K>();
-    let has_admin = listening.admin.is_some();
-    let pools = Pools::new(rt, &tokens, passes, shared.readers, has_admin, meter)?;
-    let clients = shared.clients;
-    let borrowers = borrowers_for(rt, engine, &tokens, &pools, clients, server.watch, meter)?;
-    serve_clients(server, borrowers, pages, console)
+    match Pools::new(server.rt, &tokens, passes, shared.readers, has_admin, meter) {
+        Ok(pools) => {
+            let (rt, watch, clients) = (server.rt, server.watch, shared.clients);
+            let borrowers = borrowers_for(rt, engine, &tokens, &pools, clients, watch, meter);
+            serve_made(server, borrowers, pages, console)
+        }
+        Err(_) => Err(ServeFault::Memory),
+    }
+}
+
+/// Serves clients by these services, if there was memory for them.
+fn serve_made<
+    'e,
+    S: Service + Send + Drop,
+    G: Pages + Send + Drop,
+    R,
+    N,
+    Q: PagesPromise,
+    C: Console,
+    L: Log + Sync,
+    T: FileLook + Sync,
+>(
+    server: &Server<'e, R, N, Q, L, T>,
+    services: Result<Vec<S>, AllocError>,
+    pages: Option<G>,
+    console: &mut C,
+) -> Result<(), ServeFault>
+where
+    R: AllocGlobal + Threads + Wait + Clock + Sync,
+    N: Files<File = File> + Net<Listener = TcpListener, Stream = TcpStream> + Clock + Sync,
+    requires keeps { KeepsPromise S.answered Q.kept }
+    requires pages { PagesKeep G.answered Q.shown }
+{
+    let services = services?;
+    if services.is_empty() {
+        return Err(ServeFault::Memory);
+    }
+    serve_clients(server, services, pages, console)
 }
 
 /// Makes the pages if they have an address. A worker with the last of these passes gives their figures, and the engine gives
@@ -189,10 +246,7 @@ fn pages_for<'a, J: EngineBrand, D: Disk, H, R: AllocGlobal + Clock, T>(
         return Ok(None);
     }
     let own = cut::<J>(passes, 1)?;
-    let Some(pass) = own.into_iter().next() else {
-        return Err(AllocError);
-    };
-    let worker = Worker::new(engine, pass, rt, watch);
+    let worker = first_worker(rt, engine, own, watch)?;
     let files = EngineFiles { engine, rt };
     let capacity = capacity(listening, passes.len());
     let pages = ServerPages::new(worker, files, meters, rt, version(), capacity)?;
@@ -230,14 +284,40 @@ fn workers_for<'a, J: EngineBrand, D: Disk, H, R: AllocGlobal, T>(
     let mut workers = Vec::with_capacity(rt.alloc(), passes.len())?;
     for pass in passes {
         let worker = Worker::new(engine, pass, rt, watch);
-        if workers
-            .push(MeteredService::new(worker, rt, meters))
-            .is_err()
-        {
-            return Err(AllocError);
-        }
+        add(&mut workers, MeteredService::new(worker, rt, meters))?;
     }
     Ok(workers)
+}
+
+/// Makes a worker with the first of these passes.
+///
+/// # Errors
+///
+/// [`AllocError`] if there is no pass.
+pub(crate) fn first_worker<'a, J: EngineBrand, D: Disk, H, R, T>(
+    rt: &'a R,
+    engine: &'a Engine<J, D, H>,
+    passes: Vec<Pass>,
+    watch: &'a T,
+) -> Result<Worker<'a, J, D, H, R, T>, AllocError>
+    requires { All (IsNew J.identity) passes.items }
+{
+    match passes.into_iter().next() {
+        Some(pass) => Ok(Worker::new(engine, pass, rt, watch)),
+        None => Err(AllocError),
+    }
+}
+
+/// Adds a service to these.
+///
+/// # Errors
+///
+/// [`AllocError`] if memory is out.
+fn add<S: Drop>(services: &mut Vec<S>, service: S) -> Result<(), AllocError>
+    ensures { IfOk result (λ _. length services.new.items ≡ length services.old.items + 1) }
+{
+    services.push(service)?;
+    Ok(())
 }
 
 /// The passes that clients borrow.
@@ -269,16 +349,13 @@ impl<'a, J: EngineBrand, K: TokenBrand> Pools<'a, J, K> {
         ensures { IfOk result (λ pools. is_some pools.admin ≡ has_admin) }
     {
         let counters = server_of(meters);
-        let (mut passes, mut admin) = (passes, None);
-        if has_admin {
-            let own = cut::<J>(&mut passes, 1)?;
-            admin = Some(pool_of(rt, tokens, own, counters)?);
-        }
-        let most = passes.len().saturating_sub(1);
-        let reads = cut::<J>(&mut passes, most.min(usize::from(readers)))?;
+        let mut passes = passes;
+        let admin = admin_pool_of(rt, tokens, &mut passes, has_admin, counters)?;
+        let reads = read_pool_of(rt, tokens, &mut passes, readers)?;
+        let changes = pool_of(rt, tokens, passes, counters)?;
         Ok(Pools {
-            reads: read_pool_of(rt, tokens, reads)?,
-            changes: pool_of(rt, tokens, passes, counters)?,
+            reads,
+            changes,
             admin,
         })
     }
@@ -327,22 +404,74 @@ fn pool_of<'a, J: EngineBrand, K: TokenBrand, R: AllocGlobal + Wait>(
     PassPool::new(rt, rt.alloc(), tokens, passes, counters)
 }
 
-/// Makes a pool of these passes that only read.
+/// Makes the administrator's pool of the last of these passes, if there is an address for the administrator.
 ///
 /// # Errors
 ///
-/// [`AllocError`] if memory is out, there is no pass, or the source of a worker's tokens was given before.
+/// [`AllocError`] if memory is out, there is no pass, or the source of its worker's tokens was given before.
+fn admin_pool_of<'a, J: EngineBrand, K: TokenBrand, R: AllocGlobal + Wait>(
+    rt: &R,
+    tokens: &TokenTable<K>,
+    passes: &mut Vec<Pass>,
+    has_admin: bool,
+    counters: Option<&'a ServerCounters>,
+) -> Result<Option<PassPool<'a, J, K>>, AllocError>
+    requires { All (IsNew J.identity) passes.old.items }
+    ensures left { All (IsNew J.identity) passes.new.items }
+    ensures made { IfOk result (λ admin. is_some admin ≡ has_admin) }
+{
+    if !has_admin {
+        return Ok(None);
+    }
+    let own = cut::<J>(passes, 1)?;
+    Ok(Some(pool_of(rt, tokens, own, counters)?))
+}
+
+/// Makes a pool of the last of these passes, which only read. There are so many, but at least one is left.
+///
+/// # Errors
+///
+/// [`AllocError`] if memory is out, there are too few passes, or the source of a worker's tokens was given before.
 fn read_pool_of<J: EngineBrand, K: TokenBrand, R: AllocGlobal>(
     rt: &R,
     tokens: &TokenTable<K>,
-    passes: Vec<Pass>,
+    passes: &mut Vec<Pass>,
+    readers: u8,
 ) -> Result<ReadPool<J, K>, AllocError>
-    requires new { All (IsNew J.identity) passes.items }
+    requires { All (IsNew J.identity) passes.old.items }
+    ensures left { All (IsNew J.identity) passes.new.items }
 {
-    if passes.is_empty() {
+    let most = passes.len().saturating_sub(1);
+    let reads = cut::<J>(passes, most.min(usize::from(readers)))?;
+    if reads.is_empty() {
         return Err(AllocError);
     }
-    ReadPool::new(rt.alloc(), tokens, passes)
+    ReadPool::new(rt.alloc(), tokens, reads)
+}
+
+/// What all borrowers of a server have in common.
+#[derive(Drop)]
+struct BorrowerParts<'a, J: EngineBrand, K: TokenBrand, D: Disk, H, R, T> {
+    rt: &'a R,
+    engine: &'a Engine<J, D, H>,
+    tokens: &'a TokenTable<K>,
+    watch: &'a T,
+    /// They count the requests, if there are any.
+    meters: Option<&'a Meters>,
+}
+
+impl<'a, J: EngineBrand, K: TokenBrand, D: Disk, H, R, T> BorrowerParts<'a, J, K, D, H, R, T> {
+    /// Makes the borrower of this number, which borrows from these pools.
+    fn borrower(
+        &self,
+        number: usize,
+        reads: Option<&'a ReadPool<J, K>>,
+        passes: &'a PassPool<'a, J, K>,
+    ) -> MeteredService<'a, Borrower<'a, J, K, D, H, R, T>, R> {
+        let (rt, engine, tokens) = (self.rt, self.engine, self.tokens);
+        let borrower = Borrower::new(number, engine, tokens, reads, passes, rt, self.watch);
+        MeteredService::new(borrower, rt, self.meters)
+    }
 }
 
 /// Makes a borrower for each client that is served at once, and one more for the administrator, if there are passes for
@@ -362,32 +491,20 @@ fn borrowers_for<'a, J: EngineBrand, K: TokenBrand, D: Disk, H, R: AllocGlobal, 
 ) -> Result<Vec<MeteredService<'a, Borrower<'a, J, K, D, H, R, T>, R>>, AllocError>
     ensures { IfOk result (λ made. vec_len made ≡ clients + (if is_some pools.now.admin then 1 else 0)) }
 {
+    let parts = BorrowerParts {
+        rt,
+        engine,
+        tokens,
+        watch,
+        meters,
+    };
     let mut made = Vec::with_capacity(rt.alloc(), usize::from(clients) + 1)?;
     for _ in 0..clients {
-        let borrower = Borrower::new(
-            made.len(),
-            engine,
-            tokens,
-            Some(&pools.reads),
-            &pools.changes,
-            rt,
-            watch,
-        );
-        if made
-            .push(MeteredService::new(borrower, rt, meters))
-            .is_err()
-        {
-            return Err(AllocError);
-        }
+        let borrower = parts.borrower(made.len(), Some(&pools.reads), &pools.changes);
+        add(&mut made, borrower)?;
     }
     if let Some(own) = &pools.admin {
-        let borrower = Borrower::new(0, engine, tokens, None, own, rt, watch);
-        if made
-            .push(MeteredService::new(borrower, rt, meters))
-            .is_err()
-        {
-            return Err(AllocError);
-        }
+        add(&mut made, parts.borrower(0, None, own))?;
     }
     Ok(made)
 }

@@ -15,25 +15,24 @@ ghost use Rattle.mw_programs.specs.WorkerCount.{one_for, own_workers, served_cou
 
 use crate::beats::HeldLease;
 use crate::clients::Server;
-use crate::console::Console;
+use crate::console::{Console, ScriptConsole};
 use crate::descriptors::{has_descriptors, has_stack, needed};
 use crate::ending::ServerEnd;
+use crate::promise::{EngineNetwork, ServerNetwork, ServerPromise};
 use crate::replaced::{FileLook, SeesPaths};
-use crate::services::{counted, serve_all_clients};
+use crate::services::{counted, first_worker, serve_all_clients};
 use crate::tenants::TenantNotes;
 use arrayvec::ArrayVec;
 use log::{Log, error, warn};
 use mw_config::{ArgFault, Args, Listening, Mode, TenantLine, read_args};
-use mw_connections::{Network, Promise};
 use mw_disk::Disk;
 use mw_engine::{Engine, EngineBrand, EngineParts, NoHold, Pass};
 use mw_metrics::Meters;
 use mw_opening::{
-    FileStates, LockedFiles, NoteForm, Notes, OpenedParts, OpensDisks, TenantDisk, are_all_open,
-    note_why, open_parts, open_plain, read_tenants_file, sync_folders,
+    FileStates, LockedFiles, NoteForm, Notes, OpenedParts, OpensDisks, OpensPaths, TenantDisk,
+    are_all_open, note_why, open_parts, open_plain, read_tenants_file, sync_folders,
 };
-use mw_server_pages::PagesPromise;
-use mw_service::{FaultWatch, Worker};
+use mw_service::FaultWatch;
 use mw_session::Ended;
 use mw_words::{MAX_TENANTS, MAX_WORKERS};
 use std::alloc::AllocError;
@@ -99,8 +98,8 @@ impl From<AllocError> for ServeFault {
 ///   can listen at an address, or if memory was refused;
 /// - 2 if the command line or the tenants file is wrong.
 ///
-/// `network` is where it listens. `promise`: what its clients were promised is kept if an engine serves them that begins with files
-/// which a start opened. Of other services nothing is known, so no other can serve them.
+/// `network` is where it listens. `promise`: what its clients were promised is kept if one engine serves them all that begins with
+/// files which a start opened. Of other services nothing is known, so no other can serve them.
 ///
 /// Writes to `err` what went wrong before the first session, and why. It also writes a note on each tenant whose
 /// file doesn't open, is in use or fails, and a note when there is no room for connections. With `--listen` it tells before
@@ -110,22 +109,30 @@ impl From<AllocError> for ServeFault {
 ///
 /// With `--end-on-failure` it gives `end` the exit status 3 after a note on a tenant whose file fails, or is given up, while
 /// it is served. It goes on, and whoever waits for `end` ends the program.
-pub fn serve<'a, R, N, Q: PagesPromise, C: Console<Q>, E: Write + Send>(
+pub fn serve<'a, R, N, Q: ServerPromise, C: ScriptConsole<Q>, E: Write + Send>(
     rt: &R,
-    network: &'a Network<'a, N, Q>,
+    network: ServerNetwork<'a, N, Q>,
     args: &[String],
     console: &mut C,
     err: &mut E,
     end: &'a ServerEnd,
 ) -> u8
 where
-    R: Files<File = File> + AllocGlobal + Threads + Wait + Clock + Sync + SeesPaths + 'a,
+    R: Files<File = File>
+        + AllocGlobal
+        + Threads
+        + Wait
+        + Clock
+        + Sync
+        + SeesPaths
+        + OpensPaths
+        + 'a,
     N: Files<File = File> + Net<Listener = TcpListener, Stream = TcpStream> + Clock + Sync,
-    requires promise { PromisesOfStart ⟦<TenantDisk<'a, R> as Disk>⟧.facts ⟦<TenantDisk<'a, R> as Disk>⟧.made ⟦<LockedFiles<'a, R> as OpensDisks>⟧.is_over ⟦<LockedFiles<'a, R> as OpensDisks>⟧.is_refused Q.kept Q.shown }
+    requires promise { PromisesOfStart ⟦<TenantDisk<'a, R> as Disk>⟧.facts ⟦<TenantDisk<'a, R> as Disk>⟧.made ⟦<LockedFiles<'a, R> as OpensDisks>⟧.is_over ⟦<LockedFiles<'a, R> as OpensDisks>⟧.is_refused Q.kept_by Q.shown_by }
 {
     let args = match read_args(rt.alloc(), args) {
         Ok(args) => args,
-        Err(fault) => return refuse::<Q, _, _>(&fault, front_of(args), console, err),
+        Err(fault) => return refuse(&fault, front_of(args), console, err),
     };
     let form = NoteForm {
         verbose: args.verbose,
@@ -152,12 +159,7 @@ fn front_of(args: &[String]) -> &'static str {
 }
 
 /// Writes why a command line isn't served, with this before it, or what it asks to be told. Gives the exit status.
-fn refuse<Q: Promise, C: Console<Q>, E: Write>(
-    fault: &ArgFault,
-    front: &str,
-    console: &mut C,
-    err: &mut E,
-) -> u8 {
+fn refuse<C: Console, E: Write>(fault: &ArgFault, front: &str, console: &mut C, err: &mut E) -> u8 {
     match fault {
         ArgFault::Refused(text) if !text.use_stderr() => u8::from(console.help(fault).is_err()),
         ArgFault::Refused(_) => {
@@ -177,9 +179,7 @@ fn refuse<Q: Promise, C: Console<Q>, E: Write>(
 
 /// What a server is started with.
 #[derive(Drop)]
-struct Setup<'a, N, Q> {
-    /// Where it listens, and what its clients are promised.
-    network: &'a Network<'a, N, Q>,
+struct Setup<'a> {
     /// What the command line asks for.
     args: Args,
     /// The tenants of the tenants file.
@@ -188,11 +188,10 @@ struct Setup<'a, N, Q> {
     end: &'a ServerEnd,
 }
 
-impl<'a, N, Q> Setup<'a, N, Q> {
-    /// Reads the tenants file that the arguments name. Writes a note if it is refused.
+impl<'a> Setup<'a> {
+    /// Reads the tenants file that the arguments name. Writes a note if it is refused, or the limit of the stack is too low.
     fn read<R: Files<File = File>, L: Log>(
         rt: &R,
-        network: &'a Network<'a, N, Q>,
         args: Args,
         notes: &L,
         end: &'a ServerEnd,
@@ -201,13 +200,11 @@ impl<'a, N, Q> Setup<'a, N, Q> {
         ensures args { IfOk result (λ setup. ArePermittedArgs setup.args) }
         ensures lines { IfOk result (λ setup. ArePermitted setup.args.pool setup.lines.items) }
     {
+        if !has_stack_for(notes, &args.mode) {
+            return Err(ServeFault::Failed);
+        }
         match read_tenants_file(rt, args.tenants.as_str(), args.pool) {
-            Ok(lines) => Ok(Setup {
-                network,
-                args,
-                lines,
-                end,
-            }),
+            Ok(lines) => Ok(Setup { args, lines, end }),
             Err(fault) => {
                 fault.tell(notes, args.tenants.as_str());
                 Err(ServeFault::Refused)
@@ -218,38 +215,96 @@ impl<'a, N, Q> Setup<'a, N, Q> {
 
 /// Opens what the arguments name, and serves it. It looks for faults in this order: the tenants file, the
 /// tenants' files, the script or the listeners. Notes tell them.
-fn serve_args<'a, R, N, Q: PagesPromise, C: Console<Q>, L: Log + Sync>(
+fn serve_args<'a, R, N, Q: ServerPromise, C: ScriptConsole<Q>, L: Log + Sync>(
     rt: &R,
-    network: &'a Network<'a, N, Q>,
+    network: ServerNetwork<'a, N, Q>,
     args: Args,
     console: &mut C,
     notes: &L,
     end: &'a ServerEnd,
 ) -> Result<(), ServeFault>
 where
-    R: Files<File = File> + AllocGlobal + Threads + Wait + Clock + Sync + SeesPaths + 'a,
+    R: Files<File = File>
+        + AllocGlobal
+        + Threads
+        + Wait
+        + Clock
+        + Sync
+        + SeesPaths
+        + OpensPaths
+        + 'a,
     N: Files<File = File> + Net<Listener = TcpListener, Stream = TcpStream> + Clock + Sync,
     requires args { ArePermittedArgs args }
-    requires promise { PromisesOfStart ⟦<TenantDisk<'a, R> as Disk>⟧.facts ⟦<TenantDisk<'a, R> as Disk>⟧.made ⟦<LockedFiles<'a, R> as OpensDisks>⟧.is_over ⟦<LockedFiles<'a, R> as OpensDisks>⟧.is_refused Q.kept Q.shown }
+    requires promise { PromisesOfStart ⟦<TenantDisk<'a, R> as Disk>⟧.facts ⟦<TenantDisk<'a, R> as Disk>⟧.made ⟦<LockedFiles<'a, R> as OpensDisks>⟧.is_over ⟦<LockedFiles<'a, R> as OpensDisks>⟧.is_refused Q.kept_by Q.shown_by }
 {
-    if !has_stack_for(notes, &args.mode) {
-        return Err(ServeFault::Failed);
+    match Setup::read(rt, args, notes, end) {
+        Ok(setup) => serve_setup(rt, network, &setup, console, notes),
+        Err(fault) => Err(fault),
     }
-    let setup = Setup::read(rt, network, args, notes, end)?;
+}
+
+/// Opens the tenants' files, and serves what the arguments ask for.
+fn serve_setup<'a, R, N, Q: ServerPromise, C: ScriptConsole<Q>, L: Log + Sync>(
+    rt: &R,
+    network: ServerNetwork<'a, N, Q>,
+    setup: &Setup<'a>,
+    console: &mut C,
+    notes: &L,
+) -> Result<(), ServeFault>
+where
+    R: Files<File = File>
+        + AllocGlobal
+        + Threads
+        + Wait
+        + Clock
+        + Sync
+        + SeesPaths
+        + OpensPaths
+        + 'a,
+    N: Files<File = File> + Net<Listener = TcpListener, Stream = TcpStream> + Clock + Sync,
+    requires args { ArePermittedArgs setup.now.args }
+    requires lines { ArePermitted setup.now.args.pool setup.now.lines.items }
+    requires promise { PromisesOfStart ⟦<TenantDisk<'a, R> as Disk>⟧.facts ⟦<TenantDisk<'a, R> as Disk>⟧.made ⟦<LockedFiles<'a, R> as OpensDisks>⟧.is_over ⟦<LockedFiles<'a, R> as OpensDisks>⟧.is_refused Q.kept_by Q.shown_by }
+{
     let (states, meters) = (FileStates::new(setup.args.strict), Meters::new(rt));
     let disks = LockedFiles::new(rt, &states, counted_in(&setup.args.mode, &meters));
+    serve_files(rt, &disks, network, setup, console, notes, &states, &meters)
+}
+
+/// Opens the tenants' files on these disks, and serves the tenants by an engine of just these files. It knows no more of the
+/// disks than any code that opens some.
+fn serve_files<D, P, R, N, Q, C, L>(
+    rt: &R,
+    disks: &P,
+    network: ServerNetwork<'_, N, Q>,
+    setup: &Setup<'_>,
+    console: &mut C,
+    notes: &L,
+    states: &FileStates,
+    meters: &Meters,
+) -> Result<(), ServeFault>
+where
+    D: Disk + Drop + Send + Sync,
+    P: OpensDisks<Device = D>,
+    R: Files<File = File> + AllocGlobal + Threads + Wait + Clock + Sync + SeesPaths,
+    N: Files<File = File> + Net<Listener = TcpListener, Stream = TcpStream> + Clock + Sync,
+    Q: ServerPromise,
+    C: ScriptConsole<Q>,
+    L: Log + Sync,
+    requires args { ArePermittedArgs setup.now.args }
+    requires lines { ArePermitted setup.now.args.pool setup.now.lines.items }
+    requires promise { PromisesOfStart D.facts D.made P.is_over P.is_refused Q.kept_by Q.shown_by }
+{
     let opened = open_parts(
         rt.alloc(),
         notes,
         &setup.lines,
-        &disks,
+        disks,
         setup.args.pool,
         workers_of(&setup.args),
         NoHold,
     )?;
-    serve_opened::<_, LockedFiles<'_, R>, _, _, _, _, _>(
-        rt, &setup, opened, console, notes, &states, &meters,
-    )
+    serve_opened::<_, P, _, _, _, _, _>(rt, network, setup, opened, console, notes, states, meters)
 }
 
 /// Tells whether the limit of the stack is large enough for the threads of a server, and writes a note if not. A script has none.
@@ -316,7 +371,8 @@ fn for_further(listening: &Listening) -> u8
 /// leaves room.
 fn serve_opened<D, P, R, N, Q, C, L>(
     rt: &R,
-    setup: &Setup<'_, N, Q>,
+    network: ServerNetwork<'_, N, Q>,
+    setup: &Setup<'_>,
     opened: OpenedParts<D, NoHold>,
     console: &mut C,
     notes: &L,
@@ -328,28 +384,23 @@ where
     P: OpensDisks<Device = D>,
     R: Files<File = File> + AllocGlobal + Threads + Wait + Clock + Sync + SeesPaths,
     N: Files<File = File> + Net<Listener = TcpListener, Stream = TcpStream> + Clock + Sync,
-    Q: PagesPromise,
-    C: Console<Q>,
+    Q: ServerPromise,
+    C: ScriptConsole<Q>,
     L: Log + Sync,
     requires args { ArePermittedArgs setup.now.args }
     requires tenants { length setup.now.lines.items ≤ MAX_TENANTS }
     requires opened { AreMadeOfOpened D.facts D.made P.is_over P.is_refused setup.now.lines.items opened.are_open.items opened.made }
     requires new { IfOk opened.made (λ made. All (IsNew (identity_of made.0)) made.1.items) }
     requires some { IfOk opened.made (λ made. 0 < vec_len made.1) }
-    requires promise { PromisesOfStart D.facts D.made P.is_over P.is_refused Q.kept Q.shown }
+    requires promise { PromisesOfStart D.facts D.made P.is_over P.is_refused Q.kept_by Q.shown_by }
 {
-    let (args, lines) = (&setup.args, setup.lines.as_slice());
-    if args.strict && !are_all_open(&opened.are_open) {
+    if !may_serve(notes, setup, &opened.are_open) {
         return Err(ServeFault::Failed);
     }
-    if !has_room(notes, args, lines.len()) && args.strict {
-        return Err(ServeFault::Failed);
-    }
-    if let Mode::Listen(_) = &args.mode {
-        note_down(notes, &opened.are_open);
-    }
+    let lines = setup.lines.as_slice();
     let OpenedParts { are_open, made } = opened;
     sync_folders(rt, notes, lines, &are_open);
+    let (parts, passes) = made?;
     let watch = TenantNotes::new(
         rt,
         notes,
@@ -357,17 +408,35 @@ where
         states,
         meters,
         &are_open,
-        args.strict,
+        setup.args.strict,
         end_on_failure(setup),
     );
-    let (parts, passes) = made?;
     serve_engine::<Brand, _, _, _, _, _, _, _>(
-        rt, parts, passes, setup, console, notes, &watch, meters,
+        rt, parts, passes, network, setup, console, notes, &watch, meters,
     )
 }
 
+/// Tells whether the tenants may be served, of whose files these are open. Writes a note if the limit of descriptors is too low,
+/// and before clients are served one on how many tenants are down.
+fn may_serve<L: Log>(notes: &L, setup: &Setup<'_>, are_open: &[bool]) -> bool
+    requires args { ArePermittedArgs setup.now.args }
+    requires tenants { length setup.now.lines.items ≤ MAX_TENANTS }
+{
+    let args = &setup.args;
+    if args.strict && !are_all_open(are_open) {
+        return false;
+    }
+    if !has_room(notes, args, setup.lines.len()) && args.strict {
+        return false;
+    }
+    if let Mode::Listen(_) = &args.mode {
+        note_down(notes, are_open);
+    }
+    true
+}
+
 /// Gives the end of a server that ends when a tenant's file fails.
-fn end_on_failure<'a, N, Q>(setup: &Setup<'a, N, Q>) -> Option<&'a ServerEnd> {
+fn end_on_failure<'a>(setup: &Setup<'a>) -> Option<&'a ServerEnd> {
     match &setup.args.mode {
         Mode::Listen(listening) if listening.end_on_failure => Some(setup.end),
         _ => None,
@@ -407,21 +476,22 @@ fn own_workers(mode: &Mode) -> u8
     }
 }
 
-/// Starts the engine, and serves what the command line asks for.
+/// Starts the engine, uses the network up for it, and serves what the command line asks for.
 fn serve_engine<
     J: EngineBrand + Send + Sync,
     D: Disk + Drop + Send + Sync,
     R,
     N,
-    Q: PagesPromise,
-    C: Console<Q>,
+    Q: ServerPromise,
+    C: ScriptConsole<Q>,
     L: Log + Sync,
     T: FaultWatch + FileLook + Sync,
 >(
     rt: &R,
     parts: EngineParts<D, NoHold>,
     passes: Vec<Pass>,
-    setup: &Setup<'_, N, Q>,
+    network: ServerNetwork<'_, N, Q>,
+    setup: &Setup<'_>,
     console: &mut C,
     notes: &L,
     watch: &T,
@@ -434,14 +504,16 @@ where
     requires new { All (IsNew J.identity) passes.items }
     requires some { 0 < vec_len passes }
     requires args { ArePermittedArgs setup.now.args }
-    requires promise { Promises D.facts J.identity Q.kept Q.shown }
+    requires promise { Promises D.facts J.identity (Q.kept_by J.identity) (Q.shown_by J.identity) }
 {
     let engine = parts.into_engine::<J>(rt.alloc())?;
+    let network = network.for_engine::<J>();
     match &setup.args.mode {
-        Mode::Script(path) => run_script::<J, _, _, Q, _, _, _>(
+        Mode::Script(path) => run_script(
             rt,
             &engine,
             passes,
+            &network,
             path.as_str(),
             console,
             notes,
@@ -454,7 +526,7 @@ where
             };
             let server = Server {
                 rt,
-                network: setup.network,
+                network: network.network(),
                 listening,
                 notes,
                 watch,
@@ -470,16 +542,19 @@ where
 fn run_script<
     'e,
     J: EngineBrand,
+    K: EngineBrand,
     D: Disk + Drop,
     R,
-    Q: PagesPromise,
-    C: Console<Q>,
+    N,
+    Q: ServerPromise,
+    C: ScriptConsole<Q>,
     L: Log,
     T: FaultWatch,
 >(
     rt: &'e R,
     engine: &'e Engine<J, D, NoHold>,
     passes: Vec<Pass>,
+    network: &EngineNetwork<'_, N, Q, K>,
     path: &str,
     console: &mut C,
     notes: &L,
@@ -489,21 +564,32 @@ where
     R: Files<File = File> + AllocGlobal + Wait + Clock,
     requires new { All (IsNew J.identity) passes.items }
     requires some { 0 < vec_len passes }
-    requires promise { Promises D.facts J.identity Q.kept Q.shown }
+    requires promise { Promises D.facts J.identity (Q.kept_by K.identity) (Q.shown_by K.identity) }
 {
-    let script = match open_plain(rt, path) {
-        Ok(script) => script,
+    let script = open_script(rt, path, notes)?;
+    let mut worker = first_worker(rt, engine, passes, watch)?;
+    outcome(console.run(rt.alloc(), network, script, &mut worker))
+}
+
+/// Opens a script. Writes a note if it can't be read.
+fn open_script<R: Files<File = File>, L: Log>(
+    rt: &R,
+    path: &str,
+    notes: &L,
+) -> Result<File, ServeFault> {
+    match open_plain(rt, path) {
+        Ok(script) => Ok(script),
         Err(fault) => {
             error!(notes; "mwserve: cannot read");
             note_why(notes, path, "", &fault);
-            return Err(ServeFault::Failed);
+            Err(ServeFault::Failed)
         }
-    };
-    let Some(pass) = passes.into_iter().next() else {
-        return Err(ServeFault::Memory);
-    };
-    let mut worker = Worker::new(engine, pass, rt, watch);
-    match console.run(rt.alloc(), script, &mut worker) {
+    }
+}
+
+/// Tells whether a script's session ended well. A fault that ended it has no note.
+fn outcome(ended: Ended) -> Result<(), ServeFault> {
+    match ended {
         Ended::Quit | Ended::PeerEnd | Ended::TooLong => Ok(()),
         Ended::ReadFault | Ended::WriteFault(_) | Ended::Memory => Err(ServeFault::Failed),
     }

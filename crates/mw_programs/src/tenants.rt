@@ -48,10 +48,7 @@ impl<'r, 'n, 'l, 'e, L: Log, R: Wait> TenantNotes<'r, 'n, 'l, 'e, L, R> {
         strict: bool,
         end: Option<&'e ServerEnd>,
     ) -> Self {
-        let mut told = [false; MAX_TENANTS];
-        for (told, is_open) in told.iter_mut().zip(are_open) {
-            *told = !*is_open;
-        }
+        let told = are_down(are_open);
         TenantNotes {
             rt,
             notes,
@@ -64,6 +61,15 @@ impl<'r, 'n, 'l, 'e, L: Log, R: Wait> TenantNotes<'r, 'n, 'l, 'e, L, R> {
             left_out: Mutex::new(told),
         }
     }
+}
+
+/// Tells for each tenant whether its file isn't open.
+fn are_down(are_open: &[bool]) -> [bool; MAX_TENANTS] {
+    let mut down = [false; MAX_TENANTS];
+    for tenant in 0..MAX_TENANTS.min(are_open.len()) {
+        down[tenant] = !are_open[tenant];
+    }
+    down
 }
 
 impl<L: Log, R: Wait> TenantNotes<'_, '_, '_, '_, L, R> {

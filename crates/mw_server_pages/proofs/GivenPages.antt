@@ -3,7 +3,7 @@ use Rattle.std.specs.Prelude.{◌≡◌, ℕ, List, [], ◌∷◌}
 use Rattle.std.proofs.Common.{refl, ap}
 use Rattle.mw_http.specs.Targets as target
 use Rattle.mw_session.specs.Talk as talk
-use Rattle.mw_server_pages.specs.Calls.{AreAnswered, Call, Dates, Shows}
+use Rattle.mw_http.specs.Calls.{AreAnswered, Call, Dates, Shows}
 use Rattle.mw_server_pages.specs.Copies.{Copy}
 use Rattle.mw_server_pages.specs.Shown.{Gives}
 

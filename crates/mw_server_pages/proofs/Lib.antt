@@ -1,5 +1,4 @@
 mod Parts
 mod Widths
-mod ExchangeLaws
 mod ClientLaws
 pub mod GivenPages

@@ -6,7 +6,5 @@ pub mod Limits
 pub mod Recents
 pub mod Spans
 pub mod StatusPage
-pub mod Calls
-pub mod Exchanges
 pub mod Clients
-pub mod PagesPromises
+pub mod FromHttp

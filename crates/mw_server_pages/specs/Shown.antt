@@ -10,8 +10,8 @@ use Rattle.mw_http.specs.declared.heads.ContentType.TheVariants as kind
 use Rattle.mw_http.specs.declared.status.Status.{Status}
 use Rattle.mw_http.specs.declared.status.Status.TheVariants as status
 use Rattle.mw_http.specs.Targets as target
-use Rattle.mw_server_pages.specs.declared.pages.Page.{Page}
-use Rattle.mw_server_pages.specs.Calls.{Call, Dates, Shows}
+use Rattle.mw_http.specs.declared.pages.Page.{Page}
+use Rattle.mw_http.specs.Calls.{Call, Dates, Shows}
 use Rattle.mw_metrics.specs.Counted.{IsTextOf, figures_of}
 use Rattle.mw_metrics.specs.declared.figures.TenantMetrics.{TenantMetrics}
 use Rattle.mw_server_pages.specs.Health.{health, is_well}

@@ -3,8 +3,7 @@
 //! `server_pages.rt` and `file_pages.rt` call it.
 ghost use Rattle.mw_server_pages.specs.Shown.{IsBare, IsPageOf};
 
-use crate::pages::Page;
-use mw_http::{ContentType, Status};
+use mw_http::{ContentType, Page, Status};
 use std::alloc::{AllocError, Global};
 
 /// Gives an answer of this status, without a body.

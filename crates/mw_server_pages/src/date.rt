@@ -2,8 +2,8 @@
 //!
 //! `server_pages.rt` asks for it. No contract says which time it is.
 
-use crate::pages::Date;
 use httpdate::HttpDate;
+use mw_http::Date;
 use std::time::{Clock, SystemTime};
 
 /// Gives the date of this moment as RFC 9110 writes it, or nothing if the clock can't be read, or its time has no such date.

@@ -5,9 +5,8 @@ ghost use Rattle.mw_server_pages.specs.Shown.{IsFile, IsNoCopy, IsWords, IsWords
 
 use crate::bodies::bare;
 use crate::file_copies::NoCopy;
-use crate::pages::Page;
 use mw_file_text::show_image;
-use mw_http::{ContentType, Status};
+use mw_http::{ContentType, Page, Status};
 use mw_record::decode;
 use std::alloc::Global;
 

@@ -6,27 +6,20 @@
 //! a script (`look.rt`); it and the text that says whether all tenants are up are pure functions of the tenants' figures
 //! (`specs/StatusPage`, `specs/Health`). mw_metrics writes the text of the figures.
 //!
-//! [`exchange`] receives a request from a client's stream, asks [`Pages`] for what it asks for, and writes the
-//! answer. A head that is wrong or too long, or another method than `GET` and `HEAD`, is answered by the status that
-//! mw_http gives it, and one that comes too late by 408. If the client sends no whole head, or a read fails, nothing
-//! is written. [`serve_pages`] does this for each client that a listener gives, and closes its connection.
-//! `specs/Exchanges` says what was read, asked and written, `specs/Clients` which clients were served.
+//! [`serve_pages`] makes one [`mw_http::exchange`] with each client that a listener gives, and closes its connection.
+//! `specs/Clients` says which clients were served.
 //!
 //! Used by: mw_programs, tests.
 #![tactic(auto)]
 
 mod bodies;
 mod date;
-mod exchanges;
 mod file_copies;
 mod file_pages;
 mod health;
 mod limits;
 mod look;
 mod near;
-mod pages;
-mod promise;
-mod receiving;
 mod recents;
 mod samples;
 mod server;
@@ -35,16 +28,14 @@ mod spans;
 mod status;
 mod tenant_rows;
 mod text;
-mod writing;
 
-pub use exchanges::{Exchanged, exchange};
 pub use file_copies::{FileCopies, NoCopy};
 pub use health::{MAX_HEALTH, are_well, health_text};
 pub use limits::{Limit, LimitKind, MAX_LIMITS};
 pub use look::{SCRIPT, STYLE};
+pub use mw_connections::PagesPromise;
+pub use mw_http::Pages;
 pub use near::Capacity;
-pub use pages::{Date, Page, Pages};
-pub use promise::{PagesListener, PagesPromise};
 pub use recents::{CURVE_HEIGHT, CURVE_WIDTH, Curve, MAX_POINTS, Point, Recent};
 pub use server::{PAUSE, serve_pages};
 pub use server_pages::{ServerPages, Version};

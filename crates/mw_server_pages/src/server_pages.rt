@@ -1,12 +1,11 @@
 //! Implements the pages of a server.
 //!
-//! mw_programs makes them. `specs/Shown` says what is shown, `specs/Calls` which calls are answered: change them
-//! together, with docs/HTTP.
+//! mw_programs makes them. `specs/Shown` says what is shown: change both together, with docs/HTTP.
 ghost use Rattle.std.specs.Prelude.{◌≡◌, ◌≤◌, length, IfOk};
 ghost use Rattle.mw_server_pages.specs.declared.limits.TheConstants.{MAX_LIMITS};
 ghost use Rattle.mw_words.specs.declared.limits.TheConstants.{MAX_TENANTS};
 ghost use Rattle.mw_http.specs.Targets.{place_of};
-ghost use Rattle.mw_server_pages.specs.Calls.{Call};
+ghost use Rattle.mw_http.specs.Calls.{Call};
 ghost use Rattle.mw_report.specs.Table.{AreWithinLimits};
 ghost use Rattle.mw_server_pages.specs.Shown.{Gives, IsConstant, IsHealth, IsHealthOf, IsMetrics, IsStatus};
 
@@ -18,13 +17,12 @@ use crate::health::{are_well, health_text};
 use crate::limits::{Limit, MAX_LIMITS};
 use crate::look::{SCRIPT, STYLE};
 use crate::near::Capacity;
-use crate::pages::{Date, Page, Pages};
 use crate::recents::Recent;
 use crate::samples::Samples;
 use crate::status::status_page;
 use crate::text::MAX_VERSION;
 use arrayvec::ArrayVec;
-use mw_http::{ContentType, Route, Status};
+use mw_http::{ContentType, Date, Page, Pages, Route, Status};
 use mw_metrics::{Meters, Stopwatch, TenantMetrics};
 use mw_report::Figures;
 use mw_session::Service;

@@ -117,7 +117,7 @@ pub fn play<R: Net<Listener = TcpListener, Stream = TcpStream> + Threads + Clock
     };
     let mut went = 0usize;
     for step in steps {
-        if company.goes(rt, site, *step) != Some(true) {
+        if !company.goes(rt, site, *step) {
             return went;
         }
         went = went.saturating_add(1);
@@ -126,29 +126,29 @@ pub fn play<R: Net<Listener = TcpListener, Stream = TcpStream> + Threads + Clock
 }
 
 impl Company {
-    /// Takes a step. Gives true if it goes as it says, and nothing if it cannot be taken.
+    /// Takes a step. Gives true if it goes as it says, and false also if it cannot be taken.
     fn goes<R: Net<Listener = TcpListener, Stream = TcpStream> + Threads + Clock + Sync>(
         &mut self,
         rt: &R,
         site: Site<'_>,
         step: Step,
-    ) -> Option<bool> {
+    ) -> bool {
         match step {
             Step::Comes => self.comes(rt, site.place),
-            Step::Does(who, act) => Some(act.goes(rt, site.alloc, self.caller(who)?)),
+            Step::Does(who, act) => self.does(rt, site.alloc, who, act),
             Step::Leaves(who) => self.leaves(who),
             Step::GoesOn(who, habit, other) => self.goes_on(who, habit, other),
             Step::Begins(who) => self.begins(rt, who),
             Step::Lasted(who, least) => self.lasted(rt, who, least),
             Step::Passes(long) => {
                 thread::sleep(rt, Duration::from_millis(long));
-                Some(true)
+                true
             }
-            Step::Awaits(event) => Some(event.comes(rt, site.tally)),
+            Step::Awaits(event) => event.comes(rt, site.tally),
             Step::ManyChange => many_change(rt, site.alloc, site.place),
             Step::ComesElsewhere => {
                 come_and_go(rt, site.elsewhere, 1);
-                Some(true)
+                true
             }
         }
     }
@@ -157,40 +157,82 @@ impl Company {
         &mut self,
         rt: &R,
         place: Place<'_>,
-    ) -> Option<bool> {
-        let begun = Instant::now(rt).ok()?;
-        let caller = Some(Caller::new(rt, place).ok()?);
-        Some(self.players.push(Player { caller, begun }).is_ok())
+    ) -> bool {
+        match (Instant::now(rt), Caller::new(rt, place)) {
+            (Ok(begun), Ok(caller)) => {
+                let caller = Some(caller);
+                self.players.push(Player { caller, begun }).is_ok()
+            }
+            _ => false,
+        }
     }
 
-    fn leaves(&mut self, who: usize) -> Option<bool> {
-        self.players.get_mut(who)?.caller = None;
-        Some(true)
+    fn does<R: Clock>(&mut self, rt: &R, alloc: Global, who: usize, act: Act) -> bool {
+        match self.caller(who) {
+            Some(caller) => act.goes(rt, alloc, caller),
+            None => false,
+        }
     }
 
-    fn begins<R: Clock>(&mut self, rt: &R, who: usize) -> Option<bool> {
-        self.players.get_mut(who)?.begun = Instant::now(rt).ok()?;
-        Some(true)
+    fn leaves(&mut self, who: usize) -> bool {
+        match self.players.get_mut(who) {
+            Some(player) => {
+                player.caller = None;
+                true
+            }
+            None => false,
+        }
     }
 
-    fn lasted<R: Clock>(&mut self, rt: &R, who: usize, least: u64) -> Option<bool> {
-        let lasted = self.players.get(who)?.begun.elapsed(rt).ok()?;
-        Some(lasted >= Duration::from_millis(least))
+    fn begins<R: Clock>(&mut self, rt: &R, who: usize) -> bool {
+        let Ok(now) = Instant::now(rt) else {
+            return false;
+        };
+        match self.players.get_mut(who) {
+            Some(player) => {
+                player.begun = now;
+                true
+            }
+            None => false,
+        }
     }
 
-    fn goes_on(&mut self, who: usize, habit: Habit, other: usize) -> Option<bool> {
+    fn lasted<R: Clock>(&self, rt: &R, who: usize, least: u64) -> bool {
+        match self.players.get(who) {
+            Some(player) => match player.begun.elapsed(rt) {
+                Ok(lasted) => lasted >= Duration::from_millis(least),
+                Err(_) => false,
+            },
+            None => false,
+        }
+    }
+
+    fn goes_on(&mut self, who: usize, habit: Habit, other: usize) -> bool {
         for _ in 0..LONG {
-            self.caller(who)?.goes_on(habit);
-            if self.caller(other)?.has_news().ok()? {
-                return Some(true);
+            match self.caller(who) {
+                Some(caller) => caller.goes_on(habit),
+                None => return false,
+            }
+            if self.has_news(other) {
+                return true;
             }
         }
-        Some(false)
+        false
+    }
+
+    fn has_news(&mut self, who: usize) -> bool {
+        match self.caller(who) {
+            Some(caller) => matches!(caller.has_news(), Ok(true)),
+            None => false,
+        }
     }
 
     /// Gives the client's end of its connection.
     fn caller(&mut self, who: usize) -> Option<&mut Caller> {
-        self.players.get_mut(who)?.caller.as_mut()
+        match self.players.get_mut(who) {
+            Some(player) => player.caller.as_mut(),
+            None => None,
+        }
     }
 }
 
@@ -244,25 +286,32 @@ impl Event {
     }
 }
 
-/// Has many clients change a word each, at once.
+/// Has many clients change a word each, at once. Gives true if all of them could.
 fn many_change<R: Net<Listener = TcpListener, Stream = TcpStream> + Threads + Sync>(
     rt: &R,
     alloc: Global,
     place: Place<'_>,
-) -> Option<bool> {
+) -> bool {
     let many = thread::map_indices(
         rt,
         alloc,
         MANY,
         &|word| { has_its_word(rt, alloc, place, word) },
-    )
-    .ok()?;
-    for served in &many {
-        if !matches!(served, Ok(true)) {
-            return Some(false);
+    );
+    match many {
+        Ok(many) => all_could(&many),
+        Err(_) => false,
+    }
+}
+
+/// Tells whether each of these clients changed its word.
+fn all_could(clients: &[io::Result<bool>]) -> bool {
+    for could in clients {
+        if !matches!(could, Ok(true)) {
+            return false;
         }
     }
-    Some(true)
+    true
 }
 
 /// A client that changes a word of its own from 0 to 20.

@@ -1,4 +1,4 @@
--- Two writes (or two reads), one after the other, are recorded as the joined bytes. Used by: write_counted, mw_server_pages.
+-- Two writes (or two reads), one after the other, are recorded as the joined bytes. Used by: write_counted, mw_http.
 use Rattle.std.proofs.Common.{◌≡◌, ℕ, ◌+◌, ◌-◌, ◌^◌, ◌≤◌, ◌<◌, ◌++◌, ◌==◌, min, true, false, cond, List, [], length, take, drop, Result, Ok, Err, refl, sym, ap, ◌∙◌, arith, append_assoc, append-nil, length-append, subst}
 use Rattle.std.proofs.lemmas.List.{length-take-le, take-append-drop, take_rest}
 use Rattle.std.specs.Result.{result_unwrap_or}

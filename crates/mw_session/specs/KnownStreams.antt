@@ -1,6 +1,6 @@
 -- Defines the parts of a recorded stream, and how its record agrees with what the stream's own contract tells of its bytes.
--- Used by: mw_connections, mw_server_pages, mw_service, mw_serving_tests, recorded_stream.rt, session.rt, writer.rt. A change
--- here changes what the record says of the stream.
+-- Used by: mw_http, mw_connections, mw_service, mw_serving_tests, recorded_stream.rt, session.rt, writer.rt. A change here
+-- changes what the record says of the stream.
 use Rattle.std.specs.Prelude.{◌≡◌, ℕ, ◌++◌, List, Option}
 use Rattle.std.specs.Io.KnownBytes.{Appends, Consumes}
 use Rattle.mw_session.specs.StreamRecords.{ReadRecord, WriteRecord}

@@ -1,6 +1,6 @@
 -- Defines a path from one state to another: one step for each item of a list, in order.
--- Used by: mw_server_pages, mw_workers, mw_service, mw_law_threads. A change here changes what services and streams promise
--- of their states.
+-- Used by: mw_http, mw_server_pages, mw_workers, mw_service, mw_law_threads. A change here changes what services and streams
+-- promise of their states.
 use Rattle.std.specs.Prelude.{◌≡◌, List, [], ◌∷◌}
 
 -- A path from one state to another: one step for each item of the list, in order, and no other step.

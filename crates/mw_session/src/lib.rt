@@ -23,7 +23,7 @@
 //! A session reads and writes a [`RecordedStream`], which records what was read and written, and which call failed.
 //! What it says is in `specs/Talk`; CONTRIBUTING lists under *A command* what a new line needs.
 //!
-//! Used by: many crates from mw_connections on, which runs one for each connection; mw_service runs one for a script.
+//! Used by: many crates from mw_http on. mw_connections runs one for each connection, mw_service one for a script.
 #![tactic(auto)]
 
 mod laws;

@@ -1,6 +1,6 @@
 //! Owns a peer's stream, and records what is read from it and written to it.
 //!
-//! Used by: mw_connections, mw_server_pages, mw_service, mw_programs. Nothing else reads or writes the stream: its
+//! Used by: mw_http, mw_connections, mw_service, mw_programs. Nothing else reads or writes the stream: its
 //! fields are private, and a record begins here, empty. So what a contract says of the record, it says of the calls
 //! made here. [`RecordedStream::read`] and [`RecordedStream::write`] make one call of the stream each, and give and
 //! record its outcome.

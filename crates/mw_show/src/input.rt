@@ -5,7 +5,7 @@
 ghost use Rattle.std.specs.Prelude.{◌≡◌, ◌≤◌};
 ghost use Rattle.mw_show.specs.Statuses.{status_of};
 
-use mw_file_command::{FileFault, open_plain};
+use mw_command_line::{FileFault, open_plain};
 use mw_record::MAX_FILE;
 use std::alloc::{AllocError, Global};
 use std::fs::{File, TryLockError};

@@ -7,21 +7,40 @@ ghost use Rattle.mw_show.specs.Text.{IsShown};
 
 use crate::input::{ShowFault, read_file};
 use crate::lines::show;
-use mw_file_command::{AskedFile, FileCommand};
+use mw_command_line::{Argument, AskedFile, CommandLine, FILE, FLAG};
 use std::fs::File;
 use std::io::Write;
 use std::rt::Files;
 
-const COMMAND: FileCommand = FileCommand {
-    name: "mwshow",
-    about: "Shows what a tenant's file says.",
-    switch: "words",
-    switch_help: "tells the words that are 0 too",
-    file_help: "the file of a tenant",
-    after_help: "\
+/// The switch that has the words that are 0 shown too.
+const WORDS: &str = "words";
+
+/// What the help ends with.
+const AFTER_HELP: &str = "\
 Example: mwshow --words t.mw
-Documents: docs/OPERATING.md beside README.md, or below /usr/share/doc/mondlexi",
-};
+Documents: docs/OPERATING.md beside README.md, or below /usr/share/doc/mondlexi";
+
+/// The command line of `mwshow`.
+fn command_line() -> CommandLine {
+    CommandLine {
+        name: "mwshow",
+        about: "Shows what a tenant's file says.",
+        arguments: &ARGUMENTS,
+        after_help: AFTER_HELP,
+    }
+}
+
+static ARGUMENTS: [Argument; 2] = [
+    Argument {
+        name: WORDS,
+        help: "tells the words that are 0 too",
+        ..FLAG
+    },
+    Argument {
+        help: "the file of a tenant",
+        ..FILE
+    },
+];
 
 /// Shows the file that the command line `args` names, by [`show_file`]. The form is `mwshow [--words]
 /// FILE`; the first argument is the program's own name. If help or the version is asked for, writes its
@@ -36,7 +55,7 @@ pub fn show_args<R: Files<File = File> + AllocGlobal, O: Write, E: Write>(
     out: &mut O,
     err: &mut E,
 ) -> u8 {
-    match COMMAND.read(rt.alloc(), args, out, err) {
+    match command_line().read_file(rt.alloc(), WORDS, args, out, err) {
         Ok(AskedFile { path, is_switched }) => show_file(rt, path, is_switched, out, err),
         Err(status) => status,
     }

@@ -42,66 +42,61 @@ fn lines_are_told(rt: HostRuntime) {
 const SIXTEEN: &str =
     "a 1 1 a\nb 1 1 b\nc 1 1 c\nd 1 1 d\ne 1 1 e\nf 1 1 f\ng 1 1 g\nh 1 1 h\ni 1 1 i\nj 1 1 j\nk 1 1 k\nl 1 1 l\nm 1 1 m\nn 1 1 n\no 1 1 o\np 1 1 p\n";
 
-/// Texts of tenants files, the pool that they share, and how many tenants they have or how they are refused. If a text
-/// has several faults, the first refusal is the answer.
-const TEXTS: [(&str, u16, Result<usize, Refusal>); 37] = [
-    (SIXTEEN, 16, Ok(16)),
-    ("abcdefghijklmnop 1 1 a\n", 1, Ok(1)),
-    ("", 256, Err(Refusal::None)),
-    ("\n", 256, Err(Refusal::Form(1))),
-    ("t\n", 256, Err(Refusal::Form(1))),
-    ("t 1 1 a", 256, Err(Refusal::Form(1))),
-    ("t 1 1 a\r\n", 256, Err(Refusal::Form(1))),
-    ("t 1 1 a b\n", 256, Err(Refusal::Form(1))),
-    ("t 1 1 \n", 256, Err(Refusal::Form(1))),
-    ("t 1 1\n", 256, Err(Refusal::Form(1))),
-    ("t  1 1 a\n", 256, Err(Refusal::Form(1))),
-    (" t 1 1 a\n", 256, Err(Refusal::Form(1))),
-    ("T 1 1 a\n", 256, Err(Refusal::Form(1))),
-    ("abcdefghijklmnopq 1 1 a\n", 256, Err(Refusal::Form(1))),
-    ("t 01 1 a\n", 256, Err(Refusal::Form(1))),
-    ("t 1 00 a\n", 256, Err(Refusal::Form(1))),
-    ("t -1 1 a\n", 256, Err(Refusal::Form(1))),
-    ("t 1 1 é\n", 256, Err(Refusal::Form(1))),
-    ("t 0 1 a\n", 256, Err(Refusal::Words(1))),
-    ("t 4097 1 a\n", 256, Err(Refusal::Words(1))),
-    ("t 65537 1 a\n", 256, Err(Refusal::Words(1))),
-    ("t 1 0 a\n", 256, Err(Refusal::Quota(1))),
-    ("t 1 65 a\n", 256, Err(Refusal::Quota(1))),
-    ("t 2 65 t.mw\n", 256, Err(Refusal::Quota(1))),
-    ("t 1 257 a\n", 256, Err(Refusal::Quota(1))),
-    ("t 0 0 a", 256, Err(Refusal::Form(1))),
-    ("t 0 65 a\n", 256, Err(Refusal::Words(1))),
-    (
-        "t 99999999999999999999999999 0 a\n",
-        256,
-        Err(Refusal::Words(1)),
-    ),
-    (
-        "t 1 18446744073709551617 a\nt\n",
-        256,
-        Err(Refusal::Quota(1)),
-    ),
-    ("t 1 1 a\nt 1 0 a\n", 256, Err(Refusal::Quota(2))),
-    ("t 1 1 a\nt 0 1 a\n", 256, Err(Refusal::Words(2))),
-    ("t 2 1 a.mw\nt 2 1 b.mw\n", 256, Err(Refusal::Twice(2))),
-    ("t 2 1 a.mw\nu 2 1 a.mw\nv\n", 256, Err(Refusal::Twice(2))),
-    ("t 1 1 a\n\n", 0, Err(Refusal::Form(2))),
-    ("t 1 1 a\nu 1 64 b\n", 64, Err(Refusal::Pool)),
-    ("t 1 1 a\n", 0, Err(Refusal::Pool)),
-    ("t 1 1 a\nu 1 64 b\n", 65, Ok(2)),
-];
+/// Texts of tenants files, one a line with `;` for a line feed; after ` > ` the pool that they share, and how many tenants they
+/// have or how they are refused. If a text has several faults, the first refusal is the answer.
+const TEXTS: &str = "\
+a 1 1 a;b 1 1 b;c 1 1 c;d 1 1 d;e 1 1 e;f 1 1 f;g 1 1 g;h 1 1 h;i 1 1 i;j 1 1 j;k 1 1 k;l 1 1 l;m 1 1 m;n 1 1 n;o 1 1 o;p 1 1 p; > 16 > Ok(16)
+abcdefghijklmnop 1 1 a; > 1 > Ok(1)
+ > 256 > Err(None)
+; > 256 > Err(Form(1))
+t; > 256 > Err(Form(1))
+t 1 1 a > 256 > Err(Form(1))
+t 1 1 a\r; > 256 > Err(Form(1))
+t 1 1 a b; > 256 > Err(Form(1))
+t 1 1 ; > 256 > Err(Form(1))
+t 1 1; > 256 > Err(Form(1))
+t  1 1 a; > 256 > Err(Form(1))
+ t 1 1 a; > 256 > Err(Form(1))
+T 1 1 a; > 256 > Err(Form(1))
+abcdefghijklmnopq 1 1 a; > 256 > Err(Form(1))
+t 01 1 a; > 256 > Err(Form(1))
+t 1 00 a; > 256 > Err(Form(1))
+t -1 1 a; > 256 > Err(Form(1))
+t 1 1 é; > 256 > Err(Form(1))
+t 0 1 a; > 256 > Err(Words(1))
+t 4097 1 a; > 256 > Err(Words(1))
+t 65537 1 a; > 256 > Err(Words(1))
+t 1 0 a; > 256 > Err(Quota(1))
+t 1 65 a; > 256 > Err(Quota(1))
+t 2 65 t.mw; > 256 > Err(Quota(1))
+t 1 257 a; > 256 > Err(Quota(1))
+t 0 0 a > 256 > Err(Form(1))
+t 0 65 a; > 256 > Err(Words(1))
+t 99999999999999999999999999 0 a; > 256 > Err(Words(1))
+t 1 18446744073709551617 a;t; > 256 > Err(Quota(1))
+t 1 1 a;t 1 0 a; > 256 > Err(Quota(2))
+t 1 1 a;t 0 1 a; > 256 > Err(Words(2))
+t 2 1 a.mw;t 2 1 b.mw; > 256 > Err(Twice(2))
+t 2 1 a.mw;u 2 1 a.mw;v; > 256 > Err(Twice(2))
+t 1 1 a;; > 0 > Err(Form(2))
+t 1 1 a;u 1 64 b; > 64 > Err(Pool)
+t 1 1 a; > 0 > Err(Pool)
+t 1 1 a;u 1 64 b; > 65 > Ok(2)";
+
+/// The text in a line is read as it says.
+fn is_read<R: Abort + AllocGlobal>(rt: &R, line: &str) {
+    let (text, rest) = line.split_once(" > ").unwrap_or((line, ""));
+    let (pool, wanted) = rest.split_once(" > ").unwrap_or((rest, ""));
+    let text = text.replace(rt.alloc(), ";", "\n").expect(rt, MEMORY);
+    let found = count(text.as_str().as_bytes(), pool.parse().unwrap_or(0));
+    let found = format!(in rt.alloc(); "{found:?}").expect(rt, MEMORY);
+    same_text(rt, line, found.as_str(), wanted);
+}
 
 #[test]
 fn tenants_files(rt: HostRuntime) {
-    for (text, pool, wanted) in TEXTS {
-        same(
-            &rt,
-            text,
-            u64::from(pool),
-            &count(text.as_bytes(), pool),
-            &wanted,
-        );
+    for line in TEXTS.split('\n') {
+        is_read(&rt, line);
     }
 }
 
@@ -144,7 +139,7 @@ fn seventeen(line: &str) -> Result<usize, Refusal> {
 }
 
 /// Lines after sixteen others, and how the file is refused.
-const SEVENTEENTH: [(&str, Refusal); 8] = [
+static SEVENTEENTH: [(&str, Refusal); 8] = [
     ("q 1 1", Refusal::Form(17)),
     ("q 1 1 q", Refusal::Form(17)),
     ("a 0 0 a\n", Refusal::Words(17)),
@@ -157,8 +152,8 @@ const SEVENTEENTH: [(&str, Refusal); 8] = [
 
 #[test]
 fn a_seventeenth_line(rt: HostRuntime) {
-    for (line, refusal) in SEVENTEENTH {
-        same(&rt, line, 17, &seventeen(line), &Err(refusal));
+    for (line, refusal) in &SEVENTEENTH {
+        same(&rt, line, 17, &seventeen(line), &Err(*refusal));
     }
 }
 
@@ -178,7 +173,7 @@ fn long_files_and_paths(rt: HostRuntime) {
 }
 
 /// Texts, and what their first line does that breaks a rule of the form.
-const FORMS: [(&str, &str); 14] = [
+static FORMS: [(&str, &str); 14] = [
     ("t 1 1 a", "has no line feed at its end"),
     ("", "has no line feed at its end"),
     (
@@ -227,7 +222,7 @@ const FORMS: [(&str, &str); 14] = [
 
 #[test]
 fn rules_of_the_form(rt: HostRuntime) {
-    for (text, wanted) in FORMS {
+    for (text, wanted) in &FORMS {
         let told = match broken_rule(text.as_bytes()) {
             Some(rule) => rule.broken(),
             None => "",
@@ -237,7 +232,7 @@ fn rules_of_the_form(rt: HostRuntime) {
 }
 
 /// Refusals, and the text of each.
-const REFUSALS: [(Refusal, &str); 8] = [
+static REFUSALS: [(Refusal, &str); 8] = [
     (Refusal::File, "mwserve: refused 2 file"),
     (Refusal::Form(1), "mwserve: refused 3 form line 1"),
     (
@@ -268,7 +263,7 @@ const REFUSALS: [(Refusal, &str); 8] = [
 
 #[test]
 fn texts_of_refusals(rt: HostRuntime) {
-    for (refusal, wanted) in REFUSALS {
+    for (refusal, wanted) in &REFUSALS {
         let text = format!(in rt.alloc(); "{refusal}").expect(&rt, MEMORY);
         same_text(&rt, wanted, text.as_str(), wanted);
     }
@@ -313,7 +308,7 @@ fn each_gives<R: Abort + AllocGlobal>(rt: &R, wanted: &str, lines: &str) {
 }
 
 /// What command lines ask for, and these lines.
-const ACCEPTED: [(&str, &str); 7] = [
+static ACCEPTED: [(&str, &str); 7] = [
     (
         "Args { tenants: \"t\", pool: 256, workers: 4, strict: false, verbose: false, journal: false, times: false, mode: Script(\"s\") }",
         "mwserve --tenants t --script s",
@@ -346,13 +341,13 @@ const ACCEPTED: [(&str, &str); 7] = [
 
 #[test]
 fn command_lines_that_are_accepted(rt: HostRuntime) {
-    for (wanted, line) in ACCEPTED {
+    for (wanted, line) in &ACCEPTED {
         each_gives(&rt, wanted, line);
     }
 }
 
 /// The texts of rules of the options, and command lines that break them, one a line. Others are refused.
-const REFUSED: [(&str, &str); 8] = [
+static REFUSED: [(&str, &str); 8] = [
     (
         "mwserve: refused 1 command\nmwserve: give exactly one of --listen and --script",
         "\
@@ -443,7 +438,7 @@ mwserve --tenants t --script s more";
 
 #[test]
 fn command_lines_that_break_a_rule(rt: HostRuntime) {
-    for (wanted, lines) in REFUSED {
+    for (wanted, lines) in &REFUSED {
         each_gives(&rt, wanted, lines);
     }
 }

@@ -11,7 +11,10 @@ pub(crate) fn same<R: Abort, T: Debug + PartialEq>(
     found: &T,
     wanted: &T,
 ) {
-    assert_eq!(rt; found, wanted, "{row}, at {at}");
+    assert!(rt;
+        *found == *wanted,
+        "{row}, at {at}: {found:?} in place of {wanted:?}"
+    );
 }
 
 /// What a test says if memory is refused.

@@ -1,43 +1,62 @@
 //! Tests how a table (array of shared atomic words) is made: of a world in memory, and at a start.
-ghost use Rattle.std.specs.Prelude.{◌≡◌, [], ◌∷◌, ℕ, IfOk, None, Some, Vec};
+ghost use Rattle.std.specs.Prelude.{◌≡◌, ◌≤◌, [], ◌∷◌, ℕ, IfOk, None, Some, Vec};
 ghost use Rattle.std.specs.declared.alloc.Global.{Global};
 ghost use Rattle.mw_world.specs.Definition.State.{tenant_at, tenants_of};
+ghost use Rattle.mw_simulator.specs.Events.{IsAfterRun};
 ghost use Rattle.mw_core.specs.FromTable.{IsOf, config_of};
 
 use crate::two_tenants::two_tenants;
 use crate::world_table::of_world;
 use crate::worlds::{config, new_world};
+use mw_actor::Actor;
 use mw_core::{FileOpening, Pass, Shared};
+use mw_simulator::World;
 use mw_table::RunBefore;
-use mw_words::{At, Door};
+use mw_words::At;
 use std::alloc::{AllocError, Global};
 
+// Bits of a door that counts no slot, written out by hand: of a file that is open, and of one that has failed.
+const SOUND: u64 = 0;
+
+const FAULTY: u64 = 0x8000_0000_0000_0000;
+
+/// Gives how many places for a request there are.
+fn places_of(actors: Vec<Option<Actor>>) -> usize {
+    actors.len()
+}
+
 /// Gives what the passes of a new world's table find at its door and at its gate, before they meet. Gives
-/// None if there isn't an idle pass and a place for a request for each worker, or if memory is refused.
-fn found_in_a_new_world(alloc: Global) -> Option<[u64; 2]> {
-    let world = new_world(alloc, config(1, 2, 1))?;
-    let Ok((shared, mut passes, actors)) = of_world(alloc, &world, &RunBefore::none()) else {
+/// None if there isn't an idle pass and a place for a request for each of two workers, or if memory is refused.
+fn found_in(alloc: Global, world: &World) -> Option<[u64; 2]>
+    requires new { IsAfterRun world.now [] }
+    requires pool { world.now.config.pool ≡ 1 }
+    requires tenants { 1 ≤ tenants_of world.now.config }
+{
+    let Ok((shared, mut passes, actors)) = of_world(alloc, world, &RunBefore::none()) else {
         return None;
     };
+    let places = places_of(actors);
     let mut other = passes.pop()?;
     let mut one = passes.pop()?;
     let door = shared.figure(&mut one, At::Door(0));
     let gate = shared.figure(&mut other, At::Gate(0));
     shared.meet(&mut one, &mut other);
-    if one.idle() && other.idle() && passes.is_empty() && actors.len() == 2 {
+    if one.idle() && other.idle() && passes.is_empty() && places == 2 {
         Some([door, gate])
     } else {
         None
     }
 }
 
+/// Gives the same of a new world of one word and one slot.
+fn found_in_a_new_world(alloc: Global) -> Option<[u64; 2]> {
+    let world = new_world(alloc, config(1, 2, 1))?;
+    found_in(alloc, &world)
+}
+
 #[test]
 fn a_new_world_in_a_table(rt: HostRuntime) {
-    let door = Door {
-        used: 0,
-        fault: false,
-    };
-    assert!(rt; found_in_a_new_world(rt.alloc()) == Some([door.pack(), 0]));
+    assert!(rt; found_in_a_new_world(rt.alloc()) == Some([SOUND, 0]));
 }
 
 /// What the tenants' files gave: the first has the word 7, the other didn't open.
@@ -103,13 +122,5 @@ fn found_at_a_start(alloc: Global) -> Option<[u64; 4]> {
 
 #[test]
 fn a_fresh_table(rt: HostRuntime) {
-    let sound = Door {
-        used: 0,
-        fault: false,
-    };
-    let failed = Door {
-        used: 0,
-        fault: true,
-    };
-    assert!(rt; found_at_a_start(rt.alloc()) == Some([sound.pack(), failed.pack(), 7, 0]));
+    assert!(rt; found_at_a_start(rt.alloc()) == Some([SOUND, FAULTY, 7, 0]));
 }

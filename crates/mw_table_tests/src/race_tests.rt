@@ -10,13 +10,13 @@ ghost use Rattle.mw_table_tests.specs.Reached.{IsReached};
 ghost use Rattle.mw_table_tests.specs.Readers.{MayRead};
 
 use crate::world_table::{of_world, run_before};
-use crate::worlds::{MANY_STEPS, change_one, change_two, come, config, new_world, play_to, step};
+use crate::worlds::{MANY_STEPS, Move, config, played};
 use mw_actor::Actor;
 use mw_core::{Advance, Core, Pass};
 use mw_look::Kind;
 use mw_simulator::World;
 use mw_table::RunBefore;
-use mw_words::{At, Door, Gate, Job, Reply, Status, Word};
+use mw_words::{At, Job, Reply};
 use std::alloc::Global;
 use std::thread::{Threads, join};
 
@@ -142,20 +142,16 @@ fn drive_both<R: Threads + Sync>(rt: &R, core: &Core, one: Side, two: Side) -> (
     join(rt, || drive(core, one), || drive(core, two))
 }
 
-/// Makes a world of one word and one slot. Worker 0 has changed the word, and is about to give back its pin
-/// of the slot. Worker 1 reads the word, and is about to pin the slot. Gives None if it can't be played so.
-fn before_unpin(alloc: Global) -> Option<World>
-    ensures reached { IfSome result IsReached }
-    ensures config { IfSome result (λ world. world.config.pool ≡ 1) }
-{
-    let world = new_world(alloc, config(1, 2, 1))?;
-    let world = come(world, 0, change_one(1))?;
-    let world = play_to(world, 0, Kind::Resolve)?;
-    let world = step(world, 0)?;
-    let world = come(world, 1, Job::Get(0))?;
-    let world = play_to(world, 1, Kind::Pin)?;
-    play_to(world, 0, Kind::Unpin)
-}
+/// What leads to a race to a pin, in a world of one word and one slot. Worker 0 has changed the word, and is about to
+/// give back its pin of the slot. Worker 1 reads the word, and is about to pin the slot.
+static BEFORE_UNPIN: [(u8, Move); 6] = [
+    (0, Move::Change(1, 1)),
+    (0, Move::To(Kind::Resolve)),
+    (0, Move::Step),
+    (1, Move::Read),
+    (1, Move::To(Kind::Pin)),
+    (0, Move::To(Kind::Unpin)),
+];
 
 /// Tells whether the writer has YES, the reader has VAL 1, the slot is free under its next number, and no
 /// slot is in use.
@@ -165,27 +161,27 @@ fn pin_raced(core: &Core, mut wrote: Driven, read: Driven) -> bool
 {
     let gate = core.shared().figure(&mut wrote.pass, At::Gate(0));
     let door = core.shared().figure(&mut wrote.pass, At::Door(0));
-    let free = Gate {
-        taken: false,
-        pins: 0,
-        seq: 1,
-    };
-    let unused = Door {
-        used: 0,
-        fault: false,
-    };
     let replies = wrote.reply == Some(Reply::Yes) && read.reply == Some(Reply::Val(1));
-    replies && gate == free.pack() && door == unused.pack()
+    // The slot is free under its next number, 1, and the door counts none.
+    replies && gate == 1 && door == 0
 }
 
-/// Tells whether a race to a pin ends as it must.
-fn pin_race_ends<R: Threads + Sync>(rt: &R, alloc: Global) -> Option<bool> {
-    let world = before_unpin(alloc)?;
-    let Opened { core, passes, run } = open(alloc, &world)?;
-    let (writer, reader) = both(&core, &world, &run, passes)?;
+/// Tells whether a race to a pin ends as it must, from this world on.
+fn pin_race_from<R: Threads + Sync>(rt: &R, alloc: Global, world: &World) -> Option<bool>
+    requires reached { IsReached world.now }
+    requires pool { world.now.config.pool ≡ 1 }
+{
+    let Opened { core, passes, run } = open(alloc, world)?;
+    let (writer, reader) = both(&core, world, &run, passes)?;
     let (wrote, read) = drive_both(rt, &core, writer, reader);
     let ends = pin_raced(&core, wrote, read);
     Some(ends)
+}
+
+/// Plays the world before that race, and tells whether the race ends as it must.
+fn pin_race_ends<R: Threads + Sync>(rt: &R, alloc: Global) -> Option<bool> {
+    let world = played(alloc, config(1, 2, 1), &BEFORE_UNPIN)?;
+    pin_race_from(rt, alloc, &world)
 }
 
 #[test]
@@ -195,19 +191,23 @@ fn pin_race(rt: HostRuntime) {
     }
 }
 
-/// Makes a world of two words and three slots. Worker 0 is about to attempt to hold word 0 for a change of
-/// both words, worker 1 for a change of word 0 alone. Gives None if it can't be played so.
+/// What leads to a race to hold a word, in a world of two words and three slots. Worker 0 is about to attempt to hold
+/// word 0 for a change of both words, worker 1 for a change of word 0 alone.
+static BEFORE_PLANTS: [(u8, Move); 4] = [
+    (0, Move::Change(2, 1)),
+    (0, Move::To(Kind::Plant)),
+    (1, Move::Change(1, 2)),
+    (1, Move::To(Kind::Plant)),
+];
+
+/// Makes the world before that race. Gives None if it can't be played so.
 fn before_plants(alloc: Global) -> Option<World>
     ensures reached { IfSome result IsReached }
     ensures pool { IfSome result (λ world. world.config.pool ≡ 3) }
     ensures words { IfSome result (λ world. (tenant_at world.config 0).words ≡ 2) }
     ensures tenants { IfSome result (λ world. 1 ≤ tenants_of world.config) }
 {
-    let world = new_world(alloc, config(3, 3, 2))?;
-    let world = come(world, 0, change_two(1))?;
-    let world = play_to(world, 0, Kind::Plant)?;
-    let world = come(world, 1, change_one(2))?;
-    play_to(world, 1, Kind::Plant)
+    played(alloc, config(3, 3, 2), &BEFORE_PLANTS)
 }
 
 /// Loads the gates and the statuses of slots 0 and 1, and words 0 and 1.
@@ -239,43 +239,26 @@ fn figures(core: &Core, pass: &mut Pass) -> [u64; 6]
     ]
 }
 
-/// Gives the bits of the gate of a slot in use, under its first number.
-fn pinned(pins: u16) -> u64
-    requires { pins ≤ 2 }
-{
-    let gate = Gate {
-        taken: true,
-        pins,
-        seq: 0,
-    };
-    gate.pack()
-}
+// Bits of words, written out by hand: the gate of a slot in use, under its first number, statuses, and a word that is
+// held for the change of slot 0 or 1.
+const ONE_PIN: u64 = 0x8001_0000_0000_0000;
 
-/// The figures if worker 0's change is decided: it holds both words, and worker 1 has pinned it.
-fn first_decided() -> [u64; 6] {
-    let held = Word::Held { slot: 0, seq: 0 };
-    [
-        pinned(2),
-        pinned(1),
-        Status::YesDirty.pack(),
-        Status::Open.pack(),
-        held.pack(),
-        held.pack(),
-    ]
-}
+const TWO_PINS: u64 = 0x8002_0000_0000_0000;
 
-/// The figures if worker 1's change is decided: it holds word 0, and worker 0 has pinned it.
-fn second_decided() -> [u64; 6] {
-    let held = Word::Held { slot: 1, seq: 0 };
-    [
-        pinned(1),
-        pinned(2),
-        Status::Open.pack(),
-        Status::YesDirty.pack(),
-        held.pack(),
-        Word::Plain(0).pack(),
-    ]
-}
+const OPEN: u64 = 0x1000_0000_0000_0000;
+
+const YES_DIRTY: u64 = 0x2000_0000_0000_0000;
+
+const HELD_FOR_0: u64 = 0x8000_0000_0000_0000;
+
+const HELD_FOR_1: u64 = 0x8001_0000_0000_0000;
+
+/// The figures if worker 0's change is decided: it holds both words, and worker 1 has pinned it. Then those if worker
+/// 1's change is decided: it holds word 0, and worker 0 has pinned it.
+static DECIDED: [[u64; 6]; 2] = [
+    [TWO_PINS, ONE_PIN, YES_DIRTY, OPEN, HELD_FOR_0, HELD_FOR_0],
+    [ONE_PIN, TWO_PINS, OPEN, YES_DIRTY, HELD_FOR_1, 0],
+];
 
 /// Tells whether both threads stopped at the seal of the same change.
 fn plants_raced(core: &Core, mut one: Driven, two: Driven) -> bool
@@ -285,7 +268,7 @@ fn plants_raced(core: &Core, mut one: Driven, two: Driven) -> bool
 {
     let stopped = one.end == Advance::NeedsFile && two.end == Advance::NeedsFile;
     let found = figures(core, &mut one.pass);
-    stopped && (found == first_decided() || found == second_decided())
+    stopped && (found == DECIDED[0] || found == DECIDED[1])
 }
 
 /// Takes the last of the passes, if it is worker 2's and idle.
@@ -339,21 +322,31 @@ fn reads_zeros(core: &Core, mut pass: Pass, quota: u8) -> bool
     first == Reply::Val(0) && second == Some(Reply::Val(0))
 }
 
-/// Tells whether a race to hold a word ends as it must. Worker 2 has no request until both threads have
-/// stopped. Then it reads both words, which have their old values until a change is sealed.
-fn plant_race_ends<R: Threads + Sync>(rt: &R, alloc: Global) -> Option<bool> {
-    let world = before_plants(alloc)?;
+/// Tells whether a race to hold a word ends as it must, from this world on. Worker 2 has no request until both threads
+/// have stopped. Then it reads both words, which have their old values until a change is sealed.
+fn plant_race_from<R: Threads + Sync>(rt: &R, alloc: Global, world: &World) -> Option<bool>
+    requires reached { IsReached world.now }
+    requires pool { world.now.config.pool ≡ 3 }
+    requires words { (tenant_at world.now.config 0).words ≡ 2 }
+    requires tenants { 1 ≤ tenants_of world.now.config }
+{
     let Opened {
         core,
         mut passes,
         run,
-    } = open(alloc, &world)?;
-    let reader = take_idle(&core, &world, &run, &mut passes)?;
-    let (first, second) = both(&core, &world, &run, passes)?;
+    } = open(alloc, world)?;
+    let reader = take_idle(&core, world, &run, &mut passes)?;
+    let (first, second) = both(&core, world, &run, passes)?;
     let (one, two) = drive_both(rt, &core, first, second);
-    let reads = reads_zeros(&core, reader, quota_of(&world));
+    let reads = reads_zeros(&core, reader, quota_of(world));
     let ends = plants_raced(&core, one, two);
     Some(reads && ends)
+}
+
+/// Plays the world before that race, and tells whether the race ends as it must.
+fn plant_race_ends<R: Threads + Sync>(rt: &R, alloc: Global) -> Option<bool> {
+    let world = before_plants(alloc)?;
+    plant_race_from(rt, alloc, &world)
 }
 
 #[test]

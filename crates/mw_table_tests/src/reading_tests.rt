@@ -1,5 +1,5 @@
 //! Tests a read that begins again. One thread makes its steps, and those of a change beside it.
-ghost use Rattle.std.specs.Prelude.{◌≡◌, true, IfSome};
+ghost use Rattle.std.specs.Prelude.{◌≡◌, true};
 ghost use Rattle.mw_words.specs.declared.jobs.Job.TheVariants.{Get};
 ghost use Rattle.mw_core.specs.FromTable.{IsCarried, IsOf};
 ghost use Rattle.mw_core.specs.ReadRounds.{IsLook};
@@ -7,7 +7,7 @@ ghost use Rattle.mw_table_tests.specs.Reached.{IsReached};
 ghost use Rattle.mw_table_tests.specs.ReadRequests.{IsReading};
 
 use crate::race_tests::{Opened, Side, both, open};
-use crate::worlds::{change_one, come, config, new_world, play_to, step};
+use crate::worlds::{Move, config, played};
 use mw_actor::{Actor, Point};
 use mw_core::Core;
 use mw_look::{Kind, Op, Point as LookPoint};
@@ -15,20 +15,17 @@ use mw_simulator::World;
 use mw_words::{At, Job, Reply};
 use std::alloc::Global;
 
-/// Makes a world of one word and one slot. Worker 0 has planted an attempt to hold the word for a change,
-/// and is about to hold it. Worker 1 reads the word, has found the attempt and its row, and is about to
-/// load the word again. Gives None if it can't be played so.
-fn before_confirm(alloc: Global) -> Option<World>
-    ensures { IfSome result IsReached }
-{
-    let world = new_world(alloc, config(1, 2, 1))?;
-    let world = come(world, 0, change_one(1))?;
-    let world = play_to(world, 0, Kind::Resolve)?;
-    let world = come(world, 1, Job::Get(0))?;
-    let world = step(world, 1)?;
-    let world = step(world, 1)?;
-    step(world, 1)
-}
+/// What leads to the read, in a world of one word and one slot. Worker 0 has planted an attempt to hold the word for a
+/// change, and is about to hold it. Worker 1 reads the word, has found the attempt and its row, and is about to load
+/// the word again.
+static BEFORE_CONFIRM: [(u8, Move); 6] = [
+    (0, Move::Change(1, 1)),
+    (0, Move::To(Kind::Resolve)),
+    (1, Move::Read),
+    (1, Move::Step),
+    (1, Move::Step),
+    (1, Move::Step),
+];
 
 /// Tells whether a request is a read of tenant 0's word 0 that is about to load it for the second time. The
 /// contract says only that it is a read.
@@ -97,12 +94,19 @@ fn second_reply(core: &Core, mut writer: Side, mut reader: Side) -> Option<Reply
     core.try_look(&mut reader.pass, &mut reader.actor).ok()
 }
 
-/// Gives what a read is told that finds a word with an attempt, and then the word held.
-fn told_at_last(alloc: Global) -> Option<Reply> {
-    let world = before_confirm(alloc)?;
-    let Opened { core, passes, run } = open(alloc, &world)?;
-    let (writer, reader) = both(&core, &world, &run, passes)?;
+/// Gives what a read is told, from this world on, that finds a word with an attempt, and then the word held.
+fn told_from(alloc: Global, world: &World) -> Option<Reply>
+    requires reached { IsReached world.now }
+{
+    let Opened { core, passes, run } = open(alloc, world)?;
+    let (writer, reader) = both(&core, world, &run, passes)?;
     second_reply(&core, writer, reader)
+}
+
+/// Plays the world before that read, and gives what the read is told.
+fn told_at_last(alloc: Global) -> Option<Reply> {
+    let world = played(alloc, config(1, 2, 1), &BEFORE_CONFIRM)?;
+    told_from(alloc, &world)
 }
 
 #[test]

@@ -1,7 +1,7 @@
 //! Plays worlds in memory up to the moment from which threads go on.
 //!
 //! Used by: `making_tests`, `race_tests`, `reading_tests`.
-ghost use Rattle.std.specs.Prelude.{◌≡◌, ◌≤◌, ◌<◌, [], IfSome};
+ghost use Rattle.std.specs.Prelude.{◌≡◌, ◌≤◌, [], IfSome};
 ghost use Rattle.mw_words.specs.declared.limits.TheConstants.{MAX_POOL, MAX_QUOTA, MAX_WORDS, MAX_WORKERS};
 ghost use Rattle.mw_world.specs.Definition.State.{IsConfig, tenant_at, tenants_of};
 ghost use Rattle.mw_simulator.specs.Events.{IsAfterRun};
@@ -56,27 +56,30 @@ pub(crate) fn new_world(alloc: Global, config: Config) -> Option<World>
     }
 }
 
-/// Makes a change of word 0 from 0.
-pub(crate) fn change_one(new: u64) -> Job {
-    let mut entries = Entries::new();
-    entries.push(from_zero(0, new));
-    Job::Cas(entries)
+/// What a worker does before threads go on.
+#[derive(Clone, Copy)]
+pub(crate) enum Move {
+    /// It is asked to change so many words, from word 0 on, from 0 to this value.
+    Change(u16, u64),
+    /// It is asked to read word 0.
+    Read,
+    /// It makes its next step, or its call on its file, which succeeds.
+    Step,
+    /// It makes steps until its next one is a change of this kind.
+    To(Kind),
 }
 
-/// Makes a change of words 0 and 1 from 0.
-pub(crate) fn change_two(new: u64) -> Job {
+/// Makes a change of so many words, from word 0 on, from 0 to this value.
+fn change(words: u16, new: u64) -> Job {
     let mut entries = Entries::new();
-    entries.push(from_zero(0, new));
-    entries.push(from_zero(1, new));
-    Job::Cas(entries)
-}
-
-fn from_zero(addr: u16, new: u64) -> Entry {
-    Entry {
-        addr,
-        expected: 0,
-        new,
+    for addr in 0..words {
+        let _ = entries.try_push(Entry {
+            addr,
+            expected: 0,
+            new,
+        });
     }
+    Job::Cas(entries)
 }
 
 /// Gives the world after an event, and None if the event can't happen.
@@ -91,18 +94,9 @@ fn after(mut world: World, event: Event) -> Option<World>
     }
 }
 
-/// Gives the world after a request came, and None if it can't come.
-pub(crate) fn come(world: World, worker: u8, job: Job) -> Option<World>
-    requires reached { IsReached world }
-    ensures reached { IfSome result IsReached }
-    ensures config { IfSome result (λ next. next.config ≡ world.config) }
-{
-    after(world, Event::Come(worker, 0, job))
-}
-
 /// Gives the world after the next step of the worker's request, or after its call on its file, which
 /// succeeds. Gives None if the event can't happen.
-pub(crate) fn step(mut world: World, worker: u8) -> Option<World>
+fn step(mut world: World, worker: u8) -> Option<World>
     requires reached { IsReached world }
     ensures reached { IfSome result IsReached }
     ensures config { IfSome result (λ next. next.config ≡ world.config) }
@@ -114,9 +108,10 @@ pub(crate) fn step(mut world: World, worker: u8) -> Option<World>
 }
 
 /// Tells whether the next step of a worker's request is a change of this kind.
-fn is_next(world: &World, worker: u8, kind: Kind) -> bool
-    requires { worker < world.now.config.workers }
-{
+fn is_next(world: &World, worker: u8, kind: Kind) -> bool {
+    if worker >= world.config().workers {
+        return false;
+    }
     let Some(actor) = world.actor(worker) else {
         return false;
     };
@@ -125,8 +120,7 @@ fn is_next(world: &World, worker: u8, kind: Kind) -> bool
 
 /// Gives the world in which a worker's request has come to a step of a kind, and None if it doesn't come
 /// there.
-pub(crate) fn play_to(mut world: World, worker: u8, kind: Kind) -> Option<World>
-    requires worker { worker < world.config.workers }
+fn play_to(mut world: World, worker: u8, kind: Kind) -> Option<World>
     requires reached { IsReached world }
     ensures reached { IfSome result IsReached }
     ensures config { IfSome result (λ next. next.config ≡ world.config) }
@@ -138,4 +132,33 @@ pub(crate) fn play_to(mut world: World, worker: u8, kind: Kind) -> Option<World>
         world = step(world, worker)?;
     }
     None
+}
+
+/// Gives the world after a worker has done this, and None if it can't.
+fn moved(world: World, worker: u8, what: Move) -> Option<World>
+    requires reached { IsReached world }
+    ensures reached { IfSome result IsReached }
+    ensures config { IfSome result (λ next. next.config ≡ world.config) }
+{
+    let job = match what {
+        Move::Change(words, new) => change(words, new),
+        Move::Read => Job::Get(0),
+        Move::Step => return step(world, worker),
+        Move::To(kind) => return play_to(world, worker, kind),
+    };
+    after(world, Event::Come(worker, 0, job))
+}
+
+/// Plays a new world of one tenant, in which each of these workers does this. Gives None if one of them can't, or
+/// memory is refused.
+pub(crate) fn played(alloc: Global, config: Config, moves: &[(u8, Move)]) -> Option<World>
+    requires { IsConfig config }
+    ensures reached { IfSome result IsReached }
+    ensures config { IfSome result (λ world. world.config ≡ config) }
+{
+    let mut world = new_world(alloc, config)?;
+    for (worker, what) in moves {
+        world = moved(world, *worker, *what)?;
+    }
+    Some(world)
 }

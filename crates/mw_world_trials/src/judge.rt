@@ -1,7 +1,7 @@
 //! Gives a tenant's marks to a store alone (the reference model), and compares its replies and words with the
 //! world's.
 //!
-//! Used by: `run`.
+//! Used by: `run`, `stale_helper_tests`.
 ghost use Rattle.std.specs.Prelude.{◌<◌, length};
 
 use crate::fault::Fault;
@@ -119,16 +119,21 @@ impl Alone {
         let words = world.config().tenants[usize::from(tenant)].words;
         for address in 0..words {
             let word = Word::unpack(world.word(At::Data { tenant, address }));
-            let request = self.asked;
-            self.mark(Mark::Ask(request, Job::Get(address)))?;
-            self.mark(Mark::Look(request))?;
-            match self.mark(Mark::Reply(request))? {
+            match self.read(address)? {
                 Some(Reply::Val(value)) if word == Some(Word::Plain(value)) => {}
                 Some(Reply::Val(_)) => return Err(Fault::Word),
                 _ => return Err(Fault::Reply),
             }
         }
         Ok(())
+    }
+
+    /// Gives the store's reply to a read of a word.
+    fn read(&mut self, address: u16) -> Result<Option<Reply>, Fault> {
+        let request = self.asked;
+        self.mark(Mark::Ask(request, Job::Get(address)))?;
+        self.mark(Mark::Look(request))?;
+        self.mark(Mark::Reply(request))
     }
 
     /// Gives the marks to the store. Gives the replies that it hands out.

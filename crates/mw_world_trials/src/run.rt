@@ -11,7 +11,7 @@ use crate::jobs::{job, stops};
 use crate::judge::{Handed, judge};
 use crate::larger::past::update_of;
 use crate::larger::seen::Seen;
-use crate::shares::{Share, first_shares, quotas_alone, shares_after};
+use crate::shares::{Share, first_shares, is_gift, quotas_alone, shares_after};
 use mw_look::Op;
 use mw_simulator::{World, WorldFault};
 use mw_words::{At, Door};
@@ -29,6 +29,17 @@ pub(crate) struct Tally {
     pub(crate) refusals: u64,
     /// How many times a start gave new quotas.
     pub(crate) gifts: u64,
+}
+
+/// How all stopped and started again.
+#[derive(Clone, Copy)]
+enum Stopped {
+    /// As the dice chose.
+    AsChosen,
+    /// With the quotas that the dice chose, and nothing cut off.
+    Plainly,
+    /// Not at all: it can't be.
+    Never,
 }
 
 /// A world, what it has handed out, and what is seen of it.
@@ -136,50 +147,74 @@ impl Run {
     fn restart(&mut self, dice: &mut Dice) -> Result<(), Fault> {
         let stops = stops(self.alloc, dice, self.world.config())?;
         let pool = self.world.config().pool;
-        let Some(shares) = shares_after(self.alloc, &self.shares, &stops, pool)? else {
-            return self.refuse(stops);
-        };
-        self.start(stops)?;
-        self.shares = shares;
+        match shares_after(self.alloc, &self.shares, &stops, pool)? {
+            Some(shares) => {
+                self.shares = shares;
+                self.start(stops)?;
+                self.look_at_start()
+            }
+            None => self.refuse(stops),
+        }
+    }
+
+    /// Compares the world after a start with stores alone. If it is watched, it records the start in what is seen
+    /// instead, where the quotas must be those that the start was given.
+    fn look_at_start(&mut self) -> Result<(), Fault> {
         if !self.is_watched {
             return self.judge(true);
         }
         self.seen.start(&self.world)?;
+        if self.has_quotas() {
+            Ok(())
+        } else {
+            Err(Fault::Quota)
+        }
+    }
+
+    /// Tells whether each tenant is seen to have the quota that the last start gave it.
+    fn has_quotas(&self) -> bool {
         for (tenant, share) in self.shares.iter().enumerate() {
             match self.seen.shares.get(tenant) {
                 Some(found) if found.quota == share.quota => {}
-                _ => return Err(Fault::Quota),
+                _ => return false,
             }
         }
-        Ok(())
+        true
     }
 
     /// Stops and starts all again with these quotas, which fit, and as the dice choose if that can be.
     fn start(&mut self, stops: Vec<Stop>) -> Result<(), Fault> {
-        let mut is_gift = false;
-        for stop in &stops {
-            is_gift = is_gift || stop.quota.is_some();
+        let gift = u64::from(is_gift(&stops));
+        self.tally.gifts = self.tally.gifts.saturating_add(gift);
+        match self.stop(stops)? {
+            Stopped::AsChosen => {
+                self.tally.interruptions = self.tally.interruptions.saturating_add(1);
+                Ok(())
+            }
+            Stopped::Plainly => Ok(()),
+            Stopped::Never => Err(Fault::Stuck),
         }
-        if is_gift {
-            self.tally.gifts = self.tally.gifts.saturating_add(1);
-        }
+    }
+
+    /// Stops and starts all again as the dice choose, or, if that can't be, with the quotas alone, if these can be.
+    fn stop(&mut self, stops: Vec<Stop>) -> Result<Stopped, Fault> {
         let quotas = quotas_alone(self.alloc, &stops)?;
         if self.may(Event::Restart(stops))? {
-            self.tally.interruptions = self.tally.interruptions.saturating_add(1);
-            return Ok(());
+            return Ok(Stopped::AsChosen);
         }
-        self.must(Event::Restart(quotas))
+        if self.may(Event::Restart(quotas))? {
+            Ok(Stopped::Plainly)
+        } else {
+            Ok(Stopped::Never)
+        }
     }
 
     /// Checks that quotas that don't fit are refused, whatever else is given, and the world is unchanged. A world
     /// that is watched is seen anew.
     fn refuse(&mut self, stops: Vec<Stop>) -> Result<(), Fault> {
-        let quotas = quotas_alone(self.alloc, &stops)?;
         let before = self.fingerprint()?;
-        if self.may(Event::Restart(stops))? || self.may(Event::Restart(quotas))? {
-            return Err(Fault::Taken);
-        }
-        if self.fingerprint()? != before {
+        let is_taken = !matches!(self.stop(stops)?, Stopped::Never);
+        if is_taken || self.fingerprint()? != before {
             return Err(Fault::Taken);
         }
         self.tally.refusals = self.tally.refusals.saturating_add(1);

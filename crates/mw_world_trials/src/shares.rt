@@ -80,3 +80,13 @@ pub(crate) fn quotas_alone(alloc: Global, stops: &[Stop]) -> Result<Vec<Stop>, A
     }
     Ok(alone)
 }
+
+/// Tells whether some of these stops gives a quota.
+pub(crate) fn is_gift(stops: &[Stop]) -> bool {
+    for stop in stops {
+        if stop.quota.is_some() {
+            return true;
+        }
+    }
+    false
+}

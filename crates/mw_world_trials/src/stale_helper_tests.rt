@@ -1,12 +1,12 @@
 //! Tests a stale helper: it plants its attempt after another change has come and gone. The events of that
 //! schedule are given to a world, and the tenant's marks to a new store alone.
-ghost use Rattle.std.specs.Prelude.{◌≡◌, ◌<◌, length};
+ghost use Rattle.std.specs.Prelude.{◌≡◌, length};
 ghost use Rattle.mw_world.specs.Definition.State.{IsConfig};
 
 use crate::checks::{fail, holds};
 use crate::fault::Fault;
+use crate::judge::{Handed, judge};
 use arrayvec::ArrayVec;
-use mw_lone::Lone;
 use mw_look::{Kind, Op};
 use mw_simulator::World;
 use mw_words::{Entries, Entry, Job, Name, Reply};
@@ -145,19 +145,23 @@ impl Plan {
 
     /// Makes the events of what a worker does.
     fn follow(&mut self, worker: u8, what: Move) -> Result<(), Fault> {
-        let job = match what {
-            Move::Change(first, second) => change(first, second),
-            Move::Get(addr) => Job::Get(addr),
-            Move::Before(kind) => return self.until(worker, Some(kind)),
+        match what {
+            Move::Change(first, second) => self.ask(worker, change(first, second)),
+            Move::Get(addr) => self.ask(worker, Job::Get(addr)),
+            Move::Before(kind) => self.until(worker, Some(kind)),
             Move::To(kind) => {
                 self.until(worker, Some(kind))?;
-                return self.go_on(worker);
+                self.go_on(worker)
             }
             Move::End => {
                 self.until(worker, None)?;
-                return self.make(Event::Hand(worker), Event::Hand(worker));
+                self.make(Event::Hand(worker), Event::Hand(worker))
             }
-        };
+        }
+    }
+
+    /// Makes a request come.
+    fn ask(&mut self, worker: u8, job: Job) -> Result<(), Fault> {
         let again = job.copy();
         self.make(Event::Come(worker, 0, job), Event::Come(worker, 0, again))
     }
@@ -175,44 +179,42 @@ fn late_plant(alloc: Global) -> Result<Vec<Event>, Fault> {
     Ok(plan.events)
 }
 
-/// Gives the replies that a store alone hands out for a tenant's marks.
-fn replies_of(alloc: Global, world: &World) -> Result<Vec<Reply>, Fault>
-    requires { 0 < length world.now.config.tenants.items }
-{
-    let mut lone = Lone::new(alloc, &[0, 0], 3, false)?;
-    let mut replies = Vec::new(alloc);
-    for mark in world.marks(0)? {
-        if let Some(reply) = lone.mark(mark)? {
-            if replies.push(reply).is_err() {
-                return Err(Fault::Memory);
-            }
-        }
-    }
-    Ok(replies)
-}
+/// The replies of the schedule's requests.
+static REPLIES: [Handed; 4] = [
+    Handed {
+        tenant: 0,
+        reply: Reply::Yes,
+    },
+    Handed {
+        tenant: 0,
+        reply: Reply::Yes,
+    },
+    Handed {
+        tenant: 0,
+        reply: Reply::No(0, 1),
+    },
+    Handed {
+        tenant: 0,
+        reply: Reply::Val(0),
+    },
+];
 
-/// Runs the events of the schedule in a new world. Tells whether worker 0 has made two attempts and each other one has
-/// made one, and what a store alone replies.
-fn left_by_late_plant(alloc: Global) -> Result<(bool, Vec<Reply>), Fault> {
+/// Runs the events of the schedule in a new world. A store alone must hand out these replies. Tells whether worker 0
+/// has made two attempts, and each other one has made one.
+fn runs_late_plant(alloc: Global) -> Result<bool, Fault> {
     let events = late_plant(alloc)?;
     let mut world = World::new(alloc, world_of_three())?;
     if let Err((_, fault)) = world.run(&events) {
         return Err(Fault::from(fault));
     }
-    let are_so = world.attempt(0) == 2 && world.attempt(1) == 1 && world.attempt(2) == 1;
-    Ok((are_so, replies_of(alloc, &world)?))
+    judge(alloc, &world, 0, 3, &REPLIES, false)?;
+    Ok(world.attempt(0) == 2 && world.attempt(1) == 1 && world.attempt(2) == 1)
 }
-
-/// The replies of the schedule's requests.
-static REPLIES: [Reply; 4] = [Reply::Yes, Reply::Yes, Reply::No(0, 1), Reply::Val(0)];
 
 #[test]
 fn late_finisher(rt: HostRuntime) {
-    match left_by_late_plant(rt.alloc()) {
-        Ok((are_so, replies)) => {
-            holds(&rt, "attempts", 0, are_so);
-            holds(&rt, "replies", 0, replies.as_slice() == REPLIES.as_slice());
-        }
+    match runs_late_plant(rt.alloc()) {
+        Ok(are_so) => holds(&rt, "attempts", 0, are_so),
         Err(fault) => fail(&rt, 0, fault),
     }
 }

@@ -20,15 +20,25 @@ const MANY_EVENTS: u64 = 5_000;
 
 /// Plays so many events that this seed chooses, and compares the world with a store alone. Adds what happened
 /// to what happened in other trials.
-fn play(alloc: Global, seed: u64, events: u64, tally: Tally) -> Result<Tally, Fault> {
+fn play(alloc: Global, seed: u64, events: u64, tally: &mut Tally) -> Result<(), Fault> {
     let mut dice = Dice::new(seed);
     let mut run = Run::new(alloc, small_world(&mut dice), false)?;
-    run.tally = tally;
+    make_events(&mut run, &mut dice, events, tally)
+}
+
+/// Makes the events of a run, and compares its world with a store alone.
+fn make_events(
+    run: &mut Run,
+    dice: &mut Dice,
+    events: u64,
+    tally: &mut Tally,
+) -> Result<(), Fault> {
+    run.tally = *tally;
     for _ in 0..events {
-        run.go_on(&mut dice)?;
+        run.go_on(dice)?;
     }
-    run.judge(false)?;
-    Ok(run.tally)
+    *tally = run.tally;
+    run.judge(false)
 }
 
 /// In so many trials there were many interruptions, failures, refusals and gifts.
@@ -49,9 +59,8 @@ fn has_many<R: Abort>(rt: &R, trials: u64, tally: Tally) {
 fn play_all<R: Abort + AllocGlobal>(rt: &R, trials: u64, events: u64) {
     let mut tally = Tally::default();
     for seed in 0..trials {
-        match play(rt.alloc(), seed, events, tally) {
-            Ok(sum) => tally = sum,
-            Err(fault) => fail(rt, seed, fault),
+        if let Err(fault) = play(rt.alloc(), seed, events, &mut tally) {
+            fail(rt, seed, fault);
         }
     }
     has_many(rt, trials, tally);

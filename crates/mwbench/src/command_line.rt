@@ -2,9 +2,9 @@
 //!
 //! Used by: `run`. docs/BENCH tells the options and their limits: change both together.
 use arrayvec::ArrayVec;
+use clap::ArgMatches;
 use clap::builder::ValueParser;
-use clap::{Arg, ArgAction, ArgMatches, Command};
-use mw_main::VERSION;
+use mw_command_line::{Argument, CommandLine, FLAG, TEXT};
 use mw_words::{MAX_ENTRIES, Name};
 use std::alloc::{AllocError, Global};
 
@@ -46,20 +46,28 @@ pub struct Settings {
 ///
 /// Clap's, with the text to show; also if help or the version is asked for, or memory was refused.
 pub fn read_args(alloc: Global, args: &[String]) -> Result<Settings, clap::Error> {
-    let matches = command(alloc)?.try_get_matches_from(args)?;
-    let address = matches.get_str("connect").unwrap_or("");
-    let tenant = matches.get_str("tenant").unwrap_or("");
+    let matches = command_line().matches(alloc, args)?;
+    Ok(settings_of(alloc, &matches)?)
+}
+
+/// Gives what the options ask for.
+fn settings_of(alloc: Global, matches: &ArgMatches<'_>) -> Result<Settings, AllocError> {
     Ok(Settings {
-        address: String::from_str(alloc, address)?,
-        tenant: ArrayVec::try_from(tenant.as_bytes()).unwrap_or(ArrayVec::new()),
-        clients: number_of(&matches, "clients"),
-        words: number_of(&matches, "words"),
-        seconds: u64::from(number_of(&matches, "seconds")),
+        address: String::from_str(alloc, matches.get_str("connect").unwrap_or(""))?,
+        tenant: name_of(matches.get_str("tenant").unwrap_or("")),
+        clients: number_of(matches, "clients"),
+        words: number_of(matches, "words"),
+        seconds: u64::from(number_of(matches, "seconds")),
         shared: matches.get_flag("shared"),
-        reads: u64::from(number_of(&matches, "reads")),
-        pipeline: number_of(&matches, "pipeline"),
+        reads: u64::from(number_of(matches, "reads")),
+        pipeline: number_of(matches, "pipeline"),
         json: matches.get_flag("json"),
     })
+}
+
+/// Gives a tenant's name, or none if the text is longer than any is.
+fn name_of(text: &str) -> Name {
+    ArrayVec::try_from(text.as_bytes()).unwrap_or(ArrayVec::new())
 }
 
 /// Gives the number of an option, which its parser has checked.
@@ -67,102 +75,84 @@ fn number_of(matches: &ArgMatches<'_>, name: &str) -> u16 {
     matches.get_one::<u16>(name).unwrap_or(0)
 }
 
-/// What follows an option on the command line.
-#[derive(Clone, Copy)]
-enum Follows {
-    /// Nothing.
-    Nothing,
-    /// A text. The option must be there.
-    Text(&'static str),
-    /// A number from the first to the second. The option must be there.
-    Number(&'static str, u64, u64),
-    /// The same, with the number that it is if the option isn't there.
-    Default(&'static str, u64, u64, &'static str),
-}
-
-/// An option, and what the help tells of it.
-type Opt = (&'static str, Follows, &'static str);
-
-/// The options, in the order of the help.
-static OPTIONS: [Opt; 9] = [
-    (
-        "connect",
-        Follows::Text("ADDR"),
-        "where the server listens: HOST:PORT or unix:PATH",
-    ),
-    (
-        "tenant",
-        Follows::Text("NAME"),
-        "the tenant whose words are changed; nobody else may change them meanwhile",
-    ),
-    (
-        "clients",
-        Follows::Number("1..64", 1, MAX_CLIENTS),
-        "how many clients there are",
-    ),
-    (
-        "words",
-        Follows::Number("1..16", 1, MAX_ENTRIES as u64),
-        "how many words each change has",
-    ),
-    (
-        "seconds",
-        Follows::Number("1..60000", 1, MAX_SECONDS),
-        "for how many seconds they work",
-    ),
-    (
-        "shared",
-        Follows::Nothing,
-        "all clients change the same words, and not each its own",
-    ),
-    (
-        "reads",
-        Follows::Default("0..100", 0, 100, "0"),
-        "how many of a hundred requests are reads",
-    ),
-    (
-        "pipeline",
-        Follows::Default("1..64", 1, MAX_PIPELINE as u64, "1"),
-        "how many lines a client sends before it reads their replies",
-    ),
-    (
-        "json",
-        Follows::Nothing,
-        "write the figures as one JSON object in one line, and no line a second",
-    ),
-];
-
 /// What the help ends with.
 const AFTER_HELP: &str = "\
 Example: mwbench --connect 127.0.0.1:7000 --tenant t --clients 16 --words 2 --seconds 10
 Documents: docs/BENCH.md beside README.md, or below /usr/share/doc/mondlexi";
 
-fn command<'a>(alloc: Global) -> Result<Command<'a>, AllocError> {
-    let mut command = Command::new(alloc, "mwbench")
-        .version(VERSION)
-        .about("Loads a server and measures how long its replies take.")
-        .after_help(AFTER_HELP);
-    for (name, follows, help) in OPTIONS {
-        let arg = Arg::new(alloc, name).long(name).help(help);
-        command = command.arg(with_value(arg, follows))?;
-    }
-    Ok(command)
-}
-
-/// Says what follows an option.
-fn with_value(arg: Arg<'_>, follows: Follows) -> Arg<'_> {
-    match follows {
-        Follows::Nothing => arg.action(ArgAction::SetTrue),
-        Follows::Text(name) => arg.value_name(name).required(true),
-        Follows::Number(name, least, most) => with_number(arg, name, least, most).required(true),
-        Follows::Default(name, least, most, default) => {
-            with_number(arg, name, least, most).default_value(default)
-        }
+/// The command line of `mwbench`.
+pub fn command_line() -> CommandLine {
+    CommandLine {
+        name: "mwbench",
+        about: "Loads a server and measures how long its replies take.",
+        arguments: &ARGUMENTS,
+        after_help: AFTER_HELP,
     }
 }
 
-/// Says that a number from `least` to `most` follows an option.
-fn with_number<'a>(arg: Arg<'a>, name: &'a str, least: u64, most: u64) -> Arg<'a> {
-    arg.value_name(name)
-        .value_parser(ValueParser::unsigned(least, most))
-}
+static ARGUMENTS: [Argument; 9] = [
+    Argument {
+        name: "connect",
+        value: &["ADDR"],
+        is_needed: true,
+        help: "where the server listens: HOST:PORT or unix:PATH",
+        ..TEXT
+    },
+    Argument {
+        name: "tenant",
+        value: &["NAME"],
+        is_needed: true,
+        help: "the tenant whose words are changed; nobody else may change them meanwhile",
+        ..TEXT
+    },
+    Argument {
+        name: "clients",
+        value: &["1..64"],
+        is_needed: true,
+        parser: ValueParser::Unsigned(1, MAX_CLIENTS),
+        help: "how many clients there are",
+        ..TEXT
+    },
+    Argument {
+        name: "words",
+        value: &["1..16"],
+        is_needed: true,
+        parser: ValueParser::Unsigned(1, MAX_ENTRIES as u64),
+        help: "how many words each change has",
+        ..TEXT
+    },
+    Argument {
+        name: "seconds",
+        value: &["1..60000"],
+        is_needed: true,
+        parser: ValueParser::Unsigned(1, MAX_SECONDS),
+        help: "for how many seconds they work",
+        ..TEXT
+    },
+    Argument {
+        name: "shared",
+        help: "all clients change the same words, and not each its own",
+        ..FLAG
+    },
+    Argument {
+        name: "reads",
+        value: &["0..100"],
+        parser: ValueParser::Unsigned(0, 100),
+        usual: &["0"],
+        help: "how many of a hundred requests are reads",
+        ..TEXT
+    },
+    Argument {
+        name: "pipeline",
+        value: &["1..64"],
+        parser: ValueParser::Unsigned(1, MAX_PIPELINE as u64),
+        usual: &["1"],
+        help: "how many lines a client sends before it reads their replies",
+        ..TEXT
+    },
+    Argument {
+        name: "json",
+        help: "write the figures as one JSON object in one line, and no line a second",
+        ..FLAG
+    },
+];

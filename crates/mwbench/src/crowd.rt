@@ -5,6 +5,7 @@ use crate::client::{Asker, Counts, Stop, Task};
 use crate::command_line::Settings;
 use crate::replies::Replies;
 use crate::report::write_filled;
+use std::alloc::{AllocError, Global};
 use std::io::Write;
 use std::sync::atomic::{AtomicBool, AtomicU64, Ordering};
 use std::sync::{Mutex, Wait};
@@ -81,6 +82,18 @@ pub struct Tally {
 }
 
 impl Tally {
+    /// Makes the tally before any client has ended, with room for all.
+    ///
+    /// # Errors
+    ///
+    /// Memory was refused.
+    pub fn new(alloc: Global, settings: &Settings) -> Result<Tally, AllocError> {
+        Ok(Tally {
+            replies: Replies::new(alloc)?,
+            done: Vec::with_capacity(alloc, usize::from(settings.clients))?,
+        })
+    }
+
     /// Adds what a client has done, and why it stopped before its time, if it did.
     fn add(&mut self, asker: &Asker, stop: Option<Stop>) {
         self.replies.add(&asker.replies);

@@ -2,6 +2,7 @@
 //!
 //! Used by: `crowd`, `run`. docs/BENCH tells what is written: change both together.
 use crate::crowd::Tally;
+use crate::latencies::Latencies;
 use std::io::{self, Write};
 
 /// What is written of one kind of reply, after its name, with the figures that `Latencies` gives.
@@ -34,6 +35,17 @@ pub fn write_filled<O: Write>(text: &str, figures: &[u64], out: &mut O) -> io::R
     out.write_all(rest.as_bytes())
 }
 
+/// Writes a name, and after it this text with the figures of one kind of reply.
+fn write_kind<O: Write>(
+    name: &str,
+    text: &str,
+    latencies: &Latencies,
+    out: &mut O,
+) -> io::Result<()> {
+    out.write_all(name.as_bytes())?;
+    write_filled(text, &latencies.figures(), out)
+}
+
 /// Gives what was done in so many seconds: changes a second that were made, words a second that were read, and changes
 /// in the whole time that were answered `NO` or `BUSY`. Each sum is at most `u64::MAX`.
 fn rates_of(tally: &Tally, seconds: u64) -> [u64; 3] {
@@ -53,16 +65,10 @@ fn rates_of(tally: &Tally, seconds: u64) -> [u64; 3] {
 /// `out` failed, perhaps in the midst of a line.
 pub fn report<O: Write>(tally: &Tally, seconds: u64, out: &mut O) -> io::Result<()> {
     let replies = &tally.replies;
-    let kinds = [
-        ("YES", &replies.yes),
-        ("NO", &replies.no),
-        ("BUSY", &replies.busy),
-        ("VAL", &replies.reads),
-    ];
-    for (name, latencies) in kinds {
-        out.write_all(name.as_bytes())?;
-        write_filled(KIND, &latencies.figures(), out)?;
-    }
+    write_kind("YES", KIND, &replies.yes, out)?;
+    write_kind("NO", KIND, &replies.no, out)?;
+    write_kind("BUSY", KIND, &replies.busy, out)?;
+    write_kind("VAL", KIND, &replies.reads, out)?;
     let [changes, reads, refusals] = rates_of(tally, seconds);
     let [_, _, p50, p90, _, p99, p99_9, slowest] = replies.all.figures();
     let figures = [changes, reads, refusals, p50, p90, p99, p99_9, slowest];
@@ -77,16 +83,10 @@ pub fn report<O: Write>(tally: &Tally, seconds: u64, out: &mut O) -> io::Result<
 pub fn report_json<O: Write>(tally: &Tally, seconds: u64, out: &mut O) -> io::Result<()> {
     write_filled(RATES_MEMBERS, &rates_of(tally, seconds), out)?;
     let replies = &tally.replies;
-    let kinds = [
-        (", \"yes", &replies.yes),
-        (", \"no", &replies.no),
-        (", \"busy", &replies.busy),
-        (", \"val", &replies.reads),
-        (", \"all", &replies.all),
-    ];
-    for (name, latencies) in kinds {
-        out.write_all(name.as_bytes())?;
-        write_filled(KIND_OBJECT, &latencies.figures(), out)?;
-    }
+    write_kind(", \"yes", KIND_OBJECT, &replies.yes, out)?;
+    write_kind(", \"no", KIND_OBJECT, &replies.no, out)?;
+    write_kind(", \"busy", KIND_OBJECT, &replies.busy, out)?;
+    write_kind(", \"val", KIND_OBJECT, &replies.reads, out)?;
+    write_kind(", \"all", KIND_OBJECT, &replies.all, out)?;
     out.write_all(b"}\n")
 }

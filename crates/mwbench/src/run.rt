@@ -3,14 +3,12 @@
 //! `mwbench` calls `load`. docs/BENCH tells what it prints and its statuses, and scripts/program_parts/beside.py
 //! expects a text: change them together.
 use crate::client::{Asker, Stop, Task};
-use crate::command_line::{Settings, read_args};
+use crate::command_line::{Settings, command_line, read_args};
 use crate::crowd::{Board, Done, Tally, work_all};
-use crate::replies::Replies;
 use crate::report::{report, report_json};
 use crate::sums::are_sums;
-use clap::error::ErrorKind;
 use mw_client::{Failure, SocketClient, connect};
-use std::alloc::AllocError;
+use std::alloc::{AllocError, Global};
 use std::io::{self, Write};
 use std::net::{Net, TcpStream};
 use std::sync::{Mutex, Wait};
@@ -49,36 +47,15 @@ pub fn load<
 >(rt: &R, args: &[String], out: &mut O, err: &mut E) -> u8 {
     let settings = match read_args(rt.alloc(), args) {
         Ok(settings) => settings,
-        Err(fault) => return refuse(&fault, out, err),
+        Err(fault) => return command_line().tell(&fault, out, err),
     };
-    match run(rt, &settings, out) {
-        Ok(true) => 0,
-        Ok(false) => {
-            let _ = writeln!(
-                err,
-                "mwbench: the words are not the sums of the replies YES"
-            );
-            1
-        }
-        Err(fault) => {
-            let _ = writeln!(err, "mwbench: {}", fault.text());
-            1
-        }
-    }
-}
-
-/// Writes why a command line asks for no run. Gives the exit status.
-fn refuse<O: Write, E: Write>(fault: &clap::Error, out: &mut O, err: &mut E) -> u8 {
-    if fault.kind() == ErrorKind::OutOfMemory {
-        let _ = writeln!(err, "mwbench: {}", LoadFault::Memory.text());
-        return 1;
-    }
-    // The text that clap makes ends with a line feed.
-    if fault.use_stderr() {
-        let _ = write!(err, "{fault}");
-        return 2;
-    }
-    u8::from(write!(out, "{fault}").is_err())
+    let told = match run(rt, &settings, out) {
+        Ok(true) => return 0,
+        Ok(false) => "the words are not the sums of the replies YES",
+        Err(fault) => fault.text(),
+    };
+    let _ = writeln!(err, "mwbench: {told}");
+    1
 }
 
 /// Runs the load. Gives whether the words are right afterwards.
@@ -89,27 +66,38 @@ fn run<R: Net<Stream = TcpStream> + Threads + Wait + Clock + AllocGlobal + Sync,
 ) -> Result<bool, LoadFault> {
     let count = words_needed(settings);
     let before = look(rt, settings, count)?;
-    let askers = begin_all(rt, settings, &before)?;
-    let board = Board::new();
-    let tally = Mutex::new(Tally {
-        replies: Replies::new(rt.alloc())?,
-        done: Vec::with_capacity(rt.alloc(), usize::from(settings.clients))?,
-    });
-    work_all(rt, askers, &board, &tally, settings, out)?;
+    let tally = work_and_report(rt, settings, &before, out)?;
+    let after = look(rt, settings, count)?;
+    Ok(are_sums(&before, &after, &tally.done))
+}
+
+/// Lets the clients work, whose words had these values at first, and writes what they did. Gives it.
+fn work_and_report<
+    R: Net<Stream = TcpStream> + Threads + Wait + Clock + AllocGlobal + Sync,
+    O: Write,
+>(rt: &R, settings: &Settings, before: &[u64], out: &mut O) -> Result<Tally, LoadFault> {
+    let tally = Mutex::new(Tally::new(rt.alloc(), settings)?);
+    let askers = begin_all(rt, settings, before)?;
+    work_all(rt, askers, &Board::new(), &tally, settings, out)?;
     let tally = tally.into_inner();
+    write_all(&tally, settings, out)?;
+    Ok(tally)
+}
+
+/// Writes what all clients have done.
+fn write_all<O: Write>(tally: &Tally, settings: &Settings, out: &mut O) -> Result<(), LoadFault> {
     if tally.done.len() != usize::from(settings.clients) {
         return Err(LoadFault::Memory);
     }
     if settings.json {
-        report_json(&tally, settings.seconds, out)?;
+        report_json(tally, settings.seconds, out)?;
     } else {
-        report(&tally, settings.seconds, out)?;
+        report(tally, settings.seconds, out)?;
     }
-    if let Some(stop) = first_stop(&tally.done) {
-        return Err(LoadFault::Stopped(stop));
+    match first_stop(&tally.done) {
+        Some(stop) => Err(LoadFault::Stopped(stop)),
+        None => Ok(()),
     }
-    let after = look(rt, settings, count)?;
-    Ok(are_sums(&before, &after, &tally.done))
 }
 
 /// Gives how many words the clients change.
@@ -140,7 +128,12 @@ fn look<R: Net<Stream = TcpStream> + AllocGlobal>(
     if client.words < count {
         return Err(LoadFault::FewWords);
     }
-    let mut values = Vec::with_capacity(rt.alloc(), usize::from(count))?;
+    words_of(rt.alloc(), &mut client, count)
+}
+
+/// Reads the first words by this client.
+fn words_of(alloc: Global, client: &mut SocketClient, count: u16) -> Result<Vec<u64>, LoadFault> {
+    let mut values = Vec::with_capacity(alloc, usize::from(count))?;
     for address in 0..count {
         keep(&mut values, client.get(address)?)?;
     }
@@ -155,20 +148,31 @@ fn begin_all<R: Net<Stream = TcpStream> + AllocGlobal>(
 ) -> Result<Vec<Asker>, LoadFault> {
     let mut askers = Vec::with_capacity(rt.alloc(), usize::from(settings.clients))?;
     for number in 0..settings.clients {
-        let task = task_of(settings, number);
-        let mut bases = Vec::with_capacity(rt.alloc(), usize::from(task.words))?;
-        for value in before
-            .iter()
-            .skip(usize::from(task.first))
-            .take(usize::from(task.words))
-        {
-            keep(&mut bases, *value)?;
-        }
-        let client = begin(rt, settings)?;
-        let asker = Asker::new(rt.alloc(), client, task, bases, u64::from(number))?;
-        keep(&mut askers, asker)?;
+        keep(&mut askers, begin_asker(rt, settings, before, number)?)?;
     }
     Ok(askers)
+}
+
+/// Makes the client of this number.
+fn begin_asker<R: Net<Stream = TcpStream> + AllocGlobal>(
+    rt: &R,
+    settings: &Settings,
+    before: &[u64],
+    number: u16,
+) -> Result<Asker, LoadFault> {
+    let task = task_of(settings, number);
+    let bases = bases_of(rt.alloc(), task, before)?;
+    let client = begin(rt, settings)?;
+    Ok(Asker::new(rt.alloc(), client, task, bases, u64::from(number))?)
+}
+
+/// Copies the values of a client's words from those of all words.
+fn bases_of(alloc: Global, task: Task, before: &[u64]) -> Result<Vec<u64>, AllocError> {
+    let first = usize::from(task.first);
+    match before.get(first..first + usize::from(task.words)) {
+        Some(bases) => Vec::from_slice(alloc, bases),
+        None => Ok(Vec::new(alloc)),
+    }
 }
 
 /// Appends one more to the others.

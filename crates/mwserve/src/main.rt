@@ -9,7 +9,9 @@
 mod promise;
 
 use mw_main::{Program, run};
-use mw_programs::{Network, Printed, PromptErrors, ServedApart, ServerEnd, ends_on_failure, serve};
+use mw_programs::{
+    Printed, PromptErrors, ServedApart, ServerEnd, ServerNetwork, ends_on_failure, serve,
+};
 use promise::EngineServes;
 use std::process::ExitCode;
 use std::thread;
@@ -26,12 +28,12 @@ fn main(rt: HostRuntime) -> ExitCode {
     run(&rt, &PROGRAM, |args| {
         if !ends_on_failure(rt.alloc(), args) {
             let mut errors = PromptErrors::new(rt.stderr());
-            let network: Network<'_, HostRuntime, EngineServes> = Network::new(&rt);
+            let network: ServerNetwork<'_, HostRuntime, EngineServes> = ServerNetwork::new(&rt);
             let end = ServerEnd::new();
             let mut out = rt.stdout();
             return serve(
                 &rt,
-                &network,
+                network,
                 args,
                 &mut Printed::new(&mut out),
                 &mut errors,
@@ -42,10 +44,12 @@ fn main(rt: HostRuntime) -> ExitCode {
         if let Ok((apart, end)) = ServedApart::new(rt.alloc(), args) {
             let begun = thread::spawn(&rt, move || {
                 let mut errors = PromptErrors::new(own.stderr());
-                let network: Network<'_, HostRuntime, EngineServes> = Network::new(&own);
+                let network: ServerNetwork<'_, HostRuntime, EngineServes> = ServerNetwork::new(
+                    &own,
+                );
                 let status = serve(
                     &own,
-                    &network,
+                    network,
                     &apart.args,
                     &mut Printed::new(&mut own.stdout()),
                     &mut errors,

@@ -1,21 +1,25 @@
 //! What `mwserve` promises its clients, as a type: `specs/Promised` defines it.
 //!
 //! Used by: `main.rt`, which gives `serve` the network and the console with it. Change it with docs/PROMISES.
-use mw_programs::{Disk, LockedFiles, OpensDisks, PagesPromise, Promise, TenantDisk};
+ghost use Rattle.mw_programs.specs.Promised.{AreShown, PromisesOfStart};
+ghost use Rattle.mwserve.specs.Promised.{IsServed};
+
+use mw_programs::{Disk, LockedFiles, OpensDisks, ServerPromise, TenantDisk};
 
 /// Promises that an engine answers, which was made of the files that a start opened, each at the path of its tenant's line, and what holds
 /// after each reply. It only names the promise: no value of it is made.
 #[derive(Drop)]
 pub struct EngineServes;
 
-impl Promise for EngineServes {
-    ghost use Rattle.mwserve.specs.Promised.{IsServed};
+impl ServerPromise for EngineServes {
+    ghost kept_by = { IsServed ⟦<TenantDisk<'static, HostRuntime> as Disk>⟧.facts ⟦<TenantDisk<'static, HostRuntime> as Disk>⟧.made ⟦<LockedFiles<'static, HostRuntime> as OpensDisks>⟧.is_over ⟦<LockedFiles<'static, HostRuntime> as OpensDisks>⟧.is_refused };
 
-    ghost kept = { IsServed ⟦<TenantDisk<'static, HostRuntime> as Disk>⟧.facts ⟦<TenantDisk<'static, HostRuntime> as Disk>⟧.made ⟦<LockedFiles<'static, HostRuntime> as OpensDisks>⟧.is_over ⟦<LockedFiles<'static, HostRuntime> as OpensDisks>⟧.is_refused };
+    ghost shown_by = { AreShown ⟦<TenantDisk<'static, HostRuntime> as Disk>⟧.facts ⟦<TenantDisk<'static, HostRuntime> as Disk>⟧.made ⟦<LockedFiles<'static, HostRuntime> as OpensDisks>⟧.is_over ⟦<LockedFiles<'static, HostRuntime> as OpensDisks>⟧.is_refused };
 }
 
-impl PagesPromise for EngineServes {
-    ghost use Rattle.mw_programs.specs.Promised.{AreShown};
-
-    ghost shown = { AreShown ⟦<TenantDisk<'static, HostRuntime> as Disk>⟧.facts ⟦<TenantDisk<'static, HostRuntime> as Disk>⟧.made ⟦<LockedFiles<'static, HostRuntime> as OpensDisks>⟧.is_over ⟦<LockedFiles<'static, HostRuntime> as OpensDisks>⟧.is_refused };
-}
+/// What `mwserve` promises is kept by each engine that begins with the files which a start opened, on whichever disks. What holds
+/// after a crash is said of honest disks, and `main` serves on the system's files, of which no contract knows whether they are:
+/// so it is said here for all disks.
+pub fn engines_keep_the_promise<D: Disk, P: OpensDisks<Device = D>>()
+    ensures { PromisesOfStart D.facts D.made P.is_over P.is_refused (IsServed D.facts D.made P.is_over P.is_refused) (AreShown D.facts D.made P.is_over P.is_refused) }
+{}

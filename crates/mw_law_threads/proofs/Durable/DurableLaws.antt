@@ -1,8 +1,9 @@
 -- A crash leaves of a tenant's file the words of the latest start with whole changes put over them. That of a YES is one of
 -- these; any other is there wholly or not at all.
 -- Used by: src/durable_laws.rt.
-use Rattle.std.specs.Prelude.{ℕ, zero, suc, ◌≡◌, ◌<◌, ◌++◌, List, [], ◌∷◌, map, slice_get, Option, Some}
+use Rattle.std.specs.Prelude.{ℕ, zero, suc, ◌≡◌, ◌<◌, ◌++◌, List, [], ◌∷◌, length, map, slice_get, Option, Some, None}
 use Rattle.std.proofs.Common.{refl, sym, ap, subst, ◌∙◌, inl, inr, append_assoc}
+use Rattle.std.proofs.lemmas.List.{ext_get_or}
 use Rattle.std.proofs.lemmas.Option.{none-some}
 use Rattle.atomic_table.specs.Table.{State as Table}
 use Rattle.mw_actor.specs.ActorState.{ActorState}
@@ -17,6 +18,9 @@ use Rattle.mw_look.specs.declared.steps.Call.{Call}
 use Rattle.mw_look.specs.declared.steps.Call.TheVariants.{Prepare as PrepareCall, Seal as SealCall, Settle as SettleCall, Cancel as CancelCall}
 use Rattle.mw_disk.specs.Facts.{Facts}
 use Rattle.mw_record.specs.Layout.{pairs_of}
+use Rattle.mw_file.specs.declared.tenant_file.TenantFile.{TenantFile}
+use Rattle.mw_file.specs.File.{disk_of, states_of}
+use Rattle.mw_file.specs.RecoveryInvariant.{IsBeforeOrAfter}
 use Rattle.mw_world.specs.declared.config.Config.{Config}
 use Rattle.mw_world.specs.Claim.Headline.{IsExecution}
 use Rattle.mw_world.specs.Definition.Calls.{Called as CallOn}
@@ -45,17 +49,20 @@ use Rattle.mw_book.specs.declared.book.Book.{Book}
 use Rattle.mw_book.specs.declared.waiting.Waiting.{Waiting}
 use Rattle.mw_book.specs.Crashes.{LeavesEither}
 use Rattle.mw_book.specs.OpenFile.{FileRecoversTo, OnDisk, disk_in}
-use Rattle.mw_book.proofs.RepresentedFiles.{untouched}
+use Rattle.mw_book.proofs.RepresentedFiles.{leaves_either, untouched}
 use Rattle.mw_core.specs.FromTable.{FileToken, Pass, file_kept}
 use Rattle.mw_table.specs.FromRule.{End, FindsFault, GoesWell, MeetsFault, Skips}
 use Rattle.mw_core.specs.FileCalls.{FilesOnce, event_of, held_as, stake_by}
 use Rattle.mw_core.proofs.FromTable.{each_last}
+use Rattle.mw_engine.specs.FromBelow.{HeldIsOnlyRead, IsOnlyRead}
 use Rattle.mw_engine.specs.History.{IsAnswered}
 use Rattle.mw_engine.proofs.AgreementForms.{agrees_of}
-use Rattle.mw_law_threads.specs.Durable.CrashMoments.{AfterTheEvent, AtRest, BeforeTheEvent, CrashMoment, IsAtRest, IsHeld, first_disk, last_disk, stake_at, token_at}
-use Rattle.mw_law_threads.specs.Durable.Durable.{AreSealed, AreSealedIn, CallsKeepChanges, CallsLeaveWholeChanges, CallsLeaveWhollyOrNot, LeavesChangesOfRun, LeavesWholeChanges, LeavesWhollyOrNot, LeavesWithChange, at_stake_in, MomentsKeepChanges, MomentsLeaveWholeChanges, MomentsLeaveWhollyOrNot}
+use Rattle.mw_law_threads.specs.Durable.CrashMoments.{AfterTheEvent, AtRest, BeforeTheEvent, CrashMoment, InACopy, IsAtRest, IsHeld, first_disk, last_disk, stake_at, token_at}
+use Rattle.mw_law_threads.specs.Durable.Durable.{AreSealed, AreSealedIn, CallsKeepChanges, CallsLeaveWholeChanges, CallsLeaveWhollyOrNot, LeavesChangeOfRun, LeavesChangesOfRun, LeavesWholeChanges, LeavesWhollyOrNot, LeavesWhollyOrNotInRun, LeavesWithChange, at_stake_in, MomentsLeaveWholeChanges}
 use Rattle.mw_law_threads.proofs.Durable.AskedRequests.{request_asked}
 use Rattle.mw_law_threads.proofs.Durable.Stakes.{doubt_is_asked, doubt_is_pending, stake_is_asked}
+use Rattle.mw_law_threads.proofs.History.KnownMoments.{now_config, same_config, seen_first, table_run}
+use Rattle.mw_law_threads.specs.History.AnswersInOneRun.{IsKnownAt}
 
 -- Prefixes.
 
@@ -232,12 +239,28 @@ module _ {D : Type 0} (facts : D → Facts) where
 
   -- a change that was answered YES is among the sealed ones
   with_change : (first now view : View) (tenant : ℕ) (job : Job) (more : List Entry) (old new : Option D) (answered : IsAnswered first now tenant job SaysYes)
-      → IsBeginning (seen_at now.seen tenant) (seen_at view.seen tenant) → LeavesWholeChanges facts view tenant more old new
+      → (whole : LeavesWholeChanges facts view tenant more old new) → IsBeginning (seen_at now.seen tenant) whole.sealed
       → LeavesWithChange facts view tenant answered.token.request (entries_of job) answered.answered.place more old new
-  with_change first now view tenant job more old new answered seen whole = record {
+  with_change first now view tenant job more old new answered whole seen = record {
     whole = whole;
-    has = got_on (seen_at now.seen tenant) whole.sealed answered.answered.place _ (prefix_on (seen_at now.seen tenant) (seen_at view.seen tenant) whole.sealed seen whole.are.first) answered.answered.right;
+    has = got_on (seen_at now.seen tenant) whole.sealed answered.answered.place _ seen answered.answered.right;
   }
+
+  -- while a file is only read, a crash leaves what it left before
+  only_read : (old new : Option (TenantFile D)) (words : List ℕ) (doubt : List Entry) → HeldIsOnlyRead facts old new → FileRecoversTo facts old words (pairs_of doubt)
+      → OnDisk facts (LeavesEither words doubt) (disk_in old) (disk_in new)
+  only_read None None words doubt read stands = tt
+  only_read None (Some now) words doubt read stands = absurd read
+  only_read (Some held) None words doubt read stands = absurd read
+  only_read (Some held) (Some now) words doubt read stands = λ honest.
+      let touched = read.touched honest in
+      leaves_either (facts (disk_of held)) (facts (disk_of now)) (length (states_of held)) words doubt (record {
+        later = touched.later;
+        each = λ image left.
+            let before = touched.each left.0 image left.1 left.2 left.3 in
+            let same : image ≡ before.0 = ext_get_or 0 image before.0 before.2.size (λ k low. before.2.outside k (λ nowhere. nowhere)) in
+            subst (IsBeforeOrAfter (length (states_of held)) words (pairs_of doubt)) (sym same) ((stands honest).left before.0 before.1);
+      })
 
   -- At a moment of the table at which one thread has this token.
   module _ (config : Config) (begun : (ℕ → TenantStart) → List WorldEvent → Type 0) (s : Table ActorState View) (id : ℕ) (view : View) (tied : TableInvariant config begun s)
@@ -279,13 +302,21 @@ module _ {D : Type 0} (facts : D → Facts) where
     WholeAt tenant more first last = LeavesChangesOfRun facts config begun tied view tenant more first last × IsWholeChange tied.past.openings tied.state tenant token.doubt
 
     -- with the change in doubt at stake
-    in_doubt : (tenant : ℕ) → token.tenant ≡ tenant → (book : Book D) → FileRecoversTo facts book.held token.contents (pairs_of token.doubt) → WholeAt tenant token.doubt (disk_in book.held) (disk_in book.held)
-    in_doubt tenant its book stands = (
-      whole_at tenant its token.doubt (disk_in book.held) (disk_in book.held)
+    doubtful : (tenant : ℕ) → token.tenant ≡ tenant → (first last : Option D) → OnDisk facts (LeavesEither token.contents token.doubt) first last → WholeAt tenant token.doubt first last
+    doubtful tenant its first last leaves = (
+      whole_at tenant its token.doubt first last
           (doubt_is_asked config tied.past.openings (tied.past.before ++ tied.events) tied.state token.tenant tied.past.played so.there (tied.state.tenant_states token.tenant).quota config.pool token so.tells)
-          (untouched facts book.held token.contents token.doubt stands),
+          leaves,
       pending tenant its,
     )
+
+    in_doubt : (tenant : ℕ) → token.tenant ≡ tenant → (book : Book D) → FileRecoversTo facts book.held token.contents (pairs_of token.doubt) → WholeAt tenant token.doubt (disk_in book.held) (disk_in book.held)
+    in_doubt tenant its book stands = doubtful tenant its (disk_in book.held) (disk_in book.held) (untouched facts book.held token.contents token.doubt stands)
+
+    -- also in a copy
+    in_a_copy : (tenant : ℕ) → token.tenant ≡ tenant → (book after : Book D) → IsOnlyRead facts book after → FileRecoversTo facts book.held token.contents (pairs_of token.doubt)
+        → WholeAt tenant token.doubt (disk_in book.held) (disk_in after.held)
+    in_a_copy tenant its book after read stands = doubtful tenant its (disk_in book.held) (disk_in after.held) (only_read book.held after.held token.contents token.doubt read.held stands)
 
     -- with the one of a call
     in_a_call : (tenant : ℕ) → token.tenant ≡ tenant → (before after : Book D) (old new : Pass) (actor next : ActorState) (kept : FileToken) (waiting : List Waiting) (once : FilesOnce facts waiting old new actor next before after token kept)
@@ -309,10 +340,12 @@ module _ {D : Type 0} (facts : D → Facts) where
     held_at (AtRest rest) = held_at_rest s tenant rest
     held_at (BeforeTheEvent call held) = held
     held_at (AfterTheEvent call held) = held
+    held_at (InACopy rest after read) = held_at_rest s tenant rest
 
     -- which is the tenant's
     pub its_tenant : (crash : CrashMoment facts s tenant) → (token_at facts crash).tenant ≡ tenant
     its_tenant (AtRest rest) = same_tenant rest.file_pass.seat.me.0.files rest.file_pass.tenant rest.file_pass.its ∙ rest.its
+    its_tenant (InACopy rest after read) = same_tenant rest.file_pass.seat.me.0.files rest.file_pass.tenant rest.file_pass.its ∙ rest.its
     its_tenant (BeforeTheEvent call held) = call.once.its ∙ call.its
     its_tenant (AfterTheEvent call held) = ap (λ (one : FileToken). one.tenant) call.once.kept_is ∙ (called_tenant call.once.end call.token call.actor call.once.called ∙ (call.once.its ∙ call.its))
 
@@ -324,30 +357,60 @@ module _ {D : Type 0} (facts : D → Facts) where
       in_a_call config begun s id view tied at live call.token held tenant (its_tenant (BeforeTheEvent call held)) call.before call.after call.old call.new call.actor call.next call.kept call.waiting call.once
   moments_leave_whole_changes config begun s id tenant view tied (AfterTheEvent call held) at live =
       in_doubt config begun s id view tied at live call.kept held tenant (its_tenant (AfterTheEvent call held)) call.after call.once.agrees.shows.stands
+  moments_leave_whole_changes config begun s id tenant view tied (InACopy rest after read) at live =
+      in_a_copy config begun s id view tied at live (file_kept rest.file_pass) (held_at_rest s tenant rest) tenant (its_tenant {s = s} (InACopy rest after read)) rest.book after read
+      (agrees_of facts rest.book (file_kept rest.file_pass) (opening_at rest.identity.openings rest.file_pass.tenant).quota rest.identity.config.pool rest.kept.agrees).shows.stands
 
   pub calls_keep_changes : CallsKeepChanges facts
   calls_keep_changes identity first now job old new actor next answered goes files =
       let whole = calls_whole identity old new actor next files in
       let before = goes.seen actor.tenant low in
       let learned = files.once.filed.files.goes_on.seen actor.tenant (subst (λ (one : Config). actor.tenant < tenants_of one) (sym goes.same_config) low) in (
-        with_change first now old.seat.me.0 actor.tenant job (at_stake_in facts files) (disk_in files.before.held) (disk_in files.after.held) answered before whole.0,
-        with_change first now new.seat.me.0 actor.tenant job (file_kept files.returned).doubt (disk_in files.after.held) (disk_in files.after.held) answered
-            (prefix_on (seen_at now.seen actor.tenant) (seen_at old.seat.me.0.seen actor.tenant) (seen_at new.seat.me.0.seen actor.tenant) before learned) whole.1,
+        with_change first now old.seat.me.0 actor.tenant job (at_stake_in facts files) (disk_in files.before.held) (disk_in files.after.held) answered whole.0
+            (prefix_on (seen_at now.seen actor.tenant) (seen_at old.seat.me.0.seen actor.tenant) whole.0.sealed before whole.0.are.first),
+        with_change first now new.seat.me.0 actor.tenant job (file_kept files.returned).doubt (disk_in files.after.held) (disk_in files.after.held) answered whole.1
+            (prefix_on (seen_at now.seen actor.tenant) (seen_at new.seat.me.0.seen actor.tenant) whole.1.sealed
+            (prefix_on (seen_at now.seen actor.tenant) (seen_at old.seat.me.0.seen actor.tenant) (seen_at new.seat.me.0.seen actor.tenant) before learned) whole.1.are.first),
       )
     where
       low : actor.tenant < tenants_of now.config
       low = tenant_of first now actor.tenant job SaysYes answered
 
-  pub moments_keep_changes : (config : Config) (begun : (ℕ → TenantStart) → List WorldEvent → Type 0) → MomentsKeepChanges facts config begun
+  -- What is known at the moment of a crash is the beginning of the changes, and of the run, that the crash leaves.
+  module _ (config : Config) (begun : (ℕ → TenantStart) → List WorldEvent → Type 0) (s : Table ActorState View) (tied : TableInvariant config begun s) (now : View) (known : IsKnownAt s now)
+      (tenant : ℕ) (more : List Entry) (old new : Option D) (left : LeavesChangesOfRun facts config begun tied known.view tenant more old new) where
+    first_left : tenant < tenants_of now.config → IsBeginning (seen_at now.seen tenant) left.0.sealed
+    first_left low =
+        let openings = sym left.1.0 in
+        let state = sym left.1.3 in
+        let same : sealed_of tied.past.openings tied.state tenant ≡ sealed_of left.0.are.openings left.0.are.state tenant = λ i. sealed_of (openings i) (state i) tenant in
+        subst (IsBeginning (seen_at now.seen tenant)) (same ∙ left.0.are.are) (seen_first config begun s tied now known tenant low)
+
+    run_left : ExtendsKnownRun now.known_run (Some (known_run_of known.view.config left.0.are.openings left.0.are.before left.0.are.events))
+    run_left =
+        let its = sym (same_config config begun s tied now known ∙ now_config config begun s tied now known) in
+        let openings = sym left.1.0 in
+        let before = sym left.1.1 in
+        let events = sym left.1.2 in
+        let same : known_run_of config tied.past.openings tied.past.before tied.events ≡ known_run_of known.view.config left.0.are.openings left.0.are.before left.0.are.events =
+        λ i. known_run_of (its i) (openings i) (before i) (events i) in
+        subst (λ (one : KnownRun). ExtendsKnownRun now.known_run (Some one)) same (table_run config begun s tied now known)
+
+  -- If a thread knows by then that a pass was answered YES for that tenant, the change is among the words.
+  pub moments_keep_changes : (config : Config) (begun : (ℕ → TenantStart) → List WorldEvent → Type 0) (s : Table ActorState View) (tenant : ℕ) (first now : View) (job : Job)
+      (tied : TableInvariant config begun s) (crash : CrashMoment facts s tenant) (known : IsKnownAt s now) (answered : IsAnswered first now tenant job SaysYes)
+      → LeavesChangeOfRun facts config begun tied known.view tenant answered.token.request (entries_of job) answered.answered.place (stake_at facts crash) (first_disk facts crash) (last_disk facts crash)
   unfolding with_change
-  moments_keep_changes config begun s id tenant first now view job tied crash at live answered goes =
-      let left = (moments_leave_whole_changes config begun s id tenant view tied crash at live).0 in
-      (with_change first now view tenant job (stake_at facts crash) (first_disk facts crash) (last_disk facts crash) answered (goes.seen tenant (tenant_of first now tenant job SaysYes answered)) left.0, left.1)
+  moments_keep_changes config begun s tenant first now job tied crash known answered =
+      let left = (moments_leave_whole_changes config begun s known.id tenant known.view tied crash known.at known.live).0 in
+      let seen = first_left config begun s tied now known tenant (stake_at facts crash) (first_disk facts crash) (last_disk facts crash) left (tenant_of first now tenant job SaysYes answered) in
+      (with_change first now known.view tenant job (stake_at facts crash) (first_disk facts crash) (last_disk facts crash) answered left.0 seen, left.1)
 
   -- the change of a request that was answered is among whole changes wholly or not at all
-  wholly : (first now view : View) (tenant : ℕ) (job : Job) (reply : Reply) (more : List Entry) (old new : Option D) (answered : IsAnswered first now tenant job reply) → ExtendsView now view
-      → LeavesWholeChanges facts view tenant more old new → LeavesWhollyOrNot facts view tenant answered.token.request (entries_of job) more old new
-  wholly first now view tenant job reply more old new answered goes whole = record {
+  wholly : (first now view : View) (tenant : ℕ) (job : Job) (reply : Reply) (more : List Entry) (old new : Option D) (answered : IsAnswered first now tenant job reply) → view.config ≡ now.config
+      → (whole : LeavesWholeChanges facts view tenant more old new) → ExtendsKnownRun now.known_run (Some (known_run_of view.config whole.are.openings whole.are.before whole.are.events))
+      → LeavesWhollyOrNot facts view tenant answered.token.request (entries_of job) more old new
+  wholly first now view tenant job reply more old new answered its whole known = record {
     whole = whole;
     asked = asked;
     sealed_wholly = λ place one at same. are.wholly answered.token.request place (entries_of job) one asked at same;
@@ -361,10 +424,7 @@ module _ {D : Type 0} (facts : D → Facts) where
       are = whole.are
 
       low : tenant < tenants_of view.config
-      low = subst (λ (one : Config). tenant < tenants_of one) (sym goes.same_config) (tenant_of first now tenant job reply answered)
-
-      known : ExtendsKnownRun now.known_run (Some (known_run_of view.config are.openings are.before are.events))
-      known = on_again now.known_run view.known_run (Some (known_run_of view.config are.openings are.before are.events)) goes.known_run are.goes_on
+      low = subst (λ (one : Config). tenant < tenants_of one) (sym its) (tenant_of first now tenant job reply answered)
 
       asked : IsAskedFor are.state tenant answered.token.request (entries_of job)
       asked = request_asked view.config are.openings are.before are.events are.state are.played are.no_starts first now known answered.token.worker tenant answered.token.request job low answered.run.arrival
@@ -373,16 +433,27 @@ module _ {D : Type 0} (facts : D → Facts) where
       once owner same its = requests_ask_for_one_change view.config are.openings (are.before ++ are.events) are.state tenant answered.token.request more (entries_of job) are.played low
           (subst (λ (n : ℕ). IsAskedFor are.state tenant n more) same its) asked
 
+  -- the same by a view that goes on from what was known
+  wholly_then : (first now view : View) (tenant : ℕ) (job : Job) (reply : Reply) (more : List Entry) (old new : Option D) (answered : IsAnswered first now tenant job reply) → ExtendsView now view
+      → LeavesWholeChanges facts view tenant more old new → LeavesWhollyOrNot facts view tenant answered.token.request (entries_of job) more old new
+  wholly_then first now view tenant job reply more old new answered goes whole =
+      wholly first now view tenant job reply more old new answered goes.same_config whole
+      (on_again now.known_run view.known_run (Some (known_run_of view.config whole.are.openings whole.are.before whole.are.events)) goes.known_run whole.are.goes_on)
+
   pub calls_leave_wholly_or_not : CallsLeaveWhollyOrNot facts
   calls_leave_wholly_or_not identity first now job reply old new actor next answered goes files =
       let whole = calls_whole identity old new actor next files in (
-        wholly first now old.seat.me.0 actor.tenant job reply (at_stake_in facts files) (disk_in files.before.held) (disk_in files.after.held) answered goes whole.0,
-        wholly first now new.seat.me.0 actor.tenant job reply (file_kept files.returned).doubt (disk_in files.after.held) (disk_in files.after.held) answered
+        wholly_then first now old.seat.me.0 actor.tenant job reply (at_stake_in facts files) (disk_in files.before.held) (disk_in files.after.held) answered goes whole.0,
+        wholly_then first now new.seat.me.0 actor.tenant job reply (file_kept files.returned).doubt (disk_in files.after.held) (disk_in files.after.held) answered
             (keeps_on now old.seat.me.0 new.seat.me.0 goes (keeps_so old.seat.me.0 new.seat.me.0 files.once.filed.files.goes_on)) whole.1,
       )
 
-  pub moments_leave_wholly_or_not : (config : Config) (begun : (ℕ → TenantStart) → List WorldEvent → Type 0) → MomentsLeaveWhollyOrNot facts config begun
+  -- If a thread knows by then that it was answered, with any reply, also FAULT, the change of that request is there wholly or not at all.
+  pub moments_leave_wholly_or_not : (config : Config) (begun : (ℕ → TenantStart) → List WorldEvent → Type 0) (s : Table ActorState View) (tenant : ℕ) (first now : View) (job : Job) (reply : Reply)
+      (tied : TableInvariant config begun s) (crash : CrashMoment facts s tenant) (known : IsKnownAt s now) (answered : IsAnswered first now tenant job reply)
+      → LeavesWhollyOrNotInRun facts config begun tied known.view tenant answered.token.request (entries_of job) (stake_at facts crash) (first_disk facts crash) (last_disk facts crash)
   unfolding wholly
-  moments_leave_wholly_or_not config begun s id tenant first now view job reply tied crash at live answered goes =
-      let left = (moments_leave_whole_changes config begun s id tenant view tied crash at live).0 in
-      (wholly first now view tenant job reply (stake_at facts crash) (first_disk facts crash) (last_disk facts crash) answered goes left.0, left.1)
+  moments_leave_wholly_or_not config begun s tenant first now job reply tied crash known answered =
+      let left = (moments_leave_whole_changes config begun s known.id tenant known.view tied crash known.at known.live).0 in
+      let run = run_left config begun s tied now known tenant (stake_at facts crash) (first_disk facts crash) (last_disk facts crash) left in
+      (wholly first now known.view tenant job reply (stake_at facts crash) (first_disk facts crash) (last_disk facts crash) answered (same_config config begun s tied now known) left.0 run, left.1)

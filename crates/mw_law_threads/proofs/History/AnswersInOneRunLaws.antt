@@ -15,19 +15,17 @@ use Rattle.mw_law_store.specs.ReplyPlaces.{words_at_start}
 use Rattle.mw_rule.specs.FromLaws.{AreNoStarts, sealed_of}
 use Rattle.mw_rule.specs.KnownRuns.{KnownRun, ExtendsKnownRun, ExtendsRun, known_run_of, plain}
 use Rattle.mw_rule.specs.Prefixes.{opening_at, seen_at}
-use Rattle.mw_rule.specs.Rule.{Each, Fits, Holds, IsFinished, IsHandedOut, IsRightAmong, TableInvariant, events_of_worker, quota_given, words_given}
+use Rattle.mw_rule.specs.Rule.{Each, Holds, IsFinished, IsHandedOut, IsRightAmong, TableInvariant, events_of_worker, quota_given, words_given}
 use Rattle.mw_rule.specs.Steps.{finished_as}
 use Rattle.mw_rule.specs.declared.views.Finished.{Finished}
 use Rattle.mw_rule.specs.declared.views.View.{View}
 use Rattle.mw_rule.proofs.HandedReplies.{handed_more}
 use Rattle.mw_rule.proofs.KnowledgeIsRight.{right_on}
-use Rattle.mw_rule.proofs.KnownRunLaws.{on_again}
 use Rattle.mw_core.proofs.FromTable.{each_last}
 use Rattle.mw_engine.specs.History.{IsAnswered}
-use Rattle.mw_law_threads.proofs.Durable.DurableLaws.{prefix_on}
 use Rattle.mw_law_threads.proofs.History.AnswerMomentLaws.{comes_after, has_moment}
 use Rattle.mw_law_threads.proofs.History.ArrivalsInRuns.{halves}
-use Rattle.mw_law_threads.proofs.History.OneHistoryLaws.{fits_live}
+use Rattle.mw_law_threads.proofs.History.KnownMoments.{fits, now_config, same_openings, seen_first, table_run}
 use Rattle.mw_law_threads.proofs.History.SameReplies.{same_replies}
 use Rattle.mw_law_threads.proofs.Whole.RefusedChangeLaws.{refused_requests_make_no_change}
 use Rattle.mw_law_threads.specs.History.AnswersInOneRun.{AnswersAreInOneRun, AnswersComeAfterEarlierOnes, IsKnownAt}
@@ -90,30 +88,28 @@ module _ (config : Config) (begun : (ℕ → TenantStart) → List WorldEvent �
   abbrev finished_so : Finished
   finished_so = finished_as one.token tenant job reply one.answered.place
 
-  fits : Fits config tied.past.openings tied.state tied.events known.view
-  fits = fits_live config begun s tied known.id known.view known.at known.live
+  its_config : now.config ≡ config
+  its_config = now_config config begun s tied now known
 
-  now_config : now.config ≡ config
-  now_config = sym known.knows.same_config ∙ fits.same_config
-
-  table_run : ExtendsKnownRun now.known_run (Some (known_run_of config tied.past.openings tied.past.before tied.events))
-  table_run = on_again now.known_run known.view.known_run (Some (known_run_of config tied.past.openings tied.past.before tied.events)) known.knows.known_run (tied.known known.id known.view known.at).known
+  its_run : ExtendsKnownRun now.known_run (Some (known_run_of config tied.past.openings tied.past.before tied.events))
+  its_run = table_run config begun s tied now known
 
   handed_out : IsHandedOut config (world_at config tied.past.openings) (tied.past.before ++ tied.events) finished_so
   handed_out = subst (λ (before : List WorldEvent). IsHandedOut config (world_at config tied.past.openings) (before ++ tied.events) finished_so) (sym at_start)
       (handed config tied.past.openings tied.events tied.state
-      (subst (λ (before : List WorldEvent). IsExecution config tied.past.openings (before ++ tied.events) tied.state) at_start tied.past.played) first now tenant job reply one now_config
-      (subst (λ (before : List WorldEvent). ExtendsKnownRun now.known_run (Some (known_run_of config tied.past.openings before tied.events))) at_start table_run))
+      (subst (λ (before : List WorldEvent). IsExecution config tied.past.openings (before ++ tied.events) tied.state) at_start tied.past.played) first now tenant job reply one its_config
+      (subst (λ (before : List WorldEvent). ExtendsKnownRun now.known_run (Some (known_run_of config tied.past.openings before tied.events))) at_start its_run))
 
   among : IsRightAmong (tenants_of config) (λ t. (tied.state.tenant_states t).quota) (words_at_start tied.past.openings tied.state) (sealed_of tied.past.openings tied.state) finished_so
   among =
       let own = each_last (IsFinished now) first.mine finished_so (subst (Each (IsFinished now)) one.answered.noted one.right.mine) in
-      let so = subst (λ (c : Config). IsRightAmong (tenants_of c) (quota_given now) (words_given now) (seen_at now.seen) finished_so) now_config own in
-      let given = λ (t : ℕ). ap (λ (all : List TenantStart). opening_at all t) (sym known.knows.same_openings) in
+      let so = subst (λ (c : Config). IsRightAmong (tenants_of c) (quota_given now) (words_given now) (seen_at now.seen) finished_so) its_config own in
+      let fitting = fits config begun s tied now known in
+      let given = λ (t : ℕ). ap (λ (all : List TenantStart). opening_at all t) (sym (same_openings config begun s tied now known)) in
       right_on (tenants_of config) (quota_given now) (λ t. (tied.state.tenant_states t).quota) (words_given now) (words_at_start tied.past.openings tied.state) (seen_at now.seen) (sealed_of tied.past.openings tied.state)
-      (λ t low. ap (λ (opening : TenantStart). opening.quota) (given t) ∙ sym (fits.gave t low).quota)
-      (λ t low. ap (λ (opening : TenantStart). opening.words) (given t) ∙ sym (fits.gave t low).words)
-      (λ t low. prefix_on (seen_at now.seen t) (seen_at known.view.seen t) (sealed_of tied.past.openings tied.state t) (known.knows.seen t (subst (λ (c : Config). t < tenants_of c) (sym now_config) low)) (fits.seen t low))
+      (λ t low. ap (λ (opening : TenantStart). opening.quota) (given t) ∙ sym (fitting.gave t low).quota)
+      (λ t low. ap (λ (opening : TenantStart). opening.words) (given t) ∙ sym (fitting.gave t low).words)
+      (λ t low. seen_first config begun s tied now known t (subst (λ (c : Config). t < tenants_of c) (sym its_config) low))
       finished_so so
 
   right : IsRightInRun config tied.past.openings tied.past.before tied.events tied.state finished_so
@@ -125,7 +121,7 @@ in_one_run config begun s tied first now tenant job reply one at_start known =
     let past = tied.past in
     record {
       right = is;
-      moment = has_moment config past.openings past.before tied.events tied.state past.played past.no_starts first now (table_run config begun s tied first now tenant job reply one at_start known) one.token.worker tenant one.token.request job reply
+      moment = has_moment config past.openings past.before tied.events tied.state past.played past.no_starts first now (table_run config begun s tied now known) one.token.worker tenant one.token.request job reply
           one.run.arrival is.handed.0 is.handed.1;
       refused = λ tells. refused_requests_make_no_change config past.openings (past.before ++ tied.events) tied.state tenant is.handed.0 one.token.request reply past.played is.there is.handed.1 tells;
     }
@@ -135,7 +131,7 @@ in_time config begun s next tied more on id first now was tenant job reply one a
     let after = on.after in
     let past = after.past in
     let began = on.same_before ∙ at_start in
-    let goes = table_run config begun next after first now tenant job reply one began known in
+    let goes = table_run config begun next after now known in
     let hands = handed_out config begun next after first now tenant job reply one began known in
     comes_after config past.openings past.before after.events after.state past.played past.no_starts first now goes one.token.worker tenant one.token.request job reply one.run.arrival hands.0 hands.1
     tied.events more was only on.events did

@@ -29,7 +29,7 @@ use Rattle.mw_table.specs.FromRule.{End, FindsFault, GoesWell, MayEnd, MeetsFaul
 use Rattle.mw_law_threads.proofs.Durable.DurableLaws.{contents_by, held_at, its_tenant, of_view, so}
 use Rattle.mw_law_threads.proofs.History.OneHistoryLaws.{fits_live}
 use Rattle.mw_law_threads.proofs.NextRuns.SealCrashes.{in_doubt, may_be_cut_off, same_entries}
-use Rattle.mw_law_threads.specs.Durable.CrashMoments.{AfterTheEvent, AtRest, BeforeTheEvent, CallOnFile, CrashMoment, IsHeld, first_disk, last_disk, stake_at, token_at}
+use Rattle.mw_law_threads.specs.Durable.CrashMoments.{AfterTheEvent, AtRest, BeforeTheEvent, CallOnFile, CrashMoment, InACopy, IsHeld, first_disk, last_disk, stake_at, token_at}
 use Rattle.mw_law_threads.specs.Durable.Durable.{LeavesChangesOfRun}
 use Rattle.mw_law_threads.specs.Durable.Starts.{GivesEither}
 use Rattle.mw_law_threads.specs.NextRuns.FoundAfterCrashes.{CrashesLeaveNextRuns, IsAtItsCall}
@@ -132,3 +132,5 @@ crashes_leave_next_runs facts config begun s id tenant view tied (AtRest rest) g
 crashes_leave_next_runs facts config begun s id tenant view tied (BeforeTheEvent call held) given at live within left gives = in_call facts config begun s id tenant view tied call held given at live within left gives
 crashes_leave_next_runs facts config begun s id tenant view tied (AfterTheEvent call held) given at live within left gives =
     quiet facts config begun s id tenant view tied (AfterTheEvent call held) given at live left gives refl
+crashes_leave_next_runs facts config begun s id tenant view tied (InACopy rest after read) given at live within left gives =
+    quiet facts config begun s id tenant view tied (InACopy rest after read) given at live left gives refl

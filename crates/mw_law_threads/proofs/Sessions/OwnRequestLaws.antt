@@ -1,7 +1,7 @@
 -- Two replies are to two requests. Two requests of a tenant with one number are one arrival in one run, so one worker served
 -- both, and its pass had not known the reply when the request came.
 -- For specs/AfterReplies.
-use Rattle.std.specs.Prelude.{ℕ, ◌+◌, ◌≡◌, ◌≢◌, ◌≤◌, ◌<◌, ◌==◌, ◌&&◌, Bool, true, false, ◌++◌, ◌⊎◌, List, [], ◌∷◌, map, slice_get, Option, Some}
+use Rattle.std.specs.Prelude.{ℕ, ◌≡◌, ◌≢◌, ◌≤◌, ◌<◌, ◌==◌, ◌&&◌, Bool, true, false, ◌++◌, ◌⊎◌, List, [], ◌∷◌, map, slice_get, Option, Some}
 use Rattle.std.proofs.Common.{refl, sym, ap, subst, ◌∙◌, inl, inr, arith}
 use Rattle.std.proofs.lemmas.Option.{same_Some}
 use Rattle.atomic_table.specs.Table.{State as Table}
@@ -12,11 +12,11 @@ use Rattle.mw_lone.specs.Store.{entries_of}
 use Rattle.mw_actor.specs.ActorState.{ActorState}
 use Rattle.mw_world.specs.declared.config.Config.{Config}
 use Rattle.mw_world.specs.Definition.Events.{WorldEvent, Come}
-use Rattle.mw_world.specs.Definition.State.{TenantStart, tenants_of}
+use Rattle.mw_world.specs.Definition.State.{TenantStart}
 use Rattle.mw_rule.specs.FromLaws.{IsRightAt, SealedChange, sealed_of}
-use Rattle.mw_rule.specs.KnownRuns.{KnownRun, ExtendsKnownRun, ExtendsRun, known_run_of, plain}
+use Rattle.mw_rule.specs.KnownRuns.{KnownRun, ExtendsKnownRun, ExtendsRun, plain}
 use Rattle.mw_rule.specs.Prefixes.{seen_at}
-use Rattle.mw_rule.specs.Rule.{Fits, TableInvariant, events_of_worker, weight, words_given}
+use Rattle.mw_rule.specs.Rule.{TableInvariant, events_of_worker, weight, words_given}
 use Rattle.mw_rule.specs.RunBehind.{Arrives, arrivals, arrives}
 use Rattle.mw_rule.specs.declared.views.View.{View}
 use Rattle.mw_rule.proofs.ArrivalNumbers.{arrivals_more, asked_in_run}
@@ -31,9 +31,9 @@ use Rattle.mw_service.specs.declared.token_views.TokenView.{TokenView}
 use Rattle.mw_service.specs.OwnReplies.{AnswersOwn, Kept, came_in, token_for}
 use Rattle.mw_service.specs.RequestTokens.{is_token_of, times_had, times_in, token_of}
 use Rattle.mw_service.proofs.TokenMoves.{times_both, total_two}
-use Rattle.mw_law_threads.proofs.Durable.DurableLaws.{got_on, prefix_on, tenant_of}
+use Rattle.mw_law_threads.proofs.Durable.DurableLaws.{got_on, tenant_of}
 use Rattle.mw_law_threads.proofs.History.ArrivalsInRuns.{ArrivesInRun, arrives_in_run}
-use Rattle.mw_law_threads.proofs.History.OneHistoryLaws.{fits_live}
+use Rattle.mw_law_threads.proofs.History.KnownMoments.{seen_first, table_run}
 use Rattle.mw_law_threads.specs.History.AnswersInOneRun.{IsKnownAt}
 use Rattle.mw_law_threads.specs.Sessions.OwnRequests.{RepliesAreToOwnRequests, SessionsHaveOwnRequests, WasAnswered}
 
@@ -108,14 +108,10 @@ module _ (config : Config) (begun : (ℕ → TenantStart) → List WorldEvent �
   abbrev openings : ℕ → TenantStart
   openings = tied.past.openings
 
-  -- the table's run goes on from what was known at the reply
-  goes_on : (now : View) → IsKnownAt s now → ExtendsKnownRun now.known_run (Some (known_run_of config openings tied.past.before tied.events))
-  goes_on now known = on_again now.known_run known.view.known_run (Some (known_run_of config openings tied.past.before tied.events)) known.knows.known_run (tied.known known.id known.view known.at).known
-
   came : (first now : View) (worker tenant request : ℕ) (job : Job) → IsKnownAt s now → (arrival : Arrives worker tenant request job first now)
       → ArrivesInRun config openings tied.past.before tied.events tied.state first arrival.until worker tenant request job
   came first now worker tenant request job known arrival =
-      arrives_in_run config openings tied.past.before tied.events tied.state tied.past.played first now (goes_on now known) worker tenant request job arrival
+      arrives_in_run config openings tied.past.before tied.events tied.state tied.past.played first now (table_run config begun s tied now known) worker tenant request job arrival
 
   -- requests with one number came to one worker
   same_worker : (first now begins ends : View) (worker other tenant request number : ℕ) (job asked : Job) → IsKnownAt s now → IsKnownAt s ends → Arrives worker tenant request job first now
@@ -136,12 +132,8 @@ module _ (config : Config) (begun : (ℕ → TenantStart) → List WorldEvent �
   changed : (first now : View) (tenant : ℕ) (job : Job) (reply : Reply) (one : IsAnswered first now tenant job reply) → IsKnownAt s now → reply ≡ SaysYes
       → slice_get (sealed_of openings tied.state tenant) one.answered.place ≡ Some (record { request = one.token.request; entries = entries_of job })
   changed first now tenant job reply one known said =
-      let fits : Fits config openings tied.state tied.events known.view = fits_live config begun s tied known.id known.view known.at known.live in
-      let low = tenant_of first now tenant job reply one in
-      let there = subst (λ (c : Config). tenant < tenants_of c) (sym known.knows.same_config ∙ fits.same_config) low in
-      let sealed = sealed_of openings tied.state tenant in
-      got_on (seen_at now.seen tenant) sealed one.answered.place (record { request = one.token.request; entries = entries_of job })
-      (prefix_on (seen_at now.seen tenant) (seen_at known.view.seen tenant) sealed (known.knows.seen tenant low) (fits.seen tenant there))
+      got_on (seen_at now.seen tenant) (sealed_of openings tied.state tenant) one.answered.place (record { request = one.token.request; entries = entries_of job })
+      (seen_first config begun s tied now known tenant (tenant_of first now tenant job reply one))
       (subst (λ (r : Reply). IsRightAt (words_given now tenant) (seen_at now.seen tenant) one.answered.place one.token.request job r) said one.answered.right)
 
   -- requests with one number came to one worker at one moment, before which as many others had come to it

@@ -128,16 +128,3 @@ module _ {D : Type 0} (facts : D → Facts) where
         → get_elem? s.views id ≡ some view → IsLive view
         → LeavesChangesOfRun tied view tenant (stake_at facts crash) (first_disk facts crash) (last_disk facts crash)
         × IsWholeChange tied.past.openings tied.state tenant (token_at facts crash).doubt
-
-    -- If the thread was answered YES for that tenant, and its knowledge has only grown since, the change is among the words.
-    abbrev pub MomentsKeepChanges : Type 0
-    MomentsKeepChanges = (s : Table ActorState View) (id tenant : ℕ) (first now view : View) (job : Job) (tied : TableInvariant config begun s) (crash : CrashMoment facts s tenant)
-        → get_elem? s.views id ≡ some view → IsLive view → (answered : IsAnswered first now tenant job SaysYes) → ExtendsView now view
-        → LeavesChangeOfRun tied view tenant answered.token.request (entries_of job) answered.answered.place (stake_at facts crash) (first_disk facts crash) (last_disk facts crash)
-
-    -- If the thread was answered for that tenant, with any reply, also FAULT, and its knowledge has only grown since, the change of
-    -- that request is there wholly or not at all.
-    abbrev pub MomentsLeaveWhollyOrNot : Type 0
-    MomentsLeaveWhollyOrNot = (s : Table ActorState View) (id tenant : ℕ) (first now view : View) (job : Job) (reply : Reply) (tied : TableInvariant config begun s) (crash : CrashMoment facts s tenant)
-        → get_elem? s.views id ≡ some view → IsLive view → (answered : IsAnswered first now tenant job reply) → ExtendsView now view
-        → LeavesWhollyOrNotInRun tied view tenant answered.token.request (entries_of job) (stake_at facts crash) (first_disk facts crash) (last_disk facts crash)

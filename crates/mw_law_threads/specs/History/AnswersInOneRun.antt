@@ -1,8 +1,8 @@
 -- Defines that a reply is in the one run that ties the shared words to the model, whichever session was told it. It is enough
--- that a thread knows what the pass knew with the reply: the pass itself, the session by its note, or a pass that has learned
--- the note.
+-- that a thread knows what the pass knew with the reply: the pass itself, the session by its note, or a pass that learns the
+-- note or has learned it.
 -- Used by the clauses of specs/AfterReplies.
-use Rattle.std.specs.Prelude.{ℕ, ◌≡◌, List, [], ◌∷◌}
+use Rattle.std.specs.Prelude.{ℕ, ◌≡◌, ◌⊎◌, List, [], ◌∷◌}
 use mathlib.Core.Option.{some}
 use lib.ListN.{get_elem?}
 use Rattle.atomic_table.specs.Table.{State as Table}
@@ -11,9 +11,10 @@ use Rattle.mw_words.specs.declared.replies.Reply.{Reply}
 use Rattle.mw_actor.specs.ActorState.{ActorState}
 use Rattle.mw_world.specs.declared.config.Config.{Config}
 use Rattle.mw_world.specs.Definition.Events.{WorldEvent}
-use Rattle.mw_world.specs.Definition.State.{State, TenantStart}
+use Rattle.mw_world.specs.Definition.State.{State, TenantStart, tenants_of}
+use Rattle.mw_rule.specs.KnownRuns.{ExtendsKnownRun}
 use Rattle.mw_rule.specs.Rule.{Continues, IsLive, TableInvariant}
-use Rattle.mw_rule.specs.Steps.{ExtendsView, finished_as}
+use Rattle.mw_rule.specs.Steps.{ExtendsView, IsPrefix, finished_as}
 use Rattle.mw_rule.specs.declared.views.View.{View}
 use Rattle.mw_rule.specs.declared.views.WorkerToken.{WorkerToken}
 use Rattle.mw_engine.specs.History.{IsAnswered}
@@ -21,13 +22,21 @@ use Rattle.mw_law_threads.specs.History.AnswerMoments.{ComesAfter, HasMomentInRu
 use Rattle.mw_law_threads.specs.History.OneHistory.{IsRightInRun}
 use Rattle.mw_law_threads.specs.Whole.Refusals.{MakesNoChange, TellsOfNoChange}
 
--- At this moment of the table a live thread knows at least this.
+-- A note has told a thread at least this: the changes, and the run. The thread is about to learn the note, by a load, and has not yet
+-- seen all of it itself.
+pub record IsTold (known view : View) : Type 0 where
+  pub same_config : view.config ≡ known.config
+  pub same_openings : view.openings ≡ known.openings
+  pub told : IsPrefix (tenants_of known.config) known.seen view.told
+  pub learned_run : ExtendsKnownRun known.known_run view.learned_run
+
+-- At this moment of the table a live thread knows at least this, or a note has told it.
 pub record IsKnownAt (s : Table ActorState View) (known : View) : Type 0 where
   pub id : ℕ
   pub view : View
   pub at : get_elem? s.views id ≡ some view
   pub live : IsLive view
-  pub knows : ExtendsView known view
+  pub knows : ExtendsView known view ⊎ IsTold known view
 
 -- The reply is right in this run, at its place among the tenant's sealed changes, and the run handed it out (`right`). It was true at a moment
 -- between the arrival of its request and itself (`moment`). If it is VAL, NO or BUSY, no change of its request is sealed, and the change

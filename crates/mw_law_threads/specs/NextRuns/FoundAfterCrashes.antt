@@ -14,7 +14,7 @@ use Rattle.mw_rule.specs.FromLaws.{put_sealed}
 use Rattle.mw_rule.specs.Rule.{IsLive, TableInvariant, words_given}
 use Rattle.mw_rule.specs.declared.views.View.{View}
 use Rattle.mw_core.specs.FileCalls.{found_for, held_as, stake_by}
-use Rattle.mw_law_threads.specs.Durable.CrashMoments.{AfterTheEvent, AtRest, BeforeTheEvent, CallOnFile, CrashMoment, IsHeld, first_disk, last_disk, stake_at}
+use Rattle.mw_law_threads.specs.Durable.CrashMoments.{AfterTheEvent, AtRest, BeforeTheEvent, CallOnFile, CrashMoment, InACopy, IsHeld, first_disk, last_disk, stake_at}
 use Rattle.mw_law_threads.specs.Durable.Durable.{LeavesChangesOfRun}
 use Rattle.mw_law_threads.specs.Durable.Starts.{GivesEither}
 use Rattle.mw_law_threads.specs.NextRuns.OneStore.{IsFoundAfter}
@@ -32,6 +32,7 @@ module _ {D : Type 0} (facts : D → Facts) where
   CameAtDeviceCallsOfSeal (AtRest rest) = Unit {0}
   CameAtDeviceCallsOfSeal (BeforeTheEvent call held) = (stake_by call.once.end call.once.called call.token ≡ call.token.doubt) ⊎ IsAtItsCall call held
   CameAtDeviceCallsOfSeal (AfterTheEvent call held) = Unit {0}
+  CameAtDeviceCallsOfSeal (InACopy rest after read) = Unit {0}
 
   module _ (config : Config) (begun : (ℕ → TenantStart) → List WorldEvent → Type 0) where
     -- The table is under the rule. A crash came that left whole changes, at rest or in a call, also in a seal from its load of the status on. A start

@@ -63,11 +63,15 @@ impl Tally {
     }
 }
 
-/// Plays a run that this seed chooses. After each event it checks all that must hold.
-fn play(alloc: Global, seed: u64, tally: &mut Tally) -> Result<(), Fault> {
+/// Plays a run that this seed chooses. Without a group it checks after each event all that must hold. With one, it
+/// checks that the group notices what is wrong.
+fn play(alloc: Global, seed: u64, group: Option<Group>, tally: &mut Tally) -> Result<(), Fault> {
     let mut dice = Dice::new(seed);
     let mut run = Run::new(alloc, large_world(&mut dice), true)?;
-    check(alloc, &mut run, &mut dice, tally)
+    match group {
+        Some(group) => notices(alloc, &mut run, &mut dice, group),
+        None => check(alloc, &mut run, &mut dice, tally),
+    }
 }
 
 fn check(alloc: Global, run: &mut Run, dice: &mut Dice, tally: &mut Tally) -> Result<(), Fault> {
@@ -95,7 +99,7 @@ fn has_many<R: Abort>(rt: &R, tally: Tally) {
 fn the_invariant_holds_of_larger_worlds(rt: HostRuntime) {
     let mut tally = Tally::default();
     for seed in 0..RUNS {
-        if let Err(fault) = play(rt.alloc(), seed, &mut tally) {
+        if let Err(fault) = play(rt.alloc(), seed, None, &mut tally) {
             fail(&rt, seed, fault);
         }
     }
@@ -133,20 +137,23 @@ fn open(alloc: Global, run: &mut Run, dice: &mut Dice) -> Result<(), Fault> {
     Err(Fault::Stuck)
 }
 
-/// Tells whether a group holds until something is made wrong, in a run in which a change has just opened.
-fn is_noticed(alloc: Global, group: Group) -> Result<bool, Fault> {
-    let mut dice = Dice::new(1);
-    let mut run = Run::new(alloc, large_world(&mut dice), true)?;
-    open(alloc, &mut run, &mut dice)?;
+/// Checks that a group holds until something is made wrong, in a run in which a change has just opened.
+fn notices(alloc: Global, run: &mut Run, dice: &mut Dice, group: Group) -> Result<(), Fault> {
+    open(alloc, run, dice)?;
     let held = group_holds(&run.seen, group);
     spoil(&mut run.seen, group);
-    Ok(held && !group_holds(&run.seen, group))
+    if held && !group_holds(&run.seen, group) {
+        Ok(())
+    } else {
+        Err(Fault::Broken("not noticed", 0))
+    }
 }
 
 #[test]
 fn what_is_wrong_is_noticed(rt: HostRuntime) {
+    let mut tally = Tally::default();
     for (group, name) in &GROUPS {
-        let is_noticed = matches!(is_noticed(rt.alloc(), *group), Ok(true));
+        let is_noticed = play(rt.alloc(), 1, Some(*group), &mut tally).is_ok();
         holds(&rt, name, 1, is_noticed);
     }
 }

@@ -6,6 +6,6 @@ use Rattle.mw_server_pages.proofs.server.serve_pages.Goals as goal
 
 pub loop-preserved : goal.loop-preserved
 loop-preserved g c =
-    served_more (map string_bytes c.args.names.now) g.L.StreamListener.accepts g.P.Pages.answered c.args.listener.now c.loop.listener c.serve_next.new.listener
+    served_more (map string_bytes c.args.names.now) g.L.VisitorListener.accepts g.P.Pages.answered c.args.listener.now c.loop.listener c.serve_next.new.listener
     c.args.pages.now c.loop.pages c.serve_next.new.pages c.serve_next.ensures.0
     c.loop.invariant c.serve_next.ensures.1 c.serve_next.ensures.2

@@ -3,7 +3,7 @@
 //! `clauses.rt` says what each group is, and what may change here.
 
 use crate::larger::clauses::Group;
-use crate::larger::past::Change;
+use crate::larger::past::{Change, Held};
 use crate::larger::pins::owner_of;
 use crate::larger::seen::Seen;
 use mw_actor::Slot;
@@ -73,29 +73,35 @@ fn are_entries(written: &[Entry], change: &Change) -> bool {
 /// Tells whether a group holds of each word of a change.
 fn entries_hold(seen: &Seen, group: Group, change: &Change) -> bool {
     for held in &change.words {
-        let Slot { slot, seq } = change.slot;
-        let Entry { addr, new, .. } = held.entry;
-        let holds = match (group, held.phase) {
-            (Group::Claims, _) => match seen.words.get(usize::from(change.tenant)) {
-                Some(words) => addr < *words,
-                None => false,
-            },
-            (Group::Late, phase) => !is_made(change.fate) || !matches!(phase, Phase::Fresh),
-            (_, Phase::Acquired) => {
-                seen.word(change.tenant, addr) == Some(Word::Held { slot, seq })
-                    && may_be(change.fate, Phase::Acquired)
-            }
-            (_, Phase::Written) => {
-                seen.word(change.tenant, addr) == Some(Word::Dirty { slot, value: new })
-                    && may_be(change.fate, Phase::Written)
-            }
-            (_, phase) => may_be(change.fate, phase),
-        };
-        if !holds {
+        if !entry_holds(seen, group, change, held) {
             return false;
         }
     }
     true
+}
+
+/// Tells whether a group holds of a word of a change.
+fn entry_holds(seen: &Seen, group: Group, change: &Change, held: &Held) -> bool {
+    match group {
+        Group::Claims => match seen.words.get(usize::from(change.tenant)) {
+            Some(words) => held.entry.addr < *words,
+            None => false,
+        },
+        Group::Late => !is_made(change.fate) || !matches!(held.phase, Phase::Fresh),
+        _ => may_be(change.fate, held.phase) && is_named(seen, change, held),
+    }
+}
+
+/// Tells whether a word names the change, if the change holds it or has written it.
+fn is_named(seen: &Seen, change: &Change, held: &Held) -> bool {
+    let Slot { slot, seq } = change.slot;
+    let value = held.entry.new;
+    let word = match held.phase {
+        Phase::Acquired => Word::Held { slot, seq },
+        Phase::Written => Word::Dirty { slot, value },
+        _ => return true,
+    };
+    seen.word(change.tenant, held.entry.addr) == Some(word)
 }
 
 /// Tells whether a change of this status may have a word in this phase.

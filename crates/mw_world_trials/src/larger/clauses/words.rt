@@ -141,13 +141,15 @@ fn is_let_go(seen: &Seen, datum: &Datum) -> bool {
 fn value_of(seen: &Seen, datum: &Datum) -> Option<u64> {
     match datum.word {
         Word::Plain(value) | Word::Dirty { value, .. } => Some(value),
-        Word::Planted { worker, .. } => {
-            let row = seen.worker_states.get(usize::from(worker))?.row;
-            let written = seen.slots.get(usize::from(row.slot))?;
-            Some(written.entries.get(usize::from(row.entry))?.expected)
-        }
+        Word::Planted { worker, .. } => planted_value(seen, worker),
         Word::Held { slot, .. } => held_value(seen, slot, datum.address),
     }
+}
+
+fn planted_value(seen: &Seen, worker: u8) -> Option<u64> {
+    let row = seen.worker_states.get(usize::from(worker))?.row;
+    let written = seen.slots.get(usize::from(row.slot))?;
+    Some(written.entries.get(usize::from(row.entry))?.expected)
 }
 
 fn held_value(seen: &Seen, slot: u8, address: u16) -> Option<u64> {

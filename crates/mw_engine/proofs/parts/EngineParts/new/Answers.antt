@@ -5,6 +5,7 @@ use Rattle.std.proofs.lemmas.List.{length-map}
 use Rattle.mw_world.specs.declared.config.Tenant.{Tenant}
 use Rattle.mw_world.specs.Definition.State.{IsStart, TenantStart}
 use Rattle.mw_core.specs.FromTable.{AreOpened, IsDealt, Shared, basis_of, basis_of_start, opening_at, openings_given}
+use Rattle.mw_engine.specs.DisksAtStart.{disk_read}
 use Rattle.mw_engine.specs.OpenedFiles.{HaveFewPlaces, places_found, tenant_read}
 use Rattle.mw_engine.proofs.Configured.{configured, starts_so, world_is}
 use Rattle.mw_engine.proofs.PartsAgree.{a_book_each, a_file_pass_each, books_agree, config_is, lines_agree, new_passes, openings_are, places_agree}
@@ -109,3 +110,7 @@ returns-clause-config g c =
 
 pub returns-clause-files : goal.returns-clause-files
 returns-clause-files g c = files_are g.D.Disk.facts c.args.lines.now c.args.files.items c.in_ok-openings.openings.items c.in_ok-openings.books.items c.in_ok-openings.ensures
+
+pub returns-clause-disks : goal.returns-clause-disks
+returns-clause-disks g c =
+    ap (map (disk_read g.D.Disk.facts)) (files_are g.D.Disk.facts c.args.lines.now c.args.files.items c.in_ok-openings.openings.items c.in_ok-openings.books.items c.in_ok-openings.ensures)

@@ -1,0 +1,267 @@
+//! Plays stories: what is done in a folder and what comes of it, a line each. A crate of tests has the stories, and the
+//! programs that they run ([`Programs`]).
+//!
+//! - `mwinit ARGS` and `mwserve ARGS` run a program. `serve OPTIONS` has `mwserve` serve the script of the folder to the
+//!   tenants of its tenants file.
+//! - `gives STATUS OUT|ERR` is what the program gave that ran last. `begins STATUS OUT|ERR` says this too, but of its other
+//!   output only how it begins, and `ends STATUS |ERR` says nothing of its standard output.
+//! - `room BYTES` lets the standard output of the next program fail after so many bytes. `watch NAME` lets it look, each
+//!   time that the program writes, whether this file is locked; `locked` says that it was, each time.
+//! - `hold NAME` locks a file until `release`.
+//! - `meanwhile OPTIONS` has `mwserve` serve the tenants of the folder's tenants file, while the lines up to `stop` are
+//!   played. They begin when the server is ready, and `<PORT>` is its port. After `stop` it is the program that ran last.
+//! - `files` tells the lines that make, change or look at files, and `talks` those of the server's clients.
+//!
+//! `DIR` means the folder, in a text `;` means a line's end, and after `long BYTES LETTER` `<LONG>` means so many of
+//! these letters. The lines after `for each of` are cases: the story is played for each, with its fields, which have
+//! `|` between them, in the places of `$1`, `$2` and so on.
+//!
+//! Used by: mw_examples.
+mod files;
+mod outputs;
+mod stage;
+mod talks;
+
+use crate::callers::{Place, come_and_go};
+use files::play_file;
+pub use outputs::Output;
+use outputs::{Told, wait_for};
+pub use stage::new_folder;
+use stage::{Outcome, Stage};
+use std::alloc::{AllocError, Global};
+use std::io::{self, ErrorKind};
+use std::sync::atomic::Ordering;
+use std::thread::{self, Threads};
+
+/// The most connections that a server takes which ends after some.
+const CONNECTIONS: u32 = 3;
+
+/// The places of a case's fields in a story.
+static PLACES: [&str; 4] = ["$1", "$2", "$3", "$4"];
+
+/// A story, and the name of the folder that it is played in.
+#[derive(Clone, Copy)]
+pub struct Story {
+    pub name: &'static str,
+    pub lines: &'static str,
+}
+
+/// The programs of stories.
+pub trait Programs {
+    /// Runs the program that a command line names, which writes to these outputs. Gives its exit status.
+    fn run<'a>(&self, args: &[String], out: &mut Output<'a>, err: &mut Output<'a>) -> u8;
+}
+
+/// Plays each of these stories in a new folder, and removes the folder. `host` tells where it is, and plays all but the
+/// programs.
+///
+/// If something else comes of a story, it gives the story, its case and its line, with what has come. Then the folder
+/// stays.
+pub fn play<P: Programs>(
+    programs: &P,
+    host: &HostRuntime,
+    stories: &[Story],
+) -> io::Result<Option<String>> {
+    for story in stories {
+        let failed = play_cases(programs, host, story)?;
+        if failed.is_some() {
+            return Ok(failed);
+        }
+    }
+    Ok(None)
+}
+
+/// Plays a story for each of its cases, or once if it has none.
+fn play_cases<P: Programs>(
+    programs: &P,
+    host: &HostRuntime,
+    story: &Story,
+) -> io::Result<Option<String>> {
+    let whole = (story.lines, "");
+    let (lines, cases) = story.lines.split_once("\nfor each of\n").unwrap_or(whole);
+    for case in cases.split('\n') {
+        let failed = play_case(programs, host, story.name, lines, case)?;
+        if failed.is_some() {
+            return Ok(failed);
+        }
+    }
+    Ok(None)
+}
+
+/// Plays the lines of a story for one of its cases.
+fn play_case<P: Programs>(
+    programs: &P,
+    host: &HostRuntime,
+    name: &str,
+    lines: &str,
+    case: &str,
+) -> io::Result<Option<String>> {
+    let lines = filled(host.alloc(), lines, case)?;
+    let folder = new_folder(host, name)?;
+    let told = Told::new();
+    let mut stage = Stage::new(host, name, case, folder, &told);
+    play_lines(programs, &mut stage, lines.as_str());
+    stage.end()
+}
+
+/// Gives a story with the fields of a case in their places.
+fn filled(alloc: Global, lines: &str, case: &str) -> Result<String, AllocError> {
+    let mut text = String::from_str(alloc, lines)?;
+    let mut rest = case;
+    for place in PLACES {
+        let (field, more) = rest.split_once('|').unwrap_or((rest, ""));
+        text = text.replace(alloc, place, field)?;
+        rest = more;
+    }
+    Ok(text)
+}
+
+/// A story with a server: what is done before it, its options, what is done beside it, and what after it has ended.
+#[derive(Clone, Copy)]
+struct Parts<'a> {
+    before: &'a str,
+    options: &'a str,
+    beside: &'a str,
+    after: &'a str,
+}
+
+/// Splits the lines of a story with a server.
+fn parts_of(lines: &str) -> Parts<'_> {
+    let (before, rest) = lines.split_once("\nmeanwhile ").unwrap_or((lines, ""));
+    let (meanwhile, after) = rest.split_once("\nstop\n").unwrap_or((rest, ""));
+    let (options, beside) = meanwhile.split_once('\n').unwrap_or((meanwhile, ""));
+    Parts {
+        before,
+        options,
+        beside,
+        after,
+    }
+}
+
+/// Plays a story with a server, as [`play`] does, and some of its lines while the server runs in a thread of `rt`.
+pub fn play_served<P: Programs + Sync, R: Threads>(
+    programs: &P,
+    rt: &R,
+    host: &HostRuntime,
+    story: &Story,
+) -> io::Result<Option<String>> {
+    let parts = parts_of(story.lines);
+    let told = Told::new();
+    let folder = new_folder(host, story.name)?;
+    let mut stage = Stage::new(host, story.name, "", folder, &told);
+    play_lines(programs, &mut stage, parts.before);
+    let args = stage.command_line("meanwhile", parts.options)?;
+    let (served, stage) = thread::join(
+        rt,
+        || run_to(programs, host, &args, &told, "", usize::MAX),
+        || play_beside(programs, stage, parts.beside),
+    );
+    play_after(programs, stage, served?, parts.after)
+}
+
+/// Plays lines beside a server, once it is ready. Whatever comes of them, the server gets its connections.
+fn play_beside<'a, P: Programs>(programs: &P, stage: Stage<'a>, lines: &str) -> Stage<'a> {
+    let mut stage = stage;
+    let port = wait_for(stage.host, &stage.told.ready, 1);
+    play_lines(programs, &mut stage, lines);
+    come_and_go(stage.host, Place::Port(port), CONNECTIONS);
+    stage
+}
+
+/// Plays lines after a server that gave this, and ends the story.
+fn play_after<P: Programs>(
+    programs: &P,
+    stage: Stage<'_>,
+    served: Outcome,
+    lines: &str,
+) -> io::Result<Option<String>> {
+    let mut stage = stage;
+    stage.ran = served;
+    play_lines(programs, &mut stage, lines);
+    stage.end()
+}
+
+/// Plays lines, none of which is `meanwhile`, until something else comes of one. It plays none if that has happened before.
+fn play_lines<P: Programs>(programs: &P, stage: &mut Stage<'_>, lines: &str) {
+    for line in lines.split('\n') {
+        if stage.failed.is_some() {
+            return;
+        }
+        let held = play_line(programs, stage, line);
+        if !matches!(held, Ok(true)) {
+            stage.fail(line, &held);
+        }
+    }
+}
+
+/// Plays a line. Gives true if what it says has happened.
+fn play_line<P: Programs>(programs: &P, stage: &mut Stage<'_>, line: &str) -> io::Result<bool> {
+    let (verb, rest) = line.split_once(' ').unwrap_or((line, ""));
+    match verb {
+        "mwinit" | "mwserve" | "serve" => run(programs, stage, verb, rest)?,
+        "room" => stage.room = rest.parse().unwrap_or(usize::MAX),
+        "watch" => stage.watched = stage.path(rest)?,
+        "long" => {
+            let (bytes, letter) = rest.split_once(' ').unwrap_or((rest, ""));
+            stage.long = letter.repeat(stage.host.alloc(), bytes.parse().unwrap_or(0))?;
+        }
+        _ => return play_file(stage, verb, rest),
+    }
+    Ok(true)
+}
+
+/// Runs a program with an output as the story said. What was said of the next program's output is done then.
+fn run<P: Programs>(programs: &P, stage: &mut Stage<'_>, verb: &str, rest: &str) -> io::Result<()> {
+    let args = stage.command_line(verb, rest)?;
+    let told = Told::new();
+    let watched = stage.watched.as_str();
+    let mut ran = run_to(programs, stage.host, &args, &told, watched, stage.room)?;
+    ran.was_locked = told.was_locked();
+    stage.ran = ran;
+    stage.room = usize::MAX;
+    stage.watched = String::new(stage.host.alloc());
+    Ok(())
+}
+
+/// Runs the program that a command line names, which tells its ports and its notes here. Its standard output takes so many
+/// bytes, and watches the file with this path.
+fn run_to<P: Programs>(
+    programs: &P,
+    host: &HostRuntime,
+    args: &[String],
+    told: &Told,
+    watched: &str,
+    room: usize,
+) -> io::Result<Outcome> {
+    let mut out = Output {
+        host,
+        text: Vec::new(host.alloc()),
+        room,
+        lines: &told.lines,
+        told,
+        watched,
+    };
+    let mut err = Output {
+        host,
+        text: Vec::new(host.alloc()),
+        room: usize::MAX,
+        lines: &told.notes,
+        told,
+        watched: "",
+    };
+    let status = programs.run(args, &mut out, &mut err);
+    Ok(Outcome {
+        status,
+        out: into_text(out.text)?,
+        err: into_text(err.text)?,
+        was_locked: false,
+    })
+}
+
+/// Gives these bytes as a text.
+fn into_text(bytes: Vec<u8>) -> io::Result<String> {
+    match String::from_utf8(bytes) {
+        Ok(text) => Ok(text),
+        Err(_) => Err(io::Error::from(ErrorKind::InvalidData)),
+    }
+}
