@@ -14,7 +14,7 @@ WITHOUT_SYNC, SEALS, PATIENT = 0, 1, 2
 """Which calls a worker makes for others: `Choosing`. Only time leads to the fourth."""
 NO_SYNC, LATE = 0, 4
 """The ranks of a call are 0 to 3, as in `order.rt`; nothing has the last one."""
-WOKEN_FIRST = 3
+WOKEN_FIRST, WOKEN_BEFORE_SYNC = 3, 1
 ENOUGH_SEALS = 3
 
 
@@ -104,11 +104,11 @@ class Step:
             return self.to("ring", to_ring=to_ring, then=then, **parts)
         return self.to(then, to_ring=(), then="", **parts)
 
-    def woken(self, wake: int) -> Tuple[int, ...]:
+    def woken(self, wake: int, most: int) -> Tuple[int, ...]:
         """The first of those served, which it wakes by this wake."""
         served = self.state.served
-        self.change(served=served[WOKEN_FIRST:])
-        return served[:WOKEN_FIRST] if self.without != wake else ()
+        self.change(served=served[most:])
+        return served[:most] if self.without != wake else ()
 
     def is_anybody_there(self) -> bool:
         return bool(self.state.waiters or self.state.served or self.state.sealed)
@@ -214,7 +214,7 @@ class Step:
             return self.to("unlock_none")
         chosen = state.waiters[place]
         self.change(waiters=state.waiters[:place] + state.waiters[place + 1:], called=state.called + state.changes, changes=())
-        return self.ring_all(self.woken(2) if self.rank(chosen) != NO_SYNC else (), "make", chosen=(chosen,))
+        return self.ring_all(self.woken(2, WOKEN_BEFORE_SYNC) if self.rank(chosen) != NO_SYNC else (), "make", chosen=(chosen,))
 
     def end_for(self) -> State:
         """It has made the call: `end_for`, or `end` if it is its own."""
@@ -230,7 +230,7 @@ class Step:
 
     def has_not_served(self) -> State:
         """No call could be made: a worker that waits sleeps, and one that goes goes."""
-        return self.ring_all(self.woken(1), "sleep" if self.worker.is_waiting else "wake_first")
+        return self.ring_all(self.woken(1, WOKEN_FIRST), "sleep" if self.worker.is_waiting else "wake_first")
 
     # A worker goes
 

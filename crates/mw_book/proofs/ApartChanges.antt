@@ -1,5 +1,5 @@
 -- If a simulated file (`File` of mw_world_file) lets a prepared change be sealed, so does the open file of a book that
--- represents it.
+-- represents it. Used by: AloneChanges, PermittedCalls.
 use Rattle.std.proofs.Common.{◌≡◌, ℕ, zero, suc, ◌<◌, ◌==◌, ◌&&◌, ◌||◌, not, Bool, true, false, List, [], ◌∷◌, refl, sym, ap, ◌∙◌, inl, inr, arith}
 use Rattle.std.specs.List.{list_any}
 use Rattle.std.proofs.lemmas.Bool.{cases_eq, cases_lt, and_parts, or_cases, eqb-true}

@@ -1,4 +1,5 @@
 -- How many numbers below a bound pass a test, and whether one does: after one more step, and after one number's test changed.
+-- Used by: ChosenChanges, GivenUp, MovedRecords, among others.
 use Rattle.std.proofs.Common.{◌≡◌, ◌≢◌, ℕ, zero, suc, ◌+◌, ◌<◌, ◌≤◌, Bool, true, false, if◌then◌else◌, refl, sym, ap, ◌∙◌, inl, inr, arith}
 use Rattle.std.proofs.lemmas.Bool.{cases_Bool, cases_eq, cond-true, cond-false, or_cases, or_left, or_right}
 use Rattle.mw_book.specs.RecordsAhead.{any_below, count_below}

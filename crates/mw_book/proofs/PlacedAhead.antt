@@ -1,4 +1,5 @@
 -- If a call also prepares chosen changes in free places, all places match, as they would after the call alone.
+-- Used by: FiledCalls, MovedRecords, write_down.
 use Rattle.std.proofs.Common.{◌≡◌, ◌≢◌, ◌⊎◌, ℕ, ◌<◌, ◌≤◌, ◌==◌, ◌||◌, Bool, true, false, List, [], ◌∷◌, ◌++◌, length, Option, if◌then◌else◌, IsTrue, refl, sym, ap, subst, ◌∙◌, inl, inr, arith}
 use Rattle.std.proofs.lemmas.Bool.{cases_eq, cond-true, cond-false, eq-eqb, ne_eqb}
 use Rattle.mw_words.specs.Change.{is_change}

@@ -1,5 +1,5 @@
 -- If one place of a book's open file and the same place of the file that it represents get a new stage, all places still
--- match.
+-- match. Used by: FiledCalls, GivenUp, PlacedAhead.
 use Rattle.std.proofs.Common.{◌≡◌, ◌≢◌, ◌<◌, ◌≤◌, ℕ, true, false, List, Option, None, is_some, get_or, sym, ap, subst, ◌∙◌, inl, inr, arith}
 use Rattle.std.proofs.lemmas.Bool.{cases_eq}
 use Rattle.mw_record.specs.Records.{Pairs}

@@ -1,6 +1,6 @@
 -- Defines all that is known of a book after a call on it: its answer, the file, and what a crash leaves. It is the contract
 -- of `Book::call` as one record.
--- Used by: calls.rt. Ends, Answers and Crashes define its first clauses.
+-- Used by: book.rt. Ends, Answers and Crashes define its first clauses.
 use Rattle.std.specs.Prelude.{◌≡◌, ℕ, List}
 use Rattle.mw_words.specs.declared.jobs.Entry.{Entry}
 use Rattle.mw_look.specs.declared.steps.Call.{Call}

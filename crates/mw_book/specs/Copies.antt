@@ -1,5 +1,5 @@
 -- Defines how a copy of the bytes of a book's file ends, and that it leaves the book as it was.
--- Used by: mw_engine, copies.rt. A change here changes what a backup of a served file is.
+-- Used by: mw_engine, book.rt. A change here changes what a backup of a served file is.
 use Rattle.std.specs.Prelude.{◌≡◌, ℕ, true, false, List, length, Option, Some, None, Vec, Result, Ok, Err, IsTrue}
 use Rattle.std.specs.declared.alloc.Global.{Global}
 use Rattle.mw_disk.specs.Facts.{Facts}

@@ -1,4 +1,4 @@
--- Defines how the places that the world knows are mapped to the places of the file: by a table that permutes the used ones.
+-- Defines how the places that the world knows are mapped to the places of the file: by a table that permutes the first ones.
 -- Used by: book.rt, place_table.rt, waiting.rt. A change here changes which places a book uses.
 use Rattle.std.specs.Prelude.{◌≡◌, ◌<◌, ◌≤◌, ◌==◌, ◌||◌, ℕ, zero, suc, Bool, true, false, List, get_or}
 

@@ -1,5 +1,5 @@
 -- Names the parts of a book's open file (words, places, disk), also if the file didn't open.
--- Used by: mw_core, mw_engine, mw_law_threads, book.rt, calls.rt, new_books.rt, queries.rt.
+-- Used by: mw_core, mw_engine, mw_law_threads, book.rt.
 use Rattle.std.specs.Prelude.{ℕ, Bool, true, List, [], length, Option, Some, None, IsTrue}
 use Rattle.mw_disk.specs.Facts.{Facts}
 use Rattle.mw_record.specs.Records.{Pairs}

@@ -1,7 +1,7 @@
 -- Defines when each call may be made on a book. Prepare needs a vacant place and a well-formed change. Seal needs a change
 -- that its own slot prepared and the file may seal, settle one that is sealed or settled ahead, cancel one that its own slot
 -- prepared.
--- Used by: mw_core, calls.rt, laws.rt, place_table.rt, queries.rt, waiting.rt.
+-- Used by: mw_core, book.rt, laws.rt, place_table.rt, waiting.rt.
 use Rattle.std.specs.Prelude.{◌≡◌, ◌<◌, ◌+◌, ◌&&◌, not, if◌then◌else◌, ℕ, zero, suc, Bool, true, false, List, IsTrue}
 use Rattle.mw_words.specs.declared.limits.TheConstants.{MAX_POOL}
 use Rattle.mw_words.specs.declared.jobs.Entry.{Entry}

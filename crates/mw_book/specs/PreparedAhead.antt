@@ -1,5 +1,5 @@
 -- Defines in which place a change is prepared ahead: its record is in the file, though its slot has not prepared it yet.
--- Used by: calls.rt, new_books.rt, place_table.rt, queries.rt. A change here changes which prepares make no device call.
+-- Used by: book.rt, place_table.rt. A change here changes which prepares make no device call.
 use Rattle.std.specs.Prelude.{ℕ, zero, suc, ◌+◌, ◌==◌, ◌&&◌, ◌≡◌, Bool, true, false, List, [], ◌∷◌, Option, Some, None, get_or, nat_lt, if◌then◌else◌}
 use Rattle.mw_words.specs.declared.jobs.Entry.{Entry}
 use Rattle.mw_record.specs.Records.{Pairs}

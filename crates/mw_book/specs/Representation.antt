@@ -1,6 +1,6 @@
 -- Defines when a book represents a simulated file of mw_world_file: same words, fault and change in doubt, and the same
 -- changes in the places, but for those settled or prepared ahead. Every call keeps this relation.
--- Used by: mw_core, mw_engine, calls.rt, copies.rt, new_books.rt, place_table.rt, queries.rt, waiting.rt.
+-- Used by: mw_core, mw_engine, book.rt, place_table.rt, waiting.rt.
 use Rattle.std.specs.Prelude.{◌≡◌, ◌<◌, ◌≤◌, ℕ, Bool, true, false, List, length, get_or, slice_index, Option, None, is_some}
 use Rattle.mw_words.specs.declared.limits.TheConstants.{MAX_POOL}
 use Rattle.mw_disk.specs.Facts.{Facts}

@@ -1,6 +1,6 @@
 -- Defines that a book represents each file that it represented before, on the same disk, and that it has made room for a
 -- record.
--- Used by: calls.rt.
+-- Used by: book.rt.
 use Rattle.std.specs.Prelude.{◌≡◌, ◌≤◌, ◌-◌, ℕ, List, false}
 use Rattle.mw_words.specs.declared.jobs.Entry.{Entry}
 use Rattle.mw_disk.specs.Facts.{Facts}

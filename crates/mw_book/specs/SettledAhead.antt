@@ -1,5 +1,5 @@
 -- Defines which changes are settled ahead after a call: settled in the file, and not yet by their own slots.
--- Used by: CallOutcome, new_books.rt, place_table.rt. A change here changes what a call promises of them.
+-- Used by: CallOutcome, book.rt, place_table.rt. A change here changes what a call promises of them.
 use Rattle.std.specs.Prelude.{◌≡◌, ◌==◌, ◌&&◌, ◌||◌, not, if◌then◌else◌, ℕ, Bool, true, false, List}
 use Rattle.mw_look.specs.declared.steps.Call.{Call}
 use Rattle.mw_look.specs.declared.steps.Call.TheVariants.{Settle as SettleCall}

@@ -12,18 +12,19 @@
 //! What is said of bytes, of the number of device calls, and of which one failed holds on a disk that keeps the model
 //! of [`mw_disk::Disk`]. What is said of answers and of faults holds on every disk.
 //!
+//! - *What a contract says*: what [`Book::call`] answers, which file the book represents then, what a crash in it
+//!   leaves (`specs/CallOutcome`). A copy has just the file's words.
+//! - *Proved*: what a crash between calls leaves, and a lone change's device calls (`laws.rt`).
+//! - *In no contract here*: that a crash in a call leaves as many places; those of mw_file say it.
+//!
 //! Used by: mw_engine, which keeps a book for each tenant; mw_core, which makes the calls, and to which these
 //! contracts are promised; mw_law_threads, in contracts.
 #![tactic(auto)]
 
 mod answers;
 mod book;
-mod calls;
-mod copies;
 mod laws;
-mod new_books;
 mod place_table;
-mod queries;
 mod waiting;
 
 pub use answers::Filed;

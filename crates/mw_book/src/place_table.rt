@@ -1,7 +1,7 @@
 //! Where a book's file has the change of each place, and which changes are settled or prepared in the file before
 //! their own slots settle or prepare them.
 //!
-//! `calls.rt`, `waiting.rt` and `queries.rt` call these. Change it with `specs/Representation`, `specs/Permits`,
+//! `book.rt` and `waiting.rt` call these. Change it with `specs/Representation`, `specs/Permits`,
 //! `specs/PreparedAhead`, `specs/RecordsAhead`, `specs/SettledAhead`, `specs/FilePlaces` and `specs/TakenPlaces`.
 ghost use Rattle.std.specs.Prelude.{◌≡◌, ◌≤◌, ◌<◌, ◌||◌, ℕ, None, true, false, length, IfSome};
 ghost use Rattle.mw_words.specs.declared.limits.TheConstants.{MAX_PLACES};

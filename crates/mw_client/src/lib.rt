@@ -7,6 +7,12 @@
 //! which the server's reader reads as that request ([`what_is_sent_is_read`]). [`read_reply`] tells which reply a
 //! line is.
 //!
+//! - *What a contract says*: a call tells what its reply means, or that it was lost. A YES confirmed the words of
+//!   [`Client::read`].
+//! - *Proved*: the server reads a request's line as that request, and [`read_reply`] accepts just the protocol's
+//!   replies.
+//! - *Tested only*: that a reply which came is not told as lost, patience, and sockets (mw_client_tests).
+//!
 //! Used by: mw_client_c, mwbench, mw_client_tests. docs/CLIENTS describes it for users: change both together.
 #![tactic(auto)]
 

@@ -1,6 +1,6 @@
 -- The reader of a tenants file finds the first line of a text, or what is wrong with it after the lines before.
 -- Used by: read_path, tenants::read_line, read_lines, read_tenants.
-use Rattle.std.proofs.Common.{◌≡◌, ◌≢◌, ℕ, zero, suc, ◌+◌, ◌<◌, ◌≤◌, min, leb, leb-true, le-leb, Bool, true, false, not, List, [], ◌∷◌, ◌++◌, length, map, Some, refl, sym, ap, subst, ◌∙◌, inl, inr, ◌⊎◌, arith, append_assoc, append-nil, ◌&&◌}
+use Rattle.std.proofs.Common.{◌≡◌, ◌≢◌, ◌==◌, ℕ, zero, suc, ◌+◌, ◌<◌, ◌≤◌, min, leb, leb-true, le-leb, Bool, true, false, not, List, [], ◌∷◌, ◌++◌, length, map, Some, refl, sym, ap, subst, ◌∙◌, inl, inr, ◌⊎◌, arith, append_assoc, append-nil, ◌&&◌}
 use Rattle.std.specs.Prelude.{flat_map, All, sum_by, bytes_eq}
 use Rattle.std.specs.List.{list_all, AllPairs, Contains, slice_index_or}
 use Rattle.std.specs.Str.{IsAscii}
@@ -268,6 +268,11 @@ permitted pool tenants text f =
       names = λ i j d before low. (differ i j d before low).0;
       paths = λ i j d before low. (differ i j d before low).1;
     }
+
+-- some tenants are at least one
+pub at_least_one : (tenants : List TenantLine) → (length tenants == 0) ≡ false → 1 ≤ length tenants
+at_least_one [] h = absurd cc
+at_least_one (tenant ∷ tenants) h = omega arith
 
 pub file_of : (pool : ℕ) (tenants : List TenantLine) (text : List ℕ) → Reaches (lines_of tenants) [] text → 1 ≤ length tenants → sum_by (λ t. t.quota) tenants ≤ pool → IsTenantsFile pool (lines_of tenants) text
 file_of pool tenants text r some slots = record {

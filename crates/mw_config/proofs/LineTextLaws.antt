@@ -1,17 +1,17 @@
 -- The text of a tenants file's line is read as that line, and what is read as a line is its text.
 -- Used by: tenants::read_line, read_path.
-use Rattle.std.proofs.Common.{◌≡◌, ℕ, Bool, true, false, eqb, List, [], ◌∷◌, ◌++◌, Some, None, refl, sym, ap, subst, ◌∙◌, inl, inr, append_assoc, eqb-true, ◌&&◌, eq-eqb}
+use Rattle.std.proofs.Common.{◌≡◌, ℕ, Bool, Option, true, false, eqb, List, [], ◌∷◌, ◌++◌, Some, None, refl, sym, ap, subst, ◌∙◌, inl, inr, append_assoc, eqb-true, ◌&&◌, eq-eqb}
 use Rattle.std.specs.Prelude.{codes}
 use Rattle.std.specs.List.{list_all}
 use Rattle.std.proofs.lemmas.Option.{none-some, same_Some, some_pair_parts}
 use Rattle.mw_words.specs.Name.{is_name, is_name_byte}
 use Rattle.mw_line.specs.Number.{numeral}
-use Rattle.mw_line.specs.LineReader.{behind, field_at, number_at}
+use Rattle.mw_line.specs.LineReader.{◌>>=◌, behind, field_at, number_at}
 use Rattle.mw_line.proofs.Entries.{bind_some, cases_cond_is}
 use Rattle.mw_line.proofs.Fronts.{behind_found, cases_eqb}
 use Rattle.mw_line.proofs.Numerals.{number_again, number_found, IsNumberRead}
 use Rattle.mw_config.specs.LineTexts.{Line, IsLine, HasNoLine, spelling, is_path, is_path_byte}
-use Rattle.mw_config.specs.LineReader.{line_at}
+use Rattle.mw_config.specs.LineReader.{line_at, line_by, number_field}
 
 pub both_true : (a b : Bool) → (a && b) ≡ true → (a ≡ true) × (b ≡ true)
 both_true true b h = (refl, h)
@@ -85,8 +85,22 @@ pub record IsLineRead (see : ℕ → ℕ) (bytes : List ℕ) (read : Line) (afte
   pub value : read ≡ seen_line see line
   pub text : bytes ≡ spelling line ++ after
 
-text_of_parts : (a w q p text r1 r2 r3 r4 r5 after : List ℕ) → text ≡ a ++ (32 ∷ r1) → r1 ≡ w ++ r2 → r2 ≡ 32 ∷ r3 → r3 ≡ q ++ r4 → r4 ≡ 32 ∷ r5 → r5 ≡ p ++ (10 ∷ after) → text ≡ ((((((((a ++ codes " ") ++ w) ++ codes " ") ++ q) ++ codes " ") ++ p) ++ codes "\n") ++ after)
-text_of_parts a w q p text r1 r2 r3 r4 r5 after e1 e2 e3 e4 e5 e6 =
+-- what is read as a number and a space is the text of a number and a space
+number_field_found : (see : ℕ → ℕ) (bytes : List ℕ) (m : ℕ) (after : List ℕ) → number_field see bytes ≡ Some (m, after) → IsNumberRead see bytes m (32 ∷ after)
+number_field_found see bytes m after e =
+    let p = bind_some (number_at see bytes) _ (m, after) e in
+    let q = bind_some (behind (codes " ") p.0.1) _ (m, after) p.2 in
+    let parts = some_pair_parts p.0.0 m q.0 after q.2 in
+    let read = number_found see bytes p.0.0 p.0.1 p.1 in
+    let space = behind_found (codes " ") p.0.1 q.0 q.1 in
+    record {
+      number = read.number;
+      value = sym parts.0 ∙ read.value;
+      text = read.text ∙ ap (λ (rest : List ℕ). numeral read.number ++ rest) (space ∙ ap (λ (rest : List ℕ). 32 ∷ rest) parts.1);
+    }
+
+text_of_parts : (a w q p text r1 r2 r3 after : List ℕ) → text ≡ a ++ (32 ∷ r1) → r1 ≡ w ++ (32 ∷ r2) → r2 ≡ q ++ (32 ∷ r3) → r3 ≡ p ++ (10 ∷ after) → text ≡ ((((((((a ++ codes " ") ++ w) ++ codes " ") ++ q) ++ codes " ") ++ p) ++ codes "\n") ++ after)
+text_of_parts a w q p text r1 r2 r3 after e1 e2 e3 e4 =
     let whole : text ≡ a ++ (32 ∷ (w ++ (32 ∷ (q ++ (32 ∷ (p ++ (10 ∷ after))))))) = cc in
     whole ∙ sym (regrouped a w q p after)
 
@@ -96,12 +110,12 @@ made name words quota path after = (record { name = name; words = words; quota =
 made_of : (see : ℕ → ℕ) (name path : List ℕ) (m1 m2 n1 n2 : ℕ) (after : List ℕ) → m1 ≡ see n1 → m2 ≡ see n2 → made name m1 m2 path after ≡ made name (see n1) (see n2) path after
 made_of see name path m1 m2 n1 n2 after p q = rw (p, q) refl
 
-line_from : (see : ℕ → ℕ) (text a p r1 r2 r3 r4 r5 after : List ℕ) (m1 m2 : ℕ) → is_name a ≡ true → is_path p ≡ true → text ≡ a ++ (32 ∷ r1) → IsNumberRead see r1 m1 r2 → r2 ≡ 32 ∷ r3 → IsNumberRead see r3 m2 r4 → r4 ≡ 32 ∷ r5 → r5 ≡ p ++ (10 ∷ after) → IsLineRead see text (made a m1 m2 p after).0 after
-line_from see text a p r1 r2 r3 r4 r5 after m1 m2 name path e1 n1 e3 n2 e5 e6 = record {
+line_from : (see : ℕ → ℕ) (text a p r1 r2 r3 after : List ℕ) (m1 m2 : ℕ) → is_name a ≡ true → is_path p ≡ true → text ≡ a ++ (32 ∷ r1) → IsNumberRead see r1 m1 (32 ∷ r2) → IsNumberRead see r2 m2 (32 ∷ r3) → r3 ≡ p ++ (10 ∷ after) → IsLineRead see text (made a m1 m2 p after).0 after
+line_from see text a p r1 r2 r3 after m1 m2 name path e1 n1 n2 e4 = record {
   line = record { name = a; words = n1.number; quota = n2.number; path = p };
   formed = (name, path);
   value = ap (λ (x : Line × List ℕ). x.0) (made_of see a p m1 m2 n1.number n2.number after n1.value n2.value);
-  text = text_of_parts a (numeral n1.number) (numeral n2.number) p text r1 r2 r3 r4 r5 after e1 n1.text e3 n2.text e5 e6;
+  text = text_of_parts a (numeral n1.number) (numeral n2.number) p text r1 r2 r3 after e1 n1.text n2.text e4;
 }
 
 as_found : (see : ℕ → ℕ) (text : List ℕ) (x y : Line × List ℕ) → Some x ≡ Some y → IsLineRead see text x.0 x.1 → IsLineRead see text y.0 y.1
@@ -111,18 +125,18 @@ pub line_found : (see : ℕ → ℕ) (text : List ℕ) (m : Line) (after : List 
 unfolding line_at
 line_found see text m after e =
     let p1 = bind_some (field_at 32 text) _ (m, after) e in
-    let p2 = bind_some (number_at see p1.0.1) _ (m, after) p1.2 in
-    let p3 = bind_some (behind (codes " ") p2.0.1) _ (m, after) p2.2 in
-    let p4 = bind_some (number_at see p3.0) _ (m, after) p3.2 in
-    let p5 = bind_some (behind (codes " ") p4.0.1) _ (m, after) p4.2 in
-    let p6 = bind_some (field_at 10 p5.0) _ (m, after) p5.2 in
-    elim (cases_cond_is (is_name p1.0.0 && is_path p6.0.0) _ _ _ p6.2) [
+    let p2 = bind_some (number_field see p1.0.1) _ (m, after) p1.2 in
+    let p3 = bind_some (number_field see p2.0.1) _ (m, after) p2.2 in
+    let p4 = bind_some (field_at 10 p3.0.1) _ (m, after) p3.2 in
+    let p5 = bind_some (line_by p1.0.0 p2.0.0 p3.0.0 p4.0.0) _ (m, after) p4.2 in
+    elim (cases_cond_is (is_name p1.0.0 && is_path p4.0.0) _ _ _ p5.1) [
       | inl h ↦
-          let ok = both_true (is_name p1.0.0) (is_path p6.0.0) h.0 in
-          let n1 = number_found see p1.0.1 p2.0.0 p2.0.1 p2.1 in
-          let n2 = number_found see p3.0 p4.0.0 p4.0.1 p4.1 in
-          as_found see text (made p1.0.0 p2.0.0 p4.0.0 p6.0.0 p6.0.1) (m, after) h.1 (line_from see text p1.0.0 p6.0.0 p1.0.1 p2.0.1 p3.0 p4.0.1 p5.0 p6.0.1 p2.0.0 p4.0.0 ok.0 ok.1 (field_found 32 text p1.0.0 p1.0.1 p1.1) n1 (behind_found (codes " ") p2.0.1 p3.0 p3.1) n2 (behind_found (codes " ") p4.0.1 p5.0 p5.1) (field_found 10 p5.0 p6.0.0 p6.0.1 p6.1))
-      | inr h ↦ absurd (none-some (m, after) h.1)
+          let ok = both_true (is_name p1.0.0) (is_path p4.0.0) h.0 in
+          let n1 = number_field_found see p1.0.1 p2.0.0 p2.0.1 p2.1 in
+          let n2 = number_field_found see p2.0.1 p3.0.0 p3.0.1 p3.1 in
+          let same = ap (λ (line : Option Line). line >>= (λ line. Some (line, p4.0.1))) h.1 ∙ p5.2 in
+          as_found see text (made p1.0.0 p2.0.0 p3.0.0 p4.0.0 p4.0.1) (m, after) same (line_from see text p1.0.0 p4.0.0 p1.0.1 p2.0.1 p3.0.1 p4.0.1 p2.0.0 p3.0.0 ok.0 ok.1 (field_found 32 text p1.0.0 p1.0.1 p1.1) n1 n2 (field_found 10 p3.0.1 p4.0.0 p4.0.1 p4.1))
+      | inr h ↦ absurd (none-some p5.0 h.1)
     ]
 
 -- if no line is read, the text doesn't begin with a line

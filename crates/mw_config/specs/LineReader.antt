@@ -13,18 +13,26 @@ use Rattle.mw_config.specs.LineTexts.{Line, IsLine, is_path, line_of, spelling}
 use Rattle.mw_config.specs.Limits.{HasWords, HasQuota, IsNew}
 use Rattle.mw_config.specs.Refusals.{IsAtLine, IsWrong}
 
+-- the line of this name and path and these numbers, if they are a name and a path
+abbrev pub line_by : List ℕ → ℕ → ℕ → List ℕ → Option Line
+line_by name words quota path = if is_name name && is_path path then Some (record { name = name; words = words; quota = quota; path = path }) else None
+
+-- the number at the front, as the reader sees it, and the bytes after the space that follows it
+abbrev pub number_field : (ℕ → ℕ) → List ℕ → Option (ℕ × List ℕ)
+number_field see text = do
+  number ← number_at see text
+  after ← behind (codes " ") number.1
+  Some (number.0, after)
+
 -- the first line, with its numbers as the reader sees them, and the bytes after it
 unfoldable pub line_at : (ℕ → ℕ) → List ℕ → Option (Line × List ℕ)
 line_at see text = do
   name ← field_at 32 text
-  words ← number_at see name.1
-  second ← behind (codes " ") words.1
-  quota ← number_at see second
-  third ← behind (codes " ") quota.1
-  path ← field_at 10 third
-  if is_name name.0 && is_path path.0
-      then Some (record { name = name.0; words = words.0; quota = quota.0; path = path.0 }, path.1)
-      else None
+  words ← number_field see name.1
+  quota ← number_field see words.1
+  path ← field_at 10 quota.1
+  line ← line_by name.0 words.0 quota.0 path.0
+  Some (line, path.1)
 
 -- a number is 1 to most
 abbrev pub is_within : ℕ → ℕ → Bool

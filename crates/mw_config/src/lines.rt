@@ -58,18 +58,30 @@ pub fn fields_at(text: &[u8]) -> Option<(Told, &[u8])>
     ensures { Gives (λ x. (line_of_fields x.0, x.1.now)) result (spec.line_at narrow.addr text.now) }
 {
     let (name, rest) = field(b' ', text)?;
-    let (words, rest) = number_at(rest)?;
-    let rest = behind(b" ", rest)?;
-    let (quota, rest) = number_at(rest)?;
-    let rest = behind(b" ", rest)?;
+    let (words, rest) = number_field(rest)?;
+    let (quota, rest) = number_field(rest)?;
     let (path, rest) = field(b'\n', rest)?;
-    let told = Told {
+    Some((told_by(name, words, quota, path)?, rest))
+}
+
+/// Reads the number at the front of `text` and the space after it. Gives the number and the bytes after the space.
+fn number_field(text: &[u8]) -> Option<(u16, &[u8])>
+    ensures { Gives (λ x. (x.0, x.1.now)) result (spec.number_field narrow.addr text.now) }
+{
+    let (number, rest) = number_at(text)?;
+    Some((number, behind(b" ", rest)?))
+}
+
+/// Makes the fields of a line whose name and path are these texts, if they are a name and a path.
+fn told_by(name: &[u8], words: u16, quota: u16, path: &[u8]) -> Option<Told>
+    ensures { Gives line_of_fields result (spec.line_by name.now words quota path.now) }
+{
+    Some(Told {
         name: read_name(name)?,
         words,
         quota,
         path: read_path(path)?,
-    };
-    Some((told, rest))
+    })
 }
 
 fn read_name(text: &[u8]) -> Option<Name>

@@ -1,7 +1,7 @@
 //! A socket at which clients come: of TCP, or a local one.
 //!
-//! Used by: `sockets.rt`, `local.rt`; mw_workers and mw_programs, for [`Closer`]. It has no contracts. [`BACKLOG`] may
-//! have another number; docs/PROTOCOL and docs/OPERATING tell it, and scripts/check-sockets has it.
+//! Used by: `brief`, `sockets.rt`, `local.rt`; mw_workers and mw_programs, for [`Closer`]. It has no contracts.
+//! [`BACKLOG`] may have another number; docs/PROTOCOL and docs/OPERATING tell it, and scripts/check-sockets has it.
 use std::io::{self, ErrorKind};
 use std::net::{Shutdown, TcpListener, TcpStream};
 use std::os::fd::{AsRawFd, OwnedFd};

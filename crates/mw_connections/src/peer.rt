@@ -1,6 +1,7 @@
 //! Defines the traits of listeners and of a client's connection.
 //!
-//! Used by: `sockets.rt`, `patience.rt`, mw_workers, mw_programs, tests. A new call needs a body in each implementation.
+//! Used by: `metered`, `sockets.rt`, `patience.rt`, mw_workers, mw_programs, tests. A new call needs a body in each
+//! implementation.
 ghost use Rattle.std.specs.Prelude.{ℕ, ◌≡◌, List, Option};
 ghost use Rattle.std.specs.declared.result.Result.{Result as Outcome};
 ghost use Rattle.std.specs.declared.io.Error.{Error as IoError};

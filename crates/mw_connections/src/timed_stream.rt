@@ -2,7 +2,7 @@
 //!
 //! `sockets.rt` makes one for each client's session, and `brief.rt` one for each client that stays for one request.
 //! Nothing is proved of sockets. [`FAREWELL`] may have another number; docs/PROTOCOL and docs/OPERATING tell it.
-ghost use Rattle.std.specs.Prelude.{None};
+ghost use Rattle.std.specs.Prelude.{◌≡◌, None, IfSome};
 ghost use Rattle.std.specs.Io.{ReadsAtMost, WritesAtMost};
 
 use crate::time_limits::{Times, WaitLimits, left_of, lesser};
@@ -131,6 +131,24 @@ impl<'a, K> TimedStream<'a, K> {
         }
     }
 
+    /// Notes what a read gave: counts the bytes, and goes on with the times.
+    fn note_read(&mut self, answer: &io::Result<usize>, piece: &[u8])
+        requires { ReadsAtMost answer.now piece.now }
+    {
+        if let Ok(count) = answer {
+            self.count_received(*count);
+            self.reading.times = self.reading.times.after_piece(&piece[..*count]);
+        }
+    }
+
+    /// Notes what a write took: counts the bytes, and goes on with the times.
+    fn note_write(&mut self, answer: &io::Result<usize>, text: &[u8]) {
+        if let Ok(count) = answer {
+            self.count_sent(*count);
+            self.writing.times = self.writing.times.after_write(*count == text.len());
+        }
+    }
+
     /// Gives the limits while these others may wait for the worker.
     fn limits_beside<O: Others>(&self, others: &O) -> WaitLimits {
         WaitLimits {
@@ -140,30 +158,82 @@ impl<'a, K> TimedStream<'a, K> {
         }
     }
 
+    /// Limits the waits of the socket's reads so, if they have another limit.
+    fn limit_reads(&mut self, wait: Option<Duration>) -> io::Result<()> {
+        if wait == self.reading.set {
+            return Ok(());
+        }
+        self.stream.set_read_timeout(wait)?;
+        self.reading.set = wait;
+        Ok(())
+    }
+
     /// Reads once, and waits at most for so long.
     fn read_within(&mut self, wait: Option<Duration>, piece: &mut [u8]) -> io::Result<usize>
         ensures { ReadsAtMost result piece.new }
     {
-        if wait != self.reading.set {
-            self.stream.set_read_timeout(wait)?;
-            self.reading.set = wait;
+        match self.limit_reads(wait) {
+            Ok(()) => self.stream.read(piece),
+            Err(fault) => Err(fault),
         }
-        self.stream.read(piece)
+    }
+
+    /// Limits the waits of the socket's writes so, if they have another limit.
+    fn limit_writes(&mut self, wait: Option<Duration>) -> io::Result<()> {
+        if wait == self.writing.set {
+            return Ok(());
+        }
+        self.stream.set_write_timeout(wait)?;
+        self.writing.set = wait;
+        Ok(())
     }
 
     /// Writes once, and waits at most for so long.
     fn write_within(&mut self, wait: Option<Duration>, text: &[u8]) -> io::Result<usize>
         ensures { WritesAtMost result text.now }
     {
-        if wait != self.writing.set {
-            self.stream.set_write_timeout(wait)?;
-            self.writing.set = wait;
+        match self.limit_writes(wait) {
+            Ok(()) => self.stream.write(text),
+            Err(fault) => Err(fault),
         }
-        self.stream.write(text)
     }
 }
 
 impl<K: Clock> TimedStream<'_, K> {
+    /// Reads once within the limits, by the clock only if it must.
+    fn read_in_time<R: Wait, O: Others>(
+        &mut self,
+        rt: &R,
+        others: &O,
+        piece: &mut [u8],
+    ) -> io::Result<usize>
+        ensures { ReadsAtMost result piece.new }
+    {
+        let limits = self.limits_beside(others);
+        if self.reading.needs_clock(&limits) {
+            self.read_by_clock(rt, others, &limits, piece)
+        } else {
+            self.read_at_first(rt, others, &limits, piece)
+        }
+    }
+
+    /// Writes once within the limits, by the clock only if it must.
+    fn write_in_time<R: Wait, O: Others>(
+        &mut self,
+        rt: &R,
+        others: &O,
+        text: &[u8],
+    ) -> io::Result<usize>
+        ensures { WritesAtMost result text.now }
+    {
+        let limits = self.limits_beside(others);
+        if self.writing.needs_clock(&limits) {
+            self.write_by_clock(rt, others, &limits, text)
+        } else {
+            self.write_at_first(rt, others, &limits, text)
+        }
+    }
+
     /// Reads until a limit is over, which the clock tells.
     fn read_by_clock<R: Wait, O: Others>(
         &mut self,
@@ -174,18 +244,45 @@ impl<K: Clock> TimedStream<'_, K> {
     ) -> io::Result<usize>
         ensures { ReadsAtMost result piece.new }
     {
-        let clock = self.clock;
-        let called = Instant::now(clock)?;
-        let mut now = called;
+        let called = Instant::now(self.clock)?;
         self.reading.times = self.reading.times.started(called);
+        self.read_from(rt, others, limits, called, piece)
+    }
+
+    /// Reads until a limit of a call that began at `called` is over.
+    fn read_from<R: Wait, O: Others>(
+        &mut self,
+        rt: &R,
+        others: &O,
+        limits: &WaitLimits,
+        called: Instant,
+        piece: &mut [u8],
+    ) -> io::Result<usize>
+        ensures { ReadsAtMost result piece.new }
+    {
+        let mut now = called;
         for _ in rt.forever() {
-            let wait = self.reading.wait_left(limits, called, now, others.wait())?;
-            match self.read_within(wait, piece) {
-                Err(fault) if is_no_end(&fault) => now = Instant::now(clock)?,
-                answer => return answer,
+            let left = self.reading.wait_left(limits, called, now, others.wait());
+            if let Some(answer) = self.read_for(left, piece) {
+                return answer;
             }
+            now = Instant::now(self.clock)?;
         }
         unreachable!()
+    }
+
+    /// Reads once, if a wait is left. None: nothing came meanwhile, and it may be read again.
+    fn read_for(
+        &mut self,
+        left: io::Result<Option<Duration>>,
+        piece: &mut [u8],
+    ) -> Option<io::Result<usize>>
+        ensures { IfSome result (λ answer. ReadsAtMost answer piece.new) }
+    {
+        match left {
+            Ok(wait) => unless_no_end(self.read_within(wait, piece)),
+            Err(fault) => Some(Err(fault)),
+        }
     }
 
     /// Reads once for a whole silence. If a signal cuts that short, it reads on by the clock.
@@ -216,18 +313,46 @@ impl<K: Clock> TimedStream<'_, K> {
     ) -> io::Result<usize>
         ensures { WritesAtMost result text.now }
     {
-        let clock = self.clock;
-        let called = Instant::now(clock)?;
-        let mut now = called;
+        let called = Instant::now(self.clock)?;
         self.writing.times = self.writing.times.started(called);
+        self.write_from(rt, others, limits, called, text)
+    }
+
+    /// Writes until a limit of a call that began at `called` is over.
+    fn write_from<R: Wait, O: Others>(
+        &mut self,
+        rt: &R,
+        others: &O,
+        limits: &WaitLimits,
+        called: Instant,
+        text: &[u8],
+    ) -> io::Result<usize>
+        ensures { WritesAtMost result text.now }
+    {
+        let mut now = called;
         for _ in rt.forever() {
-            let wait = self.writing.wait_left(limits, called, now, others.wait())?;
-            match self.write_within(lesser(wait, limits.write_wait()), text) {
-                Err(fault) if is_no_end(&fault) => now = Instant::now(clock)?,
-                answer => return answer,
+            let left = self.writing.wait_left(limits, called, now, others.wait());
+            if let Some(answer) = self.write_for(left, limits, text) {
+                return answer;
             }
+            now = Instant::now(self.clock)?;
         }
         unreachable!()
+    }
+
+    /// Writes once, if a wait is left. None: nothing was taken meanwhile, and it may be written again.
+    fn write_for(
+        &mut self,
+        left: io::Result<Option<Duration>>,
+        limits: &WaitLimits,
+        text: &[u8],
+    ) -> Option<io::Result<usize>>
+        ensures { IfSome result (λ answer. WritesAtMost answer text.now) }
+    {
+        match left {
+            Ok(wait) => unless_no_end(self.write_within(lesser(wait, limits.write_wait()), text)),
+            Err(fault) => Some(Err(fault)),
+        }
     }
 
     /// Writes once for a while. If nothing was taken meanwhile, it writes on by the clock.
@@ -247,6 +372,16 @@ impl<K: Clock> TimedStream<'_, K> {
     }
 }
 
+/// Gives the answer of a call. None: it may be made again.
+fn unless_no_end(answer: io::Result<usize>) -> Option<io::Result<usize>>
+    ensures { IfSome result (λ given. given ≡ answer) }
+{
+    match answer {
+        Err(fault) if is_no_end(&fault) => None,
+        answer => Some(answer),
+    }
+}
+
 /// Tells whether a call gave nothing because its time was over or a signal came, and may be made again.
 fn is_no_end(fault: &io::Error) -> bool {
     matches!(fault.kind(), ErrorKind::WouldBlock | ErrorKind::Interrupted)
@@ -263,30 +398,14 @@ impl<K: Clock> PeerStream for TimedStream<'_, K> {
         others: &O,
         piece: &mut [u8],
     ) -> io::Result<usize> {
-        let limits = self.limits_beside(others);
-        let answer = if self.reading.needs_clock(&limits) {
-            self.read_by_clock(rt, others, &limits, piece)
-        } else {
-            self.read_at_first(rt, others, &limits, piece)
-        };
-        if let Ok(count) = answer {
-            self.count_received(count);
-            self.reading.times = self.reading.times.after_piece(&piece[..count]);
-        }
+        let answer = self.read_in_time(rt, others, piece);
+        self.note_read(&answer, piece);
         answer
     }
 
     fn write<R: Wait, O: Others>(&mut self, rt: &R, others: &O, text: &[u8]) -> io::Result<usize> {
-        let limits = self.limits_beside(others);
-        let answer = if self.writing.needs_clock(&limits) {
-            self.write_by_clock(rt, others, &limits, text)
-        } else {
-            self.write_at_first(rt, others, &limits, text)
-        };
-        if let Ok(count) = answer {
-            self.count_sent(count);
-            self.writing.times = self.writing.times.after_write(count == text.len());
-        }
+        let answer = self.write_in_time(rt, others, text);
+        self.note_write(&answer, text);
         answer
     }
 

@@ -1,4 +1,5 @@
 -- How a call on a file ends (its step on a shared word) follows from the answer of the book on which it was made.
+-- Used by: CalledFiles, StepEnds.
 use Rattle.std.specs.Prelude.{◌+◌, ℕ, ◌≡◌, ◌≢◌, ◌<◌, ◌≤◌, Bool, true, false, nat_lt, List, [], ◌∷◌, length, Option, Some, None}
 use Rattle.std.proofs.Common.{refl, sym, ap, subst, ◌∙◌, arith}
 use Rattle.std.proofs.lemmas.Bool.{cond-false, cond-true, ltb-true}

@@ -1,4 +1,4 @@
--- What the steps of a read have found is evidence for the reason for which it begins again.
+-- What the steps of a read have found is evidence for the reason for which it begins again. Used by: ReadRoundLaws.
 use Rattle.std.specs.Prelude.{ℕ, ◌≡◌, ◌+◌, ◌-◌, ◌==◌, Bool, true, false, cond, nat_lt, List, [], ◌∷◌, Option, Some, None, IfSome}
 use Rattle.std.specs.Option.{option_or}
 use Rattle.std.proofs.Common.{refl, inl, inr}

@@ -1,4 +1,4 @@
--- The steps of a call on a file, taken together, are one whole call of the request.
+-- The steps of a call on a file, taken together, are one whole call of the request. Used by: CallWithItsFile, MadeCalls.
 use Rattle.std.specs.Prelude.{ℕ, ◌≡◌, ◌<◌, ◌++◌, Bool, [], ◌∷◌, map, Some, None}
 use Rattle.std.proofs.Common.{sym, ap, subst, ◌∙◌}
 use Rattle.mw_words.specs.declared.statuses.Status.{Status}

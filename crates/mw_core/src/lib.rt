@@ -9,6 +9,12 @@
 //! `specs/Steps` says what `begin`, `step` and `advance` do, `specs/FileCalls` what `file` does, `specs/ReadRounds`
 //! and `specs/Reasons` what `try_look` does, and `specs/Books` when a book and a file token agree.
 //!
+//! - *What a contract says*: each step is the one that the request's program names, and extends a run of the world.
+//!   [`Core::file`] makes the due call on the book.
+//! - *Proved*: a book and a file token that agree do so after each call (`laws.rt`).
+//! - *Tested only*: that threads' requests get replies (mw_engine_tests), and ask for no memory
+//!   (`scripts/check-memory`).
+//!
 //! Used by: mw_engine, mw_table_tests; mw_opening and mw_law_threads, in contracts.
 //!
 //! [`Book`]: mw_book::Book

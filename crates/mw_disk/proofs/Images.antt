@@ -1,5 +1,5 @@
 -- A crash of a disk in memory may leave any bytes that differ from what a read gives only in ranges written since the last
--- sync. (`Differs` also bounds their number.)
+-- sync. (`Differs` also bounds their number.) Used by: TornBytes.
 use Rattle.std.proofs.Common.{◌≡◌, ◌<◌, ◌≤◌, ℕ, ◌+◌, true, false, cond, List, [], ◌∷◌, ◌++◌, length, min, max, map, get_or, sym, ◌∙◌, inl, inr, ◌⊎◌, arith, ltb, leb}
 use Rattle.std.specs.List.{range_with_len}
 use Rattle.std.proofs.lemmas.List.{ext_get_or}

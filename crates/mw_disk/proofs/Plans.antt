@@ -1,4 +1,4 @@
--- A call on a disk in memory goes well or fails as the disk's script, and the call at which it stops, say.
+-- A call on a disk in memory goes well or fails as the disk's script, and the call at which it stops, say. Used by: Remembered.
 use Rattle.std.proofs.Common.{◌≡◌, ◌≤◌, ℕ, ◌+◌, suc, Bool, true, false, cond, List, min, refl, sym, ap, ◌∙◌, inl, inr, arith, Option, Some, None}
 use Rattle.std.specs.Prelude.{◌==◌, ◌&&◌, nat_lt}
 use Rattle.std.specs.List.{list_any}

@@ -4,6 +4,11 @@
 //! [`Disk`] is the trait, and `device.rt` the disk model. [`MemDisk`] is a disk in memory, for tests and the
 //! simulated files of mw_world_file. [`FileDisk`] is one over a real file, for the server.
 //!
+//! - *What a contract says*: of an honest disk, what reads give and a crash may leave; of any, how often it failed.
+//! - *Proved*: [`MemDisk`] is honest. The same calls lead to one disk, the same torn bytes to one image.
+//! - *Tested only*: which bytes [`FileDisk`] reads and writes (`disk_tests` of mw_file_tests). A real disk is assumed
+//!   to keep the model.
+//!
 //! Used by: many crates from mw_file on, which makes all calls. A change of the disk model changes what the server
 //! assumes (README, docs/PROMISES, docs/OPERATING).
 #![tactic(auto)]

@@ -17,9 +17,9 @@
 //!
 //! A worker enters the room, and tries the lock before each sleep. The lock's holder looks into the room after the
 //! release. It makes calls there, or rings the bell of the one that came first, unless it comes back soon itself.
-//! Three of the workers whose calls were made are rung, and each that takes its request back rings the next: if all
-//! woke at once, the first reply would wait for a processor. A worker whose change another one has sealed sleeps on
-//! until the settle of all.
+//! Before a sync it rings the first of the workers whose calls were made, before a sleep the first three, and each that
+//! takes its request back rings the next: if all woke at once, the first reply would wait for a processor. A worker
+//! whose change another one has sealed sleeps on until the settle of all.
 //!
 //! Used by: `one_call`, which takes the lock and sends requests here; `serving` calls `depart`, and `copies`
 //! `wake_next`. Change it with `specs/Errands`. After a change run scripts/check-wakes, which reads `LONG_SLEEP` and
@@ -84,15 +84,13 @@ impl<J: EngineBrand, D: Disk + Drop, H: Hold + Drop> Engine<J, D, H> {
         &self,
         rt: &impl Wait,
         lock: &FileLock<J, D>,
+        own_box: &ErrandBox<J, D>,
         errand: Errand,
         waiter: Waiter,
     ) -> Errand
         requires here { IsCarriedHere J.identity errand }
         ensures { GoesOn D.facts J.identity errand result }
     {
-        let Some(own_box) = self.errands.get(usize::from(waiter.worker)) else {
-            return self.go_oneself(rt, errand);
-        };
         let change = waiting_change(&errand.actor);
         own_box.begin();
         match own_box.loan.leave(errand) {
@@ -104,9 +102,8 @@ impl<J: EngineBrand, D: Disk + Drop, H: Hold + Drop> Engine<J, D, H> {
         }
     }
 
-    /// Makes the next call of a request on its file alone, and waits for the lock. It is for a box that isn't at its
-    /// number or isn't empty, and for a request of which no other worker knows. None of these happens, but no type says
-    /// so.
+    /// Makes the next call of a request on its file alone, and waits for the lock. It is for a box that isn't empty, and
+    /// for a request of which no other worker knows. Neither happens, but no type says so.
     #[tactic(auto, using(crate::proofs::RequestsGoOn::called, crate::proofs::RequestsGoOn::stays))]
     fn go_oneself(&self, rt: &impl Wait, errand: Errand) -> Errand
         requires here { IsCarriedHere J.identity errand }
@@ -143,12 +140,11 @@ impl<J: EngineBrand, D: Disk + Drop, H: Hold + Drop> Engine<J, D, H> {
             is_forgotten: false,
         };
         for _ in rt.forever() {
-            let heard = own_box.bell.listen();
-            match self.fetch(rt, lock, own_box, waiter, receipt, stay) {
+            stay = self.serve_until_done(rt, lock, own_box, stay, waiter.worker);
+            match self.fetch(rt, lock, own_box, waiter, receipt, stay.has_served) {
                 Ok(errand) => return errand,
                 Err(same) => receipt = same,
             }
-            stay = self.serve_or_sleep(rt, lock, own_box, heard, stay, waiter.worker);
         }
         unreachable!()
     }
@@ -161,22 +157,31 @@ impl<J: EngineBrand, D: Disk + Drop, H: Hold + Drop> Engine<J, D, H> {
         own_box: &ErrandBox<J, D>,
         waiter: &Waiter,
         receipt: Receipt<Errand>,
-        stay: Stay,
+        has_served: bool,
     ) -> Result<Errand, Receipt<Errand>>
         requires own { IsReceiptOf own_box.now.loan.table.shared.table_id receipt }
         ensures gone_on { (left : ErrandOf) → IsReceiptFor own_box.now.loan.table.shared.table_id left receipt → IfOk result (λ errand. GoesOn D.facts J.identity left errand) }
         ensures kept { (left : ErrandOf) → IsReceiptFor own_box.now.loan.table.shared.table_id left receipt → IfErr result (λ same. IsReceiptFor own_box.now.loan.table.shared.table_id left same) }
     {
-        if own_box.is_done() {
-            let taken = own_box.loan.take_back(receipt, Kept::Returned);
-            if taken.is_ok() {
-                self.go(rt, lock, waiter, stay.has_served);
-            }
-            return taken;
+        if !own_box.is_done() {
+            return self.reclaim(rt, own_box, receipt);
         }
-        if !stay.is_forgotten {
-            return Err(receipt);
-        }
+        self.go(rt, lock, waiter, has_served);
+        own_box.loan.take_back(receipt, Kept::Returned)
+    }
+
+    /// Takes a request back that no other worker knows of, and makes its call. If another one has it after all, gives
+    /// the receipt back.
+    fn reclaim(
+        &self,
+        rt: &impl Wait,
+        own_box: &ErrandBox<J, D>,
+        receipt: Receipt<Errand>,
+    ) -> Result<Errand, Receipt<Errand>>
+        requires own { IsReceiptOf own_box.now.loan.table.shared.table_id receipt }
+        ensures gone_on { (left : ErrandOf) → IsReceiptFor own_box.now.loan.table.shared.table_id left receipt → IfOk result (λ errand. GoesOn D.facts J.identity left errand) }
+        ensures kept { (left : ErrandOf) → IsReceiptFor own_box.now.loan.table.shared.table_id left receipt → IfErr result (λ same. IsReceiptFor own_box.now.loan.table.shared.table_id left same) }
+    {
         match own_box.loan.take_back(receipt, Kept::Waiting) {
             Ok(errand) => Ok(self.go_oneself(rt, errand)),
             Err(same) => Err(same),
@@ -185,6 +190,31 @@ impl<J: EngineBrand, D: Disk + Drop, H: Hold + Drop> Engine<J, D, H> {
 }
 
 impl<J: EngineBrand, D: Disk + Drop, H: Hold + Drop> Engine<J, D, H> {
+    /// Makes calls of those that wait, and sleeps, until the call of the worker's own request was made or no other
+    /// worker knows of the request. Tells how the worker waits from then on. It has no request at hand, because a large
+    /// local value would be cleared in each turn.
+    fn serve_until_done(
+        &self,
+        rt: &impl Wait,
+        lock: &FileLock<J, D>,
+        own_box: &ErrandBox<J, D>,
+        stay: Stay,
+        worker: u8,
+    ) -> Stay {
+        let mut stay = stay;
+        for _ in rt.forever() {
+            let heard = own_box.bell.listen();
+            if own_box.is_done() {
+                return stay;
+            }
+            stay = self.serve_or_sleep(rt, lock, own_box, heard, stay, worker);
+            if stay.is_forgotten {
+                return stay;
+            }
+        }
+        unreachable!()
+    }
+
     /// Makes a call of those that wait, if one may be made. Else sleeps, until the worker's bell is rung or a short
     /// time is over. Tells how the worker waits from then on.
     fn serve_or_sleep(
@@ -246,8 +276,8 @@ impl<J: EngineBrand, D: Disk + Drop, H: Hold + Drop> Engine<J, D, H> {
         unreachable!()
     }
 
-    /// A worker has taken its request back, and goes: it wakes the next of those whose calls were made. If it made
-    /// calls of others meanwhile, it looks once more.
+    /// A worker takes its request back, and goes: it wakes the next of those whose calls were made. If it made calls of
+    /// others meanwhile, it looks once more.
     fn go(&self, rt: &impl Wait, lock: &FileLock<J, D>, waiter: &Waiter, has_served: bool) {
         if let Some(next) = lock.room.take_back(rt, waiter.worker) {
             self.ring(next);

@@ -1,5 +1,8 @@
 //! The engine: the shared words of all tenants, and each tenant's file under a lock of its own.
 //!
+//! Its methods are in `tenants`, `serving`, `steps`, `reads`, `notes`, `meet`, `figures`, `copies`, `end`, `combiner` and
+//! `file_lock/one_call`.
+//!
 //! Used by: mw_service, mw_programs, tests. `start` makes it. Change it with `specs/Brand` and `specs/TenantWords`.
 ghost use Rattle.std.specs.Prelude.{◌≡◌, length};
 ghost use Rattle.mw_engine.specs.Brand.{identity_on};

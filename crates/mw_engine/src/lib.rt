@@ -18,6 +18,12 @@
 //! - `specs/Errands`: how a request comes back to its thread when others may have gone on with it.
 //! - `specs/DisksAtEnd`, `specs/Copies`: which words are on the disks at the end, and in a copy.
 //!
+//! - *What a contract says*: on any disk, each reply of [`Engine::serve`] is right in its tenant's history, or has
+//!   its evidence (`answered`).
+//! - *Proved*: while numbers are left, the tenant's store alone gives it (`laws.rt`).
+//! - *Tested only*: that no lock is kept over a point of [`Hold`] or a reply (`held_tests` of mw_engine_tests), and
+//!   that whoever waits is woken (`scripts/check-waits`, `scripts/check-wakes`).
+//!
 //! Used by: mw_opening, mw_service, mw_law_threads, mw_programs, mw_engine_tests.
 #![tactic(auto)]
 

@@ -1,9 +1,9 @@
 //! Who waits for a tenant's file: workers, one of whose calls is made next, and changes, whose records a call on the
 //! file writes along with its own bytes.
 //!
-//! Used by: `file_lock`, `one_call`, `guarded_file`, `start`, `combiner`. No contract says who is there. A worker
-//! that nobody serves tries the lock itself. After a change run scripts/check-wakes and scripts/check-waits, whose
-//! model (scripts/wait_parts/model.py) changes with it.
+//! Used by: `file_calls`, `file_lock`, `one_call`, `guarded_file`, `start`, `combiner`. No contract says who is there.
+//! A worker that nobody serves tries the lock itself. After a change run scripts/check-wakes and scripts/check-waits,
+//! whose model (scripts/wait_parts/model.py) changes with it.
 use crate::brand::EngineBrand;
 use crate::errand_boxes::ErrandBox;
 use crate::hints::Hints;
@@ -21,6 +21,9 @@ const MOST_WAITING: usize = MAX_WORKERS as usize;
 
 /// How many of the workers whose calls others have made are woken at once. Each of these wakes another.
 const WOKEN_FIRST: usize = 3;
+
+/// How many of them a worker wakes before it syncs.
+const WOKEN_BEFORE_SYNC: usize = 1;
 
 /// Some of the changes that wait for a file.
 pub(crate) type WaitingChanges = ArrayVec<Waiting, MOST_WAITING>;
@@ -50,6 +53,15 @@ pub(crate) enum Look {
     Later,
     /// Nobody waits.
     Nobody,
+}
+
+/// What a call did that was made, as far as is known.
+#[derive(Clone, Copy)]
+struct Made {
+    /// Whether it synced. Only then it wrote records of changes that wait.
+    has_synced: bool,
+    /// Whether it settled all sealed changes.
+    has_settled: bool,
 }
 
 /// The room of a file.
@@ -101,8 +113,7 @@ impl WaitingRoom {
     }
 
     /// Takes the worker out of the room whose call is made next, if one may be made, and adds the changes that wait
-    /// here to a list. If the call syncs, the first workers that were served are to be woken meanwhile, and are added
-    /// to
+    /// here to a list. If the call syncs, the first worker that was served is to be woken meanwhile, and is added to
     /// `woken`. The caller has the file's lock.
     pub(crate) fn choose(
         &self,
@@ -119,7 +130,7 @@ impl WaitingRoom {
         let waiter = waits.waiters.pop_at(place)?;
         move_changes(&mut waits.changes, called);
         if waiter.syncs(&self.hints) {
-            take_first(&mut waits.served, woken);
+            take_first(&mut waits.served, woken, WOKEN_BEFORE_SYNC);
         }
         self.count(&waits);
         Some(waiter)
@@ -153,15 +164,19 @@ impl WaitingRoom {
         book: &Book<D>,
         called: &mut WaitingChanges,
     ) {
-        let has_settled = self.note(waiter);
-        if called.is_empty() && (!has_settled || self.hints.is_nobody_served()) {
+        let made = self.note(waiter);
+        let has_written = made.has_synced && !called.is_empty();
+        let has_settled = made.has_settled && !self.hints.is_nobody_served();
+        if !has_written && !has_settled {
             return;
         }
         let mut waits = self.waits.lock(rt);
         if has_settled {
             wake_sealed(&mut waits);
         }
-        strike_off_written(called, book, waits.waiters.as_mut_slice());
+        if has_written {
+            strike_off_written(called, book, waits.waiters.as_mut_slice());
+        }
         self.count(&waits);
     }
 
@@ -175,14 +190,16 @@ impl WaitingRoom {
         called: &mut WaitingChanges,
         own_box: &ErrandBox<J, D>,
     ) {
-        let has_settled = self.note(waiter);
+        let made = self.note(waiter);
         let mut waits = self.waits.lock(rt);
-        if has_settled {
+        if made.has_settled {
             wake_sealed(&mut waits);
         }
         add_served(&mut waits, waiter);
         own_box.end();
-        strike_off_written(called, book, waits.waiters.as_mut_slice());
+        if made.has_synced {
+            strike_off_written(called, book, waits.waiters.as_mut_slice());
+        }
         self.count(&waits);
     }
 
@@ -203,7 +220,7 @@ impl WaitingRoom {
             return woken;
         }
         let mut waits = self.waits.lock(rt);
-        take_first(&mut waits.served, &mut woken);
+        take_first(&mut waits.served, &mut woken, WOKEN_FIRST);
         self.count(&waits);
         woken
     }
@@ -242,9 +259,10 @@ impl WaitingRoom {
         self.hints.is_nobody_waiting() && self.hints.is_nobody_served()
     }
 
-    /// Notes what a call that was made leaves. Tells whether it settled all sealed changes.
-    fn note(&self, waiter: &Waiter) -> bool {
-        let has_settled = matches!(waiter.call, Call::Settle) && waiter.syncs(&self.hints);
+    /// Notes what a call that was made leaves.
+    fn note(&self, waiter: &Waiter) -> Made {
+        let has_synced = waiter.syncs(&self.hints);
+        let has_settled = has_synced && matches!(waiter.call, Call::Settle);
         match waiter.call {
             Call::Prepare => self.hints.expect(waiter.worker),
             Call::Seal => self.hints.seal(waiter.slot),
@@ -254,7 +272,10 @@ impl WaitingRoom {
             self.hints.settle();
         }
         self.hints.set_syncing(false);
-        has_settled
+        Made {
+            has_synced,
+            has_settled,
+        }
     }
 
     /// Notes how many are here, for those who don't look.
@@ -280,14 +301,19 @@ fn add_served(waits: &mut Waits, waiter: &Waiter) {
 /// Moves the changes that wait to a list, until it is full.
 fn move_changes(changes: &mut WaitingChanges, called: &mut WaitingChanges) {
     for change in changes.as_slice() {
-        if !called.is_full() {
-            called.push(Waiting {
-                slot: change.slot,
-                entries: copy_of(&change.entries),
-            });
-        }
+        add_copy(called, change);
     }
     changes.clear();
+}
+
+/// Adds a copy of a change to a list, unless it is full.
+fn add_copy(called: &mut WaitingChanges, change: &Waiting) {
+    if !called.is_full() {
+        called.push(Waiting {
+            slot: change.slot,
+            entries: copy_of(&change.entries),
+        });
+    }
 }
 
 /// Strikes those off a list of changes that wait whose records a book has: their prepares need no sync.
@@ -299,9 +325,14 @@ fn strike_off_written<D: Disk>(
     for place in (0..called.len()).rev() {
         if let Some(slot) = written_slot(called.as_slice(), place, book) {
             note_written(waiters, slot);
-            called.pop_at(place);
+            strike_off_at(called, place);
         }
     }
+}
+
+/// Strikes the change at a place off a list.
+fn strike_off_at(called: &mut WaitingChanges, place: usize) {
+    called.pop_at(place);
 }
 
 /// The slot of the change at a place of a list, if a book has its record.
@@ -326,7 +357,7 @@ fn note_written(waiters: &mut [Waiter], slot: u8) {
 /// Strikes the change of a slot off a list of those that wait, if it is there.
 pub(crate) fn strike_off(called: &mut WaitingChanges, slot: u8) {
     if let Some(index) = called.iter().position(|waiting| waiting.slot == slot) {
-        called.pop_at(index);
+        strike_off_at(called, index);
     }
 }
 
@@ -340,9 +371,9 @@ fn wake_sealed(waits: &mut Waits) {
     waits.sealed.clear();
 }
 
-/// Moves the first workers to another list.
-fn take_first(served: &mut Workers, woken: &mut Workers) {
-    for _ in 0..WOKEN_FIRST {
+/// Moves the first workers to another list, at most so many.
+fn take_first(served: &mut Workers, woken: &mut Workers, most: usize) {
+    for _ in 0..most {
         if woken.is_full() {
             return;
         }

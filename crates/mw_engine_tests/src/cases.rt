@@ -1,6 +1,6 @@
 //! Plays cases on an engine: tenants with new files, what its workers do, and the files afterwards.
 //!
-//! Used by: all other modules.
+//! Used by: most other modules.
 ghost use Rattle.std.specs.Prelude.{◌≡◌, ◌≤◌, All, IfSome};
 ghost use Rattle.mw_config.specs.Limits.{ArePermitted};
 ghost use Rattle.mw_words.specs.declared.limits.TheConstants.{MAX_POOL};

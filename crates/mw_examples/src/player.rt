@@ -19,10 +19,10 @@
 //! Used by: tests.
 use crate::files::play_file;
 use crate::outputs::{Output, Told, wait_for};
-use crate::stage::{Outcome, Stage, new_folder};
+use crate::stage::{Outcome, Stage};
 use mw_init::init;
 use mw_programs::{Anything, OpensPaths, Printed, SeesPaths, ServerEnd, ServerNetwork, serve};
-use mw_test_peers::{Place, come_and_go};
+use mw_test_peers::{Place, come_and_go, new_folder};
 use std::alloc::{AllocError, Global};
 use std::fs::File;
 use std::io::{self, ErrorKind};

@@ -1,12 +1,12 @@
-//! Where a story is played: its folder, what its words mean, and what it has come to.
+//! The stage of a story: its folder, what it has come to, and what words mean that `player` lists.
 //!
-//! Used by: `files`, `player`, `talks`.
+//! Used by: `files`, `player`, `stories`, `talks`.
 use crate::outputs::Told;
 use mw_test_peers::Caller;
 use std::alloc::AllocError;
 use std::fs::{self, File};
+use std::io;
 use std::sync::atomic::Ordering;
-use std::{env, io, process};
 
 /// What a program gave: its exit status, what it wrote to its two outputs, and whether the file that was watched was
 /// locked each time that it wrote to the first.
@@ -45,7 +45,7 @@ pub(crate) struct Stage<'a> {
 }
 
 impl<'a> Stage<'a> {
-    /// Makes the stage of a story that begins, in a folder that [`new_folder`] has made.
+    /// Makes the stage of a story that begins, in a folder that was made for it.
     pub(crate) fn new(
         host: &'a HostRuntime,
         name: &'a str,
@@ -142,13 +142,4 @@ impl<'a> Stage<'a> {
         }
         Ok(self.failed)
     }
-}
-
-/// Makes a new folder of a story's own.
-pub(crate) fn new_folder(host: &HostRuntime, name: &str) -> io::Result<String> {
-    let id = process::id(host.process());
-    let above = env::temp_dir(host)?;
-    let path = format!(in host.alloc(); "{}/mondlexi-{name}-{id}", above.as_str())?;
-    fs::create_dir(host, path.as_str())?;
-    Ok(path)
 }

@@ -7,8 +7,9 @@ use crate::outputs::Told;
 use crate::player::{Story, parts_of, play, play_beside, play_lines, run_to};
 use crate::serving::SERVERS;
 use crate::sessions::SESSIONS;
-use crate::stage::{Stage, new_folder};
+use crate::stage::Stage;
 use crate::tenants::{TENANTS, TENANTS_FILES};
+use mw_test_peers::new_folder;
 use std::thread;
 
 /// What a test says if a call of the system fails outside of a story's lines.

@@ -1,4 +1,4 @@
-//! Plays the lines of stories that are about the server's clients, and about what the program gave that ran last:
+//! Plays the lines of stories that are about the server's clients, and passes those on that `player` lists:
 //!
 //! - `call ready` and `call admin` connect a client to the server beside the story, at the port that it told with this
 //!   word. Clients are numbered from 0 on.

@@ -1,4 +1,5 @@
 -- If only some bytes of a file's second layout change, the records and home words at all other bytes stay.
+-- Used by: NewPlaces, PlaceWrites, Ready, among others.
 use Rattle.std.proofs.Common.{◌≡◌, ℕ, ◌+◌, ◌<◌, ◌≤◌, ◌==◌, ◌&&◌, nat_le, nat_lt, List, [], ◌∷◌, length, Some, true, slice_index, sym, ap, ◌∙◌, inl, inr, arith, subst}
 use Rattle.std.proofs.lemmas.Bool.{cases_eq, and_parts, or_cases, eqb-true, ltb-true}
 use Rattle.mw_words.specs.declared.limits.TheConstants.{MAX_ENTRIES}

@@ -1,6 +1,6 @@
 -- If all places of a file are free, one change may be prepared, sealed and settled alone, and then all places are free again.
 -- Used by: mw_plain, mw_world_file, mw_book.
-use Rattle.std.proofs.Common.{◌≡◌, ℕ, zero, suc, ◌+◌, ◌-◌, ◌<◌, ◌≤◌, List, [], ◌∷◌, length, take, true, Some, IsSome, is_some, if◌then◌else◌, refl, sym, ap, ◌∙◌, inl, inr, arith}
+use Rattle.std.proofs.Common.{◌++◌, ◌≡◌, ℕ, zero, suc, ◌+◌, ◌-◌, ◌<◌, ◌≤◌, List, [], ◌∷◌, length, take, true, Some, IsSome, is_some, if◌then◌else◌, refl, sym, ap, ◌∙◌, inl, inr, arith}
 use Rattle.std.proofs.lemmas.Bool.{and_parts, and_from, cases_eq, cases_Bool}
 use Rattle.mw_file.specs.declared.place_states.PlaceState.{PlaceState}
 use Rattle.mw_file.specs.declared.place_states.Stage.{Stage}
@@ -23,6 +23,11 @@ pub first_free : (n : ℕ) (states : List PlaceState) → all_free states ≡ tr
 first_free zero states all = refl
 first_free (suc n) [] all = refl
 first_free (suc n) (s ∷ states) all = let parts = and_parts _ _ all in and_from _ _ parts.0 (first_free n states parts.1)
+
+-- if all places are free, so are they with one more that is free
+pub free_with : (states : List PlaceState) (more : PlaceState) → all_free states ≡ true → is_free more ≡ true → all_free (states ++ more ∷ []) ≡ true
+free_with [] more all free = and_from _ _ free refl
+free_with (s ∷ states) more all free = let parts = and_parts _ _ all in and_from _ _ parts.0 (free_with states more parts.1 free)
 
 -- some place is free, if all are free and there is one
 pub free_place-all_free : (states : List PlaceState) → all_free states ≡ true → 0 < length states → IsSome (free_place states)

@@ -14,6 +14,7 @@ pub mod Places
 pub mod Ran
 pub mod Ready
 pub mod Recalled
+mod Recovered
 pub mod Reopened
 pub mod RecordWrites
 pub mod Rolled

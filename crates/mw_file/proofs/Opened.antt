@@ -1,5 +1,5 @@
 -- The opening of a file keeps its promises, although it reads no more than the first MAX_FILE bytes of the disk.
--- Used by: TenantFile::open.
+-- Used by: recover, Recovered, among others.
 use Rattle.std.proofs.Common.{◌≡◌, ℕ, ◌+◌, ◌<◌, ◌≤◌, Bool, true, false, List, ◌++◌, length, take, drop, min, Some, None, is_none, if◌then◌else◌, IsTrue, refl, sym, ap, ◌∙◌, arith, subst, inl, inr}
 use Rattle.std.proofs.lemmas.List.{take-append-le, take_all, get_or-take, get_or-drop, length-take}
 use Rattle.std.proofs.lemmas.Bool.{cases_lt, cases_Bool}

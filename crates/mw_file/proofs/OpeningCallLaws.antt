@@ -1,6 +1,6 @@
 -- The device calls of an opening are those of its parts, one after the other.
--- Used by: TenantFile::open, make_ready, give_second.
-use Rattle.std.proofs.Common.{◌≡◌, ◌++◌, ◌*◌, if◌then◌else◌, ℕ, Bool, true, false, List, [], ◌∷◌, length, replicate, IsTrue, None, Some, is_none, Result, Ok, Err, is_err, is_ok, refl, sym, ap, ◌∙◌, subst, inl, inr}
+-- Used by: read_file, recover, make_ready, give_second.
+use Rattle.std.proofs.Common.{◌≡◌, ◌++◌, ◌*◌, if◌then◌else◌, ℕ, Bool, true, false, List, [], length, replicate, IsTrue, None, Some, is_none, Result, Ok, Err, is_err, is_ok, refl, sym, ap, ◌∙◌, subst, inr}
 use Rattle.std.proofs.lemmas.Bool.{cond-true, cond-false, false≢true}
 use Rattle.std.proofs.lemmas.List.{length-replicate}
 use Rattle.mw_disk.specs.DeviceCalls.{DeviceCall, Length, Makes}
@@ -48,26 +48,27 @@ module _ (image words : List ℕ) where
 
 -- an opening has asked for the length, and then read so many bytes
 module _ {D : Type 0} (made : Made D) (image : List ℕ) (count : ℕ) (long : length image ≡ count) (d0 d1 d2 : D) (first : made Length true d0 d1) where
-  read_made : (well : Bool) → Makes made (front_list count) well d1 d2 → Makes made (read_list (length image)) well d0 d2
+  pub read_made : (well : Bool) → Makes made (front_list count) well d1 d2 → Makes made (read_list (length image)) well d0 d2
   read_made well read = inr (d1, first, subst (λ (n : ℕ). Makes made (front_list n) well d1 d2) (sym long) read)
 
   -- the read failed
   pub failed_read : Makes made (front_list count) false d1 d2 → Makes made (open_list image) false d0 d2
   failed_read read = makes_cut made (read_list (length image)) (if is_none (damage_of image) then ready_list image (words_in image) else []) d0 d2 (read_made false read)
 
+-- an opening has read these bytes
+module _ {D : Type 0} (made : Made D) (image : List ℕ) (d0 d1 : D) (read : Makes made (read_list (length image)) true d0 d1) where
   -- the file is damaged
-  pub damaged_read : (damage : Damage) → damage_of image ≡ Some damage → Makes made (front_list count) true d1 d2 → Makes made (open_list image) true d0 d2
-  damaged_read damage found read =
-      subst (λ (rest : List DeviceCall). Makes made (read_list (length image) ++ rest) true d0 d2)
+  pub damaged_read : (damage : Damage) → damage_of image ≡ Some damage → Makes made (open_list image) true d0 d1
+  damaged_read damage found =
+      subst (λ (rest : List DeviceCall). Makes made (read_list (length image) ++ rest) true d0 d1)
       (sym (cond-false (is_none (damage_of image)) (ready_list image (words_in image)) [] (ap is_none found)))
-      (makes_after made (read_list (length image)) [] true d0 d2 d2 (read_made true read) (makes_none made d2))
+      (makes_after made (read_list (length image)) [] true d0 d1 d1 read (makes_none made d1))
 
   -- the file is not damaged, and was made ready, or a call of that failed
-  pub made_ready : (same words : List ℕ) (well : Bool) (d3 : D) → damage_of image ≡ None → same ≡ image → words ≡ words_in same → Makes made (front_list count) true d1 d2
-      → Makes made (ready_list same words) well d2 d3 → Makes made (open_list image) well d0 d3
-  made_ready same words well d3 none is has read ready =
-      let here : Makes made (ready_list image words) well d2 d3 = subst (λ (i : List ℕ). Makes made (ready_list i words) well d2 d3) is ready in
-      let told : Makes made (ready_list image (words_in image)) well d2 d3 = subst (λ (ws : List ℕ). Makes made (ready_list image ws) well d2 d3) (has ∙ ap words_in is) here in
-      subst (λ (rest : List DeviceCall). Makes made (read_list (length image) ++ rest) well d0 d3)
+  pub made_ready : (words : List ℕ) (well : Bool) (d2 : D) → damage_of image ≡ None → words ≡ words_in image
+      → Makes made (ready_list image words) well d1 d2 → Makes made (open_list image) well d0 d2
+  made_ready words well d2 none has ready =
+      let told : Makes made (ready_list image (words_in image)) well d1 d2 = subst (λ (ws : List ℕ). Makes made (ready_list image ws) well d1 d2) has ready in
+      subst (λ (rest : List DeviceCall). Makes made (read_list (length image) ++ rest) well d0 d2)
       (sym (cond-true (is_none (damage_of image)) (ready_list image (words_in image)) [] (ap is_none none)))
-      (makes_after made (read_list (length image)) (ready_list image (words_in image)) well d0 d2 d3 (read_made true read) told)
+      (makes_after made (read_list (length image)) (ready_list image (words_in image)) well d0 d1 d2 read told)

@@ -1,5 +1,5 @@
 -- If bytes of a file's second layout change, what is before it stays. Offsets of the file are turned into offsets of the
--- layout, and back.
+-- layout, and back. Used by: Bytes, OneWrite, OnlyRead, among others.
 use Rattle.std.proofs.Common.{◌≡◌, ℕ, ◌+◌, ◌-◌, ◌==◌, ◌<◌, ◌≤◌, List, ◌++◌, length, take, drop, slice_index, sym, ap, ◌∙◌, arith, subst}
 use Rattle.std.proofs.lemmas.List.{get_or-take, get_or-drop, length-drop, length-take-le, ext_get_or, drop-append-le, drop-take, drop-drop}
 use Rattle.mw_disk.specs.Facts.{Facts}

@@ -1,6 +1,6 @@
 -- An opening may finish the changes of a file in its second layout, or give the second layout to a file without one. Then all
 -- places are free.
--- Used by: make_ready, finish, give_second, TenantFile::open.
+-- Used by: make_ready, finish, give_second, Recovered.
 use Rattle.std.proofs.Common.{◌≡◌, ℕ, ◌*◌, Bool, true, false, List, length, drop, if◌then◌else◌, IsTrue, refl, sym, inl, inr, arith, subst}
 use Rattle.std.proofs.lemmas.Bool.{cond-true, cond-false, cases_Bool}
 use Rattle.mw_disk.specs.Facts.{Facts}

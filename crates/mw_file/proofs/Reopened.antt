@@ -1,5 +1,5 @@
 -- A file opens after a crash with the words before, or with these and the change in doubt.
--- Used by: crash_in_an_opening, crash_of_a_file.
+-- Used by: mw_law_threads, crash_in_an_opening, crash_of_a_file.
 use Rattle.std.proofs.Common.{◌≡◌, ℕ, List, [], Some, None, is_none, if◌then◌else◌, Result, Ok, Err, Vec, Global, IsTrue, sym, ap, ◌∙◌, inl, inr, subst}
 use Rattle.mw_disk.specs.Facts.{Facts, IsSynced}
 use Rattle.mw_record.specs.Records.{Pairs, put_pairs}

@@ -1,4 +1,5 @@
 -- While sealed changes are written into the home words and their commit bytes are cleared, a file keeps its words.
+-- Used by: Rolled, SettledFiles, SharedSettles.
 use Rattle.std.proofs.Common.{◌≡◌, ◌⊎◌, ℕ, ◌+◌, ◌-◌, ◌<◌, ◌≤◌, List, length, Some, None, true, false, slice_index, refl, sym, ap, ◌∙◌, inl, inr, arith, subst}
 use Rattle.std.proofs.lemmas.Bool.{cases_Bool, cases_eq, cases_lt, both_ways}
 use Rattle.mw_disk.specs.Runs.{SameBut}

@@ -1,14 +1,15 @@
 -- The loops of a roll forward (redo) handle one place each turn: what held of the places so far also holds with the next one.
 -- Used by: write_homes, clear_commits, repair, among others.
-use Rattle.std.proofs.Common.{◌≡◌, ℕ, ◌+◌, ◌-◌, ◌<◌, List, length, Some, Option, Result, Ok, Err, OnOk, drop, slice_index, slice_get, get_or, sym, ap, ◌∙◌, inl, inr, arith, subst}
+use Rattle.std.proofs.Common.{◌≡◌, ℕ, ◌+◌, ◌-◌, ◌<◌, ◌≤◌, List, [], ◌∷◌, length, Some, Option, Result, Ok, Err, OnOk, drop, slice_index, slice_get, get_or, sym, ap, ◌∙◌, inl, inr, arith, subst}
 use Rattle.std.proofs.lemmas.Bool.{cases_eq}
 use Rattle.std.proofs.lemmas.Option.{slice_get-get_or}
-use Rattle.mw_disk.specs.Facts.{Facts}
+use Rattle.mw_disk.specs.Facts.{Facts, patched}
 use Rattle.mw_disk.specs.Runs.{Later, Touched, Fits}
 use Rattle.mw_disk.proofs.RunLaws.{touched_trans, touched_wider, fits_after, fits_less, still_honest}
 use Rattle.mw_record.specs.declared.layout.Layout.TheVariants.{Second}
 use Rattle.mw_record.specs.Layout.{home_at, place_at}
 use Rattle.mw_record.specs.Records.{Pairs, home, record_over, all_over}
+use Rattle.mw_record.proofs.ReadBytes.{get_patched}
 use Rattle.mw_record.proofs.TestsBelow.{over_more}
 use Rattle.mw_file.specs.declared.place_states.PlaceState.{PlaceState}
 use Rattle.mw_file.specs.declared.place_states.Stage.TheVariants.{Sealed}
@@ -20,6 +21,12 @@ use Rattle.mw_file.proofs.Parts.{byte_of}
 pub on_ok : {T E : Type 0} (P Q : Type 0) (r : Result T E) → (P → Q) → OnOk r P → OnOk r Q
 on_ok P Q (Ok x) told p = told p
 on_ok P Q (Err e) told p = p
+
+-- a byte over which a 0 was written
+pub cleared : (old new : List ℕ) (at : ℕ) → at ≤ length old → new ≡ patched old at (0 ∷ []) → slice_index new at ≡ 0
+cleared old new at within is =
+    let here : at ≡ at + 0 = omega arith in
+    ap (slice_index new) here ∙ ap (λ bs. slice_index bs (at + 0)) is ∙ get_patched old at (0 ∷ []) 0 within (omega arith)
 
 -- the element that was read is the one of its place
 pub item_at : (states : List PlaceState) (i : ℕ) (s : PlaceState) → i < length states → s ≡ get_or states i s → slice_get states i ≡ Some s

@@ -1,4 +1,5 @@
 -- After a roll forward (redo) of one sealed place, or of all, the file's bytes match states in which these places are free.
+-- Used by: Recalled, Safety, SharedSettles.
 use Rattle.std.proofs.Common.{◌≡◌, ◌⊎◌, ℕ, ◌+◌, ◌-◌, ◌<◌, ◌≤◌, List, [], ◌∷◌, length, Some, None, slice_index, slice_get, refl, sym, ap, ◌∙◌, inl, inr, arith, subst}
 use Rattle.mw_disk.specs.Runs.{SameBut}
 use Rattle.mw_record.specs.declared.layout.Layout.TheVariants.{Second}

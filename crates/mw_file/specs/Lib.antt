@@ -6,6 +6,7 @@ pub mod File
 pub mod RecoveryInvariant
 pub mod Migration
 pub mod OpeningEnds
+pub mod OpeningReads
 pub mod RollForward
 pub mod Run
 pub mod PlaceStates

@@ -1,6 +1,6 @@
 -- Defines the migration of a tenant's file: one that has its first layout alone gets the second layout after it.
--- Used by: mw_world_file, migration.rt, opening.rt. It may change with migration.rt; OpeningEnds has what callers are
--- promised.
+-- Used by: mw_world_file, migration.rt, opening.rt. What OpeningEnds imports, callers are promised; the rest changes with
+-- migration.rt.
 use Rattle.std.specs.Prelude.{◌≡◌, ◌⊎◌, ◌<◌, ◌≤◌, ℕ, ◌+◌, ◌*◌, false, None, List, [], ◌∷◌, length, drop, slice_index, IsTrue}
 use Rattle.mw_disk.specs.Facts.{Facts, MayLeave, IsSynced, patched}
 use Rattle.mw_disk.specs.Runs.{Later}

@@ -1,10 +1,11 @@
 //! The calls that take changes through a file: prepare, seal, settle and cancel of one change, the settle of all, and
 //! the calls that also prepare changes ahead.
 //!
-//! What they say of crashes holds on a disk that keeps the model of [`mw_disk::Disk`]. Used by: mw_book, mw_plain,
-//! mw_world_file. Change it with `specs/PlaceStates` and `specs/NewChanges` (which calls may be made), `specs/File`,
-//! `specs/RecoveryInvariant`, `specs/RollForward` and `specs/Run` (how they end), `specs/DeviceCalls` and docs/FILES
-//! (the order of the device calls). docs/PROMISES cites `prepare_all`, `seal_with` and `settle_all`.
+//! What they say of crashes holds on a disk that keeps the model of [`mw_disk::Disk`]. Used by: `migration`,
+//! `new_changes`, mw_book, mw_plain, mw_world_file. Change it with `specs/PlaceStates` and `specs/NewChanges` (which
+//! calls may be made), `specs/File`, `specs/RecoveryInvariant`, `specs/RollForward` and `specs/Run` (how they end),
+//! `specs/DeviceCalls` and docs/FILES (the order of the device calls). docs/PROMISES cites `prepare_all`, `seal_with`
+//! and `settle_all`.
 ghost use Rattle.std.specs.Prelude.{◌≡◌, ◌+◌, ◌≤◌, ◌<◌, ◌^◌, Some, length, IsTrue, IsSome, IfSome, is_some, is_ok, ℕ, [], ◌∷◌, ◌++◌, IfOk, OnOk, OnErr};
 ghost use Rattle.mw_disk.specs.DeviceCalls.{WriteAt, Sync, Makes};
 ghost use Rattle.mw_disk.specs.Facts.{IsSynced, patched};
@@ -76,6 +77,7 @@ impl<D: Disk> TenantFile<D> {
         ensures made { (place : ℕ) → spec.free_place (states_of self.old) ≡ Some place
             → MadeCalls D.made (prepare_calls (at_of self.old) (words_of self.old) place entries.now.items) self.old self.new result }
         ensures later { Later (D.facts (disk_of self.old)) (D.facts (disk_of self.new)) }
+        // A crash at any moment of the call leaves the words from before it. A change in doubt stays in doubt.
         ensures safe { ContentsStay D.facts self.old self.new }
         ensures first { FirstStays D.facts self.old self.new }
     {
@@ -105,6 +107,7 @@ impl<D: Disk> TenantFile<D> {
             Stage.Prepared (pairs_of entries.now.items)) }
         ensures made { MadeCalls D.made (prepare_calls (at_of self.old) (words_of self.old) place.0 entries.now.items) self.old self.new result }
         ensures later { Later (D.facts (disk_of self.old)) (D.facts (disk_of self.new)) }
+        // A crash at any moment of the call leaves the words from before it. A change in doubt stays in doubt.
         ensures safe { ContentsStay D.facts self.old self.new }
         ensures first { FirstStays D.facts self.old self.new }
     {
@@ -129,6 +132,7 @@ impl<D: Disk> TenantFile<D> {
         ensures staged { OnOk result (ArePrepared (states_of self.old) (states_of self.new) changes.now) }
         ensures made { MadeCalls D.made (record_calls (at_of self.old) (words_of self.old) changes.now ++ Sync ∷ []) self.old self.new result }
         ensures later { Later (D.facts (disk_of self.old)) (D.facts (disk_of self.new)) }
+        // A crash at any moment of the call leaves the words from before it. A change in doubt stays in doubt.
         ensures safe { ContentsStay D.facts self.old self.new }
         ensures first { FirstStays D.facts self.old self.new }
     {
@@ -158,6 +162,8 @@ impl<D: Disk> TenantFile<D> {
             Stage.Sealed (writes_of_place (states_of self.old) place.0)) }
         ensures made { MadeCalls D.made (seal_calls (at_of self.old) (words_of self.old) place.0) self.old self.new result }
         ensures later { Later (D.facts (disk_of self.old)) (D.facts (disk_of self.new)) }
+        // A crash at any moment of the call leaves the words from before it, or these with the change. After `Ok` the
+        // words have the change, and after `Disk` it is in doubt. `Failed` leaves all as it was.
         ensures safe { ChangeIsSealed D.facts self.old self.new (writes_of_place (states_of self.old) place.0) result }
         ensures first { FirstStays D.facts self.old self.new }
     {
@@ -183,6 +189,8 @@ impl<D: Disk> TenantFile<D> {
         ensures made { MadeCalls D.made (record_calls (at_of self.old) (words_of self.old) ahead.now
             ++ seal_calls (at_of self.old) (words_of self.old) place.0) self.old self.new result }
         ensures later { Later (D.facts (disk_of self.old)) (D.facts (disk_of self.new)) }
+        // A crash at any moment of the call leaves the words from before it, or these with the change of `place` alone.
+        // After `Ok` the words have the change, and after `Disk` it is in doubt. `Failed` leaves all as it was.
         ensures safe { ChangeIsSealed D.facts self.old self.new (writes_of_place (states_of self.old) place.0) result }
         ensures first { FirstStays D.facts self.old self.new }
     {
@@ -214,6 +222,7 @@ impl<D: Disk> TenantFile<D> {
         ensures made { MadeCalls D.made (settle_calls (at_of self.old) (words_of self.old) place.0
             (writes_of_place (states_of self.old) place.0)) self.old self.new result }
         ensures later { Later (D.facts (disk_of self.old)) (D.facts (disk_of self.new)) }
+        // A crash at any moment of the call leaves the words as they are. A change in doubt stays in doubt.
         ensures safe { ContentsStay D.facts self.old self.new }
         ensures first { FirstStays D.facts self.old self.new }
     {
@@ -247,6 +256,7 @@ impl<D: Disk> TenantFile<D> {
         ensures made { MadeCalls D.made (record_calls (at_of self.old) (words_of self.old) ahead.now
             ++ roll_device_calls (at_of self.old) (words_of self.old) 0 (states_of self.old)) self.old self.new result }
         ensures later { Later (D.facts (disk_of self.old)) (D.facts (disk_of self.new)) }
+        // A crash at any moment of the call leaves the words as they are. A change in doubt stays in doubt.
         ensures safe { ContentsStay D.facts self.old self.new }
         ensures first { FirstStays D.facts self.old self.new }
     {
@@ -269,6 +279,7 @@ impl<D: Disk> TenantFile<D> {
         ensures staged { IsStaged (states_of self.old) (states_of self.new) place.0
             Stage.Free (writes_of_place (states_of self.old) place.0) }
         ensures rest { self.new ≡ record self.old { states = self.new.states; few = self.new.few } }
+        // A crash leaves the words from before the call. A change in doubt stays in doubt.
         ensures safe { ContentsStay D.facts self.old self.new }
     {
         self.states[place.0 as usize].stage = Stage::Free;

@@ -43,6 +43,7 @@ impl<D: Disk> TenantFile<D> {
     pub fn copy_bytes(&mut self, alloc: Global) -> Result<Vec<u8>, CopyFault>
         ensures ends { CopyEnds D.facts self.old self.new result }
         ensures read { IsOnlyRead D.facts self.old self.new }
+        // A crash at any moment of the call leaves the words from before it. A change in doubt stays in doubt.
         ensures safe { ContentsStay D.facts self.old self.new }
     {
         if self.failed {

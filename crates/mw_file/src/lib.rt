@@ -22,6 +22,11 @@
 //! of [`mw_disk::Disk`], the crash leaves the words with every sealed change. A change that was being sealed is there
 //! wholly or not at all.
 //!
+//! - *What a contract says*: how each call ends, its device calls in order, the states of the places then, and what a
+//!   crash at any moment of it leaves (`safe`; of `open`, `opens`).
+//! - *Proved*: what a crash leaves, in a call or an opening, is undamaged (`laws.rt`).
+//! - *Tested only*: that an opening with enough memory goes well (`opening_tests` of mw_file_tests).
+//!
 //! Used by: many crates from mw_plain on. A change of a contract changes what these promise.
 #![tactic(auto)]
 

@@ -40,6 +40,7 @@ impl TenantFile<MemDisk> {
         ensures ok { OnOk result (self.new ≡ record self.old { disk = record (disk_of self.old) { script = with_name (disk_of self.old) k } }) }
         ensures plan { OnOk result ((j : ℕ) → (memory_facts (disk_of self.new)).plan j ≡ with_fault (disk_of self.old) k j) }
         ensures err { OnErr result (self.new ≡ self.old) }
+        // A crash leaves the words from before the call. A change in doubt stays in doubt.
         ensures safe { ContentsStay memory_facts self.old self.new }
     {
         self.disk.fail_next(k)
@@ -49,6 +50,7 @@ impl TenantFile<MemDisk> {
     pub fn stop_next(&mut self, k: u64)
         ensures stop { self.new ≡ record self.old { disk = record (disk_of self.old) { stop = Some (sooner (disk_of self.old).stop k) } } }
         ensures plan { (j : ℕ) → (memory_facts (disk_of self.new)).plan j ≡ with_stop (disk_of self.old) k j }
+        // A crash leaves the words from before the call. A change in doubt stays in doubt.
         ensures safe { ContentsStay memory_facts self.old self.new }
     {
         self.disk.stop_next(k);
@@ -66,6 +68,7 @@ impl TenantFile<MemDisk> {
     pub fn crash(&self, torn: &[u8]) -> Result<Vec<u8>, AllocError>
         ensures torn { IfOk result (λ bytes. Tears (unsynced (disk_of self.now).log) torn.now (length torn.now)
             (memory_facts (disk_of self.now)).reads bytes.items) }
+        // These bytes are among those that a crash now may leave.
         ensures image { IfOk result (λ bytes. MayLeave (memory_facts (disk_of self.now)) bytes.items) }
     {
         self.disk.crash(torn)

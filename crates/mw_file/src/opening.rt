@@ -16,9 +16,10 @@ ghost use Rattle.mw_record.specs.Contents.{HasSecond};
 ghost use Rattle.mw_file.specs.RecoveryInvariant.{IsFile};
 ghost use Rattle.mw_file.specs.Migration.{migration_calls, InSwitch, Grown, given_second, CanGrow, IsMigrated};
 ghost use Rattle.mw_file.specs.DeviceCalls.{roll_device_calls};
-ghost use Rattle.mw_file.specs.OpeningCalls.{front_list, migration_list, ready_list, repair_list};
+ghost use Rattle.mw_file.specs.OpeningCalls.{OpensBy, front_list, migration_list, ready_list, repair_list};
 ghost use Rattle.mw_file.specs.OpeningEnds as spec;
-ghost use Rattle.mw_file.specs.OpeningEnds.{repair_calls, ready_calls, CanOpen};
+ghost use Rattle.mw_file.specs.OpeningEnds.{Opens, repair_calls, ready_calls, CanOpen};
+ghost use Rattle.mw_file.specs.OpeningReads.{HasRoom, IsRead, Reads, IsReadBy, ReadsBy};
 ghost use Rattle.mw_file.specs.RollForward.{CanRepair, CanFinish, IsRolled, IsRecalled, Nowhere, record_of};
 ghost use Rattle.mw_file.specs.Run.{Ran, IsUntouched};
 ghost use Rattle.mw_file.specs.PlaceStates.{all_free, commit_writes, roll_calls};
@@ -48,9 +49,6 @@ pub enum OpenFault {
 }
 
 impl<D: Disk> TenantFile<D> {
-    ghost use Rattle.mw_file.specs.OpeningCalls.{OpensBy};
-    ghost use Rattle.mw_file.specs.OpeningEnds.{Opens};
-
     /// Opens the file on a disk. It reads the file and finishes the changes that were sealed and not settled.
     /// Then every place is free. It also returns the file's words, in order of address.
     ///
@@ -74,38 +72,10 @@ impl<D: Disk> TenantFile<D> {
         ensures made { OpensBy D.facts D.made disk result }
     {
         let mut disk = disk;
-        let Ok(len) = disk.len() else {
-            return Err((OpenFault::Disk, disk));
-        };
-        let Ok(room) = Room::new(alloc, len) else {
-            return Err((OpenFault::Memory, disk));
-        };
-        let Room {
-            mut bytes,
-            mut words,
-            mut states,
-            mut second,
-        } = room;
-        if read_front(&mut disk, &mut bytes).is_err() {
-            return Err((OpenFault::Disk, disk));
+        match read_file(alloc, &mut disk) {
+            Ok(room) => recover(disk, room),
+            Err(fault) => Err((fault, disk)),
         }
-        let image = match decode(&bytes) {
-            Ok(image) => image,
-            Err(damage) => return Err((OpenFault::Damage(damage), disk)),
-        };
-        fill_words(&image, &mut words);
-        states.truncate(places_once_open(&image) as usize);
-        if make_ready(&mut disk, &image, &words, &mut states, &mut second).is_err() {
-            return Err((OpenFault::Disk, disk));
-        }
-        let file = TenantFile {
-            disk,
-            at: begins_at(&image),
-            words: image.words(),
-            states,
-            failed: false,
-        };
-        Ok((file, words))
     }
 }
 
@@ -124,9 +94,8 @@ struct Room {
 
 impl Room {
     fn new(alloc: Global, len: u64) -> Result<Room, AllocError>
-        ensures { IfOk result (λ room. (vec_len room.bytes ≡ min len MAX_FILE)
-            × (vec_len room.words ≡ MAX_WORDS) × (vec_len room.states ≡ MAX_PLACES) × IsTrue (all_free room.states.items)
-            × (vec_len room.second ≡ MAX_SECOND)) }
+        ensures bytes { IfOk result (λ room. vec_len room.bytes ≡ min len MAX_FILE) }
+        ensures rest { IfOk result (λ room. HasRoom room) }
     {
         let size = len.min(MAX_FILE as u64) as usize;
         Ok(Room {
@@ -151,6 +120,25 @@ fn free_states(alloc: Global) -> Result<Vec<PlaceState>, AllocError>
     Ok(states)
 }
 
+/// Asks for the disk's length, takes the memory of an opening, and reads the file's bytes into it.
+fn read_file<D: Disk>(alloc: Global, disk: &mut D) -> Result<Room, OpenFault>
+    ensures room { IfOk result (λ room. HasRoom room) }
+    ensures reads { Reads D.facts disk.old disk.new result }
+    ensures made { ReadsBy D.facts D.made disk.old disk.new result }
+{
+    let Ok(len) = disk.len() else {
+        return Err(OpenFault::Disk);
+    };
+    let Ok(room) = Room::new(alloc, len) else {
+        return Err(OpenFault::Memory);
+    };
+    let mut room = room;
+    if read_front(disk, &mut room.bytes).is_err() {
+        return Err(OpenFault::Disk);
+    }
+    Ok(room)
+}
+
 /// Reads the first bytes of the disk. It makes no device call if there are none to read.
 pub(crate) fn read_front<D: Disk>(disk: &mut D, bytes: &mut [u8]) -> Result<(), DiskFault>
     requires within { IsTrue (D.facts disk.old).honest → length bytes.old ≤ length (D.facts disk.old).reads }
@@ -166,6 +154,38 @@ pub(crate) fn read_front<D: Disk>(disk: &mut D, bytes: &mut [u8]) -> Result<(), 
         return Ok(());
     }
     disk.read_at(0, bytes)
+}
+
+/// Opens a file whose bytes were read from this disk. Nothing was written to it since.
+fn recover<D: Disk>(disk: D, room: Room) -> Result<(TenantFile<D>, Vec<u64>), (OpenFault, D)>
+    requires { HasRoom room }
+    ensures opens { (start : D) → IsRead (D.facts start) (D.facts disk) room.bytes.items → Opens D.facts start result }
+    ensures made { (start : D) → IsReadBy D.facts D.made start disk room.bytes.items → OpensBy D.facts D.made start result }
+{
+    let mut disk = disk;
+    let Room {
+        bytes,
+        mut words,
+        mut states,
+        mut second,
+    } = room;
+    let image = match decode(&bytes) {
+        Ok(image) => image,
+        Err(damage) => return Err((OpenFault::Damage(damage), disk)),
+    };
+    fill_words(&image, &mut words);
+    states.truncate(places_once_open(&image) as usize);
+    if make_ready(&mut disk, &image, &words, &mut states, &mut second).is_err() {
+        return Err((OpenFault::Disk, disk));
+    }
+    let file = TenantFile {
+        disk,
+        at: begins_at(&image),
+        words: image.words(),
+        states,
+        failed: false,
+    };
+    Ok((file, words))
 }
 
 /// Puts the file's words into the first of these, and removes the others.

@@ -1,8 +1,8 @@
 //! Defines a tenant's open file: its disk, its sizes, its places, and the faults of its calls.
 //!
-//! Used by: mw_plain, mw_world_file, mw_book, mw_engine, mw_opening. `opening.rt` makes one, and `calls.rt` has its
-//! calls. Callers see `specs/File` and `specs/PlaceStates` in place of the fields. A new field needs a value in
-//! `opening.rt` and `memory.rt`, and its name in `into_disk` of `calls.rt`.
+//! Used by: `copies`, `new_changes`, mw_plain, mw_world_file, mw_book, mw_engine, mw_opening. `opening.rt` makes one,
+//! and `calls.rt` has its calls. Callers see `specs/File` and `specs/PlaceStates` in place of the fields. A new field
+//! needs a value in `opening.rt` and `memory.rt`, and its name in `into_disk` of `calls.rt`.
 ghost use Rattle.std.specs.Prelude.{◌≤◌, length};
 ghost use Rattle.mw_words.specs.declared.limits.TheConstants.{MAX_PLACES};
 ghost use Rattle.mw_record.specs.declared.layout.TheConstants.{MAX_FIRST};

@@ -1,4 +1,4 @@
-//! Tests the opening of a file: what it finds, and what crashes of it leave. It gives a file in its first layout
+//! Tests the opening of a file: what it finds, and what crashes of it leave. An opening gives a file in its first layout
 //! the second one.
 //!
 //! Used by: `power_tests`, `damage_tests`.

@@ -2,7 +2,7 @@
 //!
 //! Used by: mw_show, mw_server_pages. `specs/Text` says what is written: change both together, with docs/OPERATING and
 //! docs/HTTP. mw_init (`dump.rt`) and the Python client (`_shell.py`) read the lines, and scripts do.
-ghost use Rattle.std.specs.Prelude.{◌<◌, OnOk};
+ghost use Rattle.std.specs.Prelude.{◌<◌, ◌++◌, OnOk, codes, decimal};
 ghost use Rattle.std.specs.Io.KnownBytes.{Appends};
 ghost use Rattle.mw_record.specs.Damages.{at_of, found_places, layout_of};
 ghost use Rattle.mw_file_text.specs.Text as spec;
@@ -30,7 +30,7 @@ fn show_layout<O: Write>(image: &Image<'_>, out: &mut O) -> io::Result<()>
 {
     match image.layout() {
         Layout::First => Ok(()),
-        Layout::Second => writeln!(out, "second layout at {}", image.at()),
+        Layout::Second => show_number("second layout at", image.at(), out),
     }
 }
 
@@ -38,8 +38,15 @@ fn show_layout<O: Write>(image: &Image<'_>, out: &mut O) -> io::Result<()>
 fn show_sizes<O: Write>(image: &Image<'_>, out: &mut O) -> io::Result<()>
     ensures { OnOk result (Appends (O.contents out.old) (O.contents out.new) (spec.sizes_text image.now)) }
 {
-    writeln!(out, "words {}", image.words())?;
-    writeln!(out, "places {}", image.places())
+    show_number("words", u64::from(image.words()), out)?;
+    show_number("places", u64::from(image.places()), out)
+}
+
+/// Writes a line of a text and a number.
+fn show_number<O: Write>(text: &str, number: u64, out: &mut O) -> io::Result<()>
+    ensures { OnOk result (Appends (O.contents out.old) (O.contents out.new) (text.now ++ codes " " ++ decimal number ++ codes "\n")) }
+{
+    writeln!(out, "{text} {number}")
 }
 
 /// Writes the entries of all open records, in order of place.

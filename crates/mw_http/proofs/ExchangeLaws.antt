@@ -1,4 +1,4 @@
--- What is written or read in several calls is recorded as the joined bytes.
+-- What is written or read in several calls is recorded as the joined bytes. Used by: write_all.
 use Rattle.std.proofs.Common.{◌≡◌, ℕ, ◌-◌, ◌<◌, ◌++◌, true, false, Bool, List, [], ◌∷◌, length, take, drop, refl, sym, ap, ◌∙◌, arith, append_assoc, append-nil, length-append}
 use Rattle.std.proofs.lemmas.List.{take-append-drop, take_rest}
 use Rattle.mw_session.proofs.WrittenTexts.{written_nothing, written_then}

@@ -1,3 +1,5 @@
 pub mod ReadHeads
 pub mod Widths
 mod ExchangeLaws
+mod PageTexts
+mod Receipts

@@ -1,13 +1,14 @@
 -- Defines one exchange with a client: what was read, what the pages were asked for, and what was written.
 -- Used by: receiving.rt, writing.rt, exchanges.rt, mw_connections, mw_server_pages. A change here changes how HTTP clients are
 -- answered, and docs/HTTP with it.
-use Rattle.std.specs.Prelude.{◌≡◌, ℕ, ◌==◌, ◌++◌, ◌<◌, Bool, true, false, List, [], ◌∷◌, length, None, Some, Result, Ok, Err, if◌then◌else◌}
+use Rattle.std.specs.Prelude.{◌≡◌, ℕ, ◌==◌, ◌++◌, ◌<◌, Bool, true, false, List, [], ◌∷◌, length, Option, None, Some, Result, Ok, Err, if◌then◌else◌}
 use Rattle.mw_session.specs.StreamRecords.{ReadRecord, WriteRecord, with_end, with_read, with_read_fault, with_write_fault, with_written}
+use Rattle.mw_http.specs.declared.hearing.Heard.{Heard}
 use Rattle.mw_http.specs.declared.hearing.Heard.TheVariants as Hear
 use Rattle.mw_http.specs.declared.status.Status.{Status}
 use Rattle.mw_http.specs.declared.status.Status.TheVariants.{RequestTimeout}
 use Rattle.mw_http.specs.Heads.{head}
-use Rattle.mw_http.specs.Hearing.{Hears, NeedMore}
+use Rattle.mw_http.specs.Hearing.{Hears, MayBecomeHead, NeedMore}
 use Rattle.mw_http.specs.Targets.{Place, place_of}
 use Rattle.mw_http.specs.declared.exchanges.Exchanged.{Exchanged}
 use Rattle.mw_http.specs.declared.exchanges.Exchanged.TheVariants as exchange
@@ -41,6 +42,17 @@ Holds names reads new_reads bytes Failed = (new_reads ≡ with_read_fault (with_
 pub record IsReceived (names : List (List ℕ)) (reads new_reads : ReadRecord) (came : Came) : Type 0 where
   pub bytes : List ℕ
   pub holds : Holds names reads new_reads bytes came
+
+-- what came, by what was heard, if there is a whole head or none can come
+abbrev pub came_of : Heard → Option Came
+came_of Hear.More = None
+came_of (Hear.Asked request) = Some (Asked request)
+came_of (Hear.Refused status) = Some (Refused status)
+
+-- What one more read came to, of a stream whose reads gave `before` since they stood at `reads`: there is no whole head yet, and they gave more, or this came.
+abbrev pub ComesTo : List (List ℕ) → ReadRecord → ReadRecord → List ℕ → List ℕ → Option Came → Type 0
+ComesTo names reads new_reads before after None = (length before < length after) × (new_reads ≡ with_read reads after) × MayBecomeHead after
+ComesTo names reads new_reads before after (Some came) = IsReceived names reads new_reads came
 
 -- A first part of a text was written, and this rest was not; then a write failed or took nothing.
 pub record Breaks (writes new_writes : WriteRecord) (text : List ℕ) : Type 0 where

@@ -1,6 +1,6 @@
 -- Defines what is heard from the bytes that a client has sent so far: nothing yet, a request, or why it is refused. The
 -- grammar of a head is that of the kit's crates httparse and http1 (RFC 9112).
--- Used by: hearing.rt. A change here changes how clients are answered, and docs/OPERATING with it.
+-- Used by: hearing.rt, receiving.rt. A change here changes how clients are answered, and docs/OPERATING with it.
 use Rattle.std.specs.Prelude.{◌≡◌, ℕ, ◌<◌, ◌⊎◌, ◌==◌, Bool, true, false, not, ◌||◌, List, [], length, map, Option, None, Some, is_some, Result, Ok, Err, codes, bytes_eq, if◌then◌else◌}
 use Rattle.std.specs.List.{list_all}
 use Rattle.httparse.specs.Grammar.{RequestHead, HasNoRequest, MayBecomeRequest}

@@ -1,6 +1,7 @@
 //! Hears a request: reads its head, and tells what it asks for or why it is refused.
 //!
-//! Used by: mw_server_pages. Change it with `specs/Hearing` and docs/HTTP, its limits with mw_http_tests too.
+//! Used by: `exchanges`, `receiving`, mw_server_pages. Change it with `specs/Hearing` and docs/HTTP, its limits with
+//! mw_http_tests too.
 ghost use Rattle.std.specs.Prelude.{◌≡◌, ◌≤◌, ℕ, List, length, map, Some, All, codes};
 ghost use Rattle.httparse.specs.Grammar.{RequestHead};
 ghost use Rattle.httparse.specs.Spans.{IsHeaderWithin, IsWithin, header_bytes, span_bytes};
@@ -13,6 +14,7 @@ ghost use Rattle.std.specs.Prelude.{string_bytes};
 use crate::hosts::{have_own_hosts, have_valid_hosts};
 use crate::status::Status;
 use crate::targets::{Route, is_target, route_at};
+use crate::texts::is_text;
 use http1::{Event, Limits, ReadError, Server};
 use httparse::spans::{EMPTY_HEADER_SPAN, HeaderSpan, RequestSpans};
 
@@ -113,10 +115,10 @@ fn answer(bytes: &[u8], head: &RequestSpans, fields: &[HeaderSpan], names: &[Str
 fn answer_line(method: &[u8], target: &[u8]) -> Heard
     ensures { spec.told result ≡ Some (spec.answer_line method.now target.now) }
 {
-    if method == b"GET".as_slice() {
+    if is_text(method, b"GET") {
         return found(target, true);
     }
-    if method == b"HEAD".as_slice() {
+    if is_text(method, b"HEAD") {
         return found(target, false);
     }
     if !is_other_method(method) {
@@ -146,11 +148,11 @@ fn found(target: &[u8], content: bool) -> Heard
 fn is_other_method(method: &[u8]) -> bool
     ensures { result ≡ spec.is_other_method method.now }
 {
-    method == b"POST".as_slice()
-        || method == b"PUT".as_slice()
-        || method == b"DELETE".as_slice()
-        || method == b"PATCH".as_slice()
-        || method == b"OPTIONS".as_slice()
-        || method == b"TRACE".as_slice()
-        || method == b"CONNECT".as_slice()
+    is_text(method, b"POST")
+        || is_text(method, b"PUT")
+        || is_text(method, b"DELETE")
+        || is_text(method, b"PATCH")
+        || is_text(method, b"OPTIONS")
+        || is_text(method, b"TRACE")
+        || is_text(method, b"CONNECT")
 }

@@ -10,6 +10,7 @@ ghost use Rattle.http1.specs.Text.{eq_ignore_case as same_in_any_case};
 ghost use Rattle.httparse.specs.Spans.{IsHeaderWithin, header_bytes};
 ghost use Rattle.mw_http.specs.Hosts as spec;
 
+use crate::texts::len_before;
 use http1::text::eq_ignore_case;
 use httparse::spans::HeaderSpan;
 
@@ -116,7 +117,7 @@ fn is_own_field(head: &[u8], field: &HeaderSpan, names: &[String]) -> bool
 fn is_own_host(value: &[u8], names: &[String]) -> bool
     ensures { result ≡ spec.is_own_host (map string_bytes names.now) value.now }
 {
-    value.is_empty() || value[0] == b'[' || is_own_name(&value[..host_len(value)], names)
+    value.is_empty() || value[0] == b'[' || is_own_name(&value[..len_before(value, b':')], names)
 }
 
 #[tactic(auto, unfolding(crate::specs::Hosts::is_own_name))]
@@ -142,11 +143,4 @@ fn are_number_bytes(text: &[u8]) -> bool
 {
     text.iter()
         .all(|byte| byte.is_ascii_digit() || *byte == b'.')
-}
-
-fn host_len(value: &[u8]) -> usize
-    ensures host { result ≡ spec.host_len value.now }
-    ensures within { result ≤ length value.now }
-{
-    value.iter().take_while(|byte| **byte != b':').count()
 }

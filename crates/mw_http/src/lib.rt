@@ -30,6 +30,7 @@ mod pages;
 mod receiving;
 mod status;
 mod targets;
+mod texts;
 mod writing;
 
 pub use exchanges::{Exchanged, exchange};

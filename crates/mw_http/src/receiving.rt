@@ -3,7 +3,10 @@
 //! `exchanges.rt` calls it. `specs/Exchanges` says what was read: change both together.
 ghost use Rattle.std.specs.Prelude.{◌≡◌, ◌+◌, ◌<◌, ◌≤◌, length, map, string_bytes};
 ghost use Rattle.mw_session.specs.KnownStreams.{reads_of, writes_of};
-ghost use Rattle.mw_http.specs.Exchanges.{IsReceived, TakesPiece};
+ghost use Rattle.mw_session.specs.StreamRecords.{ReadRecord, with_read};
+ghost use Rattle.mw_http.specs.Hearing.{NeedMore};
+ghost use Rattle.mw_http.specs.Exchanges.{ComesTo, IsReceived, TakesPiece};
+ghost use Rattle.mw_http.specs.Exchanges as spec;
 
 use crate::hearing::{Heard, MAX_HEAD, Request, hear};
 use crate::status::Status;
@@ -46,19 +49,42 @@ pub(crate) fn receive_from<T: PeerStream, R: Wait>(
 {
     let mut bytes = Bytes::new();
     for _ in 0..MAX_HEAD {
-        match read_more(rt, stream, &mut bytes) {
-            Ok(0) => return Came::Ended,
-            Ok(_) => {}
-            Err(fault) if is_late(&fault) => return Came::Late,
-            Err(_) => return Came::Failed,
-        }
-        match hear(&bytes, names) {
-            Heard::More => {}
-            Heard::Asked(request) => return Came::Asked(request),
-            Heard::Refused(status) => return Came::Refused(status),
+        if let Some(came) = receive_more(rt, stream, &mut bytes, names) {
+            return came;
         }
     }
     unreachable!()
+}
+
+/// Reads once more after these bytes, and gives what came; None: there is no whole head yet.
+fn receive_more<T: PeerStream, R: Wait>(
+    rt: &R,
+    stream: &mut RecordedStream<T>,
+    bytes: &mut Bytes,
+    names: &[String],
+) -> Option<Came>
+    requires { length bytes.old.items < MAX_HEAD }
+    ensures comes { (start : ReadRecord) → reads_of stream.old ≡ with_read start bytes.old.items → NeedMore bytes.old.items
+        → ComesTo (map string_bytes names.now) start (reads_of stream.new) bytes.old.items bytes.new.items result }
+    ensures writes { writes_of stream.new ≡ writes_of stream.old }
+{
+    match read_more(rt, stream, bytes) {
+        Ok(0) => Some(Came::Ended),
+        Ok(_) => came_of(hear(bytes, names)),
+        Err(fault) if is_late(&fault) => Some(Came::Late),
+        Err(_) => Some(Came::Failed),
+    }
+}
+
+/// Gives what came, by what was heard; None: no whole head yet.
+fn came_of(heard: Heard) -> Option<Came>
+    ensures { result ≡ spec.came_of heard }
+{
+    match heard {
+        Heard::More => None,
+        Heard::Asked(request) => Some(Came::Asked(request)),
+        Heard::Refused(status) => Some(Came::Refused(status)),
+    }
 }
 
 /// Tells whether a read failed because the client took too long.

@@ -1,11 +1,12 @@
 //! What a request's method and target ask for.
 //!
-//! Used by: `hearing`, mw_server_pages. Change it with `specs/Targets` and docs/HTTP. Pages link to the targets
-//! (mw_server_pages), and contrib/mondlexi-backup and scripts ask for them.
+//! Used by: `pages`, `hearing`, mw_server_pages. Change it with `specs/Targets` and docs/HTTP. Pages link to the
+//! targets (mw_server_pages), and contrib/mondlexi-backup and scripts ask for them.
 ghost use Rattle.std.specs.Prelude.{◌≡◌, ◌≤◌, length, IsTrue};
 ghost use Rattle.std.specs.Option.{option_map};
 ghost use Rattle.mw_http.specs.Targets as spec;
 
+use crate::texts::{is_text, len_before};
 use http1::text::eq_ignore_case;
 use mw_words::{Name, is_name};
 
@@ -49,19 +50,19 @@ pub(crate) fn is_target(target: &[u8]) -> bool
 fn route_of(path: &[u8]) -> Option<Route>
     ensures { option_map spec.place_of result ≡ spec.place_of_path path.now }
 {
-    if path.is_empty() || path == b"/".as_slice() {
+    if path.is_empty() || is_text(path, b"/") {
         return Some(Route::Page);
     }
-    if path == b"/metrics".as_slice() {
+    if is_text(path, b"/metrics") {
         return Some(Route::Metrics);
     }
-    if path == b"/healthz".as_slice() {
+    if is_text(path, b"/healthz") {
         return Some(Route::Health);
     }
-    if path == b"/status.css".as_slice() {
+    if is_text(path, b"/status.css") {
         return Some(Route::Style);
     }
-    if path == b"/status.js".as_slice() {
+    if is_text(path, b"/status.js") {
         return Some(Route::Script);
     }
     route_of_tenant(path)
@@ -131,21 +132,13 @@ fn has_scheme(target: &[u8]) -> bool
 fn before_query(target: &[u8]) -> &[u8]
     ensures { result.now ≡ spec.before_query target.now }
 {
-    &target[..path_len(target)]
+    &target[..len_before(target, b'?')]
 }
 
-fn path_len(target: &[u8]) -> usize
-    ensures path { result ≡ spec.path_len target.now }
-    ensures within { result ≤ length target.now }
-{
-    target.iter().take_while(|byte| **byte != b'?').count()
-}
-
+/// Gives how long the authority of an address is: up to the path, the query or the end.
 fn authority_len(rest: &[u8]) -> usize
     ensures authority { result ≡ spec.authority_len rest.now }
     ensures within { result ≤ length rest.now }
 {
-    rest.iter()
-        .take_while(|byte| **byte != b'/' && **byte != b'?')
-        .count()
+    len_before(before_query(rest), b'/')
 }

@@ -1,7 +1,7 @@
 //! Reads a dump: the text that `mwshow --words` prints of a tenant's file.
 //!
-//! Used by: `dumped_file`. `specs/Dump` defines the text: change both together, and with them mw_file_text and
-//! mw_show, which print it.
+//! Used by: `new_file`, `dumped_file`. `specs/Dump` defines the text: change both together, and with them mw_file_text
+//! and mw_show, which print it.
 ghost use Rattle.std.specs.Prelude.{◌≡◌, ◌++◌, ◌≢◌, ℕ, List, codes, decimal, IfOk, IfSome, MatchOption, length};
 ghost use Rattle.mw_init.specs.Dump as spec;
 

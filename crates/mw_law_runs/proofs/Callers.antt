@@ -1,4 +1,5 @@
 -- A request at a call on its file holds a pin of the slot of the call's change. That change is one of its tenant.
+-- Used by: RunsAreSound, Statuses.
 use Rattle.std.specs.Prelude.{ℕ, ◌≡◌, ◌≤◌, Some}
 use Rattle.std.proofs.Common.{refl, subst, arith}
 use Rattle.mw_actor.specs.declared.points.Point.{Point}

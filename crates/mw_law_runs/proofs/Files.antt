@@ -1,5 +1,5 @@
 -- Words of the tenants' files, and the entries of changes in them, stay in range: after a call, at an opening, and at a
--- start.
+-- start. Used by: ArrivalsAndStarts, RunsAreSound.
 use Rattle.std.specs.Prelude.{ℕ, zero, suc, ◌≡◌, ◌<◌, ◌≤◌, ◌==◌, ◌&&◌, ◌||◌, Bool, true, false, if◌then◌else◌, nat_lt, List, [], ◌∷◌, length, slice_set, bytes_eq, Option, Some, None}
 use Rattle.std.specs.Option.{option_map}
 use Rattle.std.proofs.Common.{refl, sym, subst, arith}

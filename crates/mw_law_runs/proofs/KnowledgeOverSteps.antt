@@ -1,4 +1,4 @@
--- A step of one request keeps what this request and all others know at their points.
+-- A step that changes no word keeps what its request knows, and slots that it doesn't free stay taken. Used by: StepsKeepInvariant.
 use Rattle.std.specs.Prelude.{ℕ, ◌≡◌, ◌≢◌, ◌++◌, true, false, [], ◌∷◌}
 use Rattle.std.proofs.Common.{refl, sym, ap, subst, ◌∙◌, arith}
 use Rattle.std.proofs.lemmas.Bool.Decides.{nat_tests}

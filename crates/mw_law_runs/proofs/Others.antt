@@ -1,5 +1,5 @@
 -- A step of one request leaves each other request sound (`IsSoundRequest`): in range, its slots live, the facts of its point
--- true.
+-- true. Used by: FileCalls, StepsKeepInvariant.
 use Rattle.std.specs.Prelude.{ℕ, ◌≡◌, ◌≢◌, ◌≤◌, ◌+◌, ◌⊎◌, Some}
 use Rattle.std.proofs.Common.{sym, ap, subst, ◌∙◌, inl, inr, arith}
 use Rattle.mw_actor.specs.ActorState.{ActorState}

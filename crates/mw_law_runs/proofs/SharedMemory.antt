@@ -1,4 +1,5 @@
 -- The facts that a request knows at its point hold in every world with the same shared words, history and attempt numbers.
+-- Used by: ArrivalsAndStarts, FileCalls, StepsKeepInvariant.
 use Rattle.std.specs.Prelude.{[]}
 use Rattle.std.proofs.Common.{ap}
 use Rattle.mw_actor.specs.ActorState.{ActorState}

@@ -1,8 +1,8 @@
 //! States what is proved of two counts of a world: the pins of each slot, and the slots that each tenant's door
 //! counts.
 //!
-//! The functions are empty: their contracts are the facts, proved in `proofs/count_laws`. To change a fact, begin
-//! with its definition in `specs`.
+//! The functions are empty: their contracts are the facts. mw_law_store cites the lemmas behind them. To change a fact,
+//! begin with its definition in `specs`.
 ghost use Rattle.mw_law_runs.specs.Counts.Alone.{DoorsCountTheTaken, WhoFreesIsAlone, WhoWaitsHasRoom};
 ghost use Rattle.mw_law_runs.specs.Counts.Exact.{ExchangesAreExact};
 ghost use Rattle.mw_law_runs.specs.Counts.Laws.{EventsKeepCounts, RunsKeepCounts, RunsLeaveRoom, StartsStand};

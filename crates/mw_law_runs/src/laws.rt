@@ -1,7 +1,7 @@
 //! States that every event keeps a world sound (what holds at every moment of a run, except of files and marks).
 //!
-//! The functions are empty: their contracts are the facts, proved in `proofs/laws`. To change a fact, begin with its
-//! definition in `specs`.
+//! The functions are empty: their contracts are the facts. mw_law_store, mw_rule and mw_law_threads cite the lemmas
+//! behind them. To change a fact, begin with its definition in `specs`.
 ghost use Rattle.mw_world.specs.Claim.Headline.{ShortRunsHaveNumbers};
 ghost use Rattle.mw_world.specs.Claim.BitExactness.{CallersStatusStays, EveryRunIsBitExact};
 ghost use Rattle.mw_law_runs.specs.Laws.{CallsKeepSound, ComesKeepSound, CountsHaveRest, EventsKeepSound, HandsKeepSound, PinnedGatesKeepTheirNumbers, RestartsKeepSound, RoomIsLeft, RunsAreSound, SoundWorldsAreRight, StartsAreSound, TurnsKeepSound};

@@ -1,5 +1,5 @@
 -- An event of one tenant's request keeps each other tenant's part of the world refining its store alone (the reference
--- model).
+-- model). Used by: Come, EndsOfCalls, Handed, among others.
 use Rattle.std.specs.Prelude.{ℕ, ◌≡◌, ◌≢◌, Bool, true, false}
 use Rattle.std.proofs.Common.{refl, sym, ap, ◌∙◌, inl, inr, subst}
 use Rattle.std.proofs.lemmas.Bool.{cases_eq}

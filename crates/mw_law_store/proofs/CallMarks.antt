@@ -1,4 +1,5 @@
 -- Each way in which a call on a tenant's file can end is one mark of the tenant's store alone, or none.
+-- Used by: ReachedPoints, Called, EndsOfCalls.
 use Rattle.std.specs.Prelude.{ℕ, ◌≡◌, Bool, true, false, if◌then◌else◌, List, [], Some, None}
 use Rattle.std.proofs.Common.{refl, sym, ap, subst, ◌∙◌}
 use Rattle.mw_words.specs.declared.doors.Door.{Door}

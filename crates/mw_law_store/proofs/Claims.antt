@@ -1,5 +1,5 @@
 -- A claim of a slot, and the freeing of one, are no mark: after either, the tenant's requests still agree with its store
--- alone.
+-- alone. Used by: Aside, Elsewhere, Turns, among others.
 use Rattle.std.specs.Prelude.{ℕ, ◌≡◌, ◌≢◌, ◌⊎◌, true, false, List, Option, Some, None}
 use Rattle.std.proofs.Common.{refl, sym, ap, subst, ◌∙◌, inl, inr}
 use Rattle.std.proofs.lemmas.Option.{same_Some}

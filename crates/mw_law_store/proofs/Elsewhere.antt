@@ -1,4 +1,5 @@
 -- A step of one tenant's request keeps another tenant's part of the world refining its store alone (the reference model).
+-- Used by: Aside, Tenants, Turned.
 use Rattle.std.specs.Prelude.{ℕ, ◌≡◌, ◌≢◌, Option, Some, None}
 use Rattle.std.proofs.Common.{refl, sym, ap, subst, ◌∙◌, inl, inr}
 use Rattle.std.proofs.lemmas.Bool.{cases_eq}

@@ -1,4 +1,5 @@
 -- Lists the kinds of end that a step may have for its request, by the point before and the point after.
+-- Used by: CallMarks, Claims, Noted, among others.
 use Rattle.std.specs.Prelude.{◌≡◌, ◌≢◌, ◌⊎◌, true, false, Some, None}
 use Rattle.mw_words.specs.declared.replies.Reply.{Reply}
 use Rattle.mw_actor.specs.declared.points.Point.{Point}

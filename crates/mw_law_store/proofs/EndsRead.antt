@@ -1,5 +1,5 @@
 -- If the status that a read has loaded says that its change is made and finished, the history says so too (`EndsAreRead`). Every event
--- keeps this. For the law `reads_turn_back_for_three_reasons`.
+-- keeps this. For the law `reads_turn_back_for_three_reasons`. Used by: ReadRetryLaws.
 use Rattle.std.specs.Prelude.{ℕ, ◌≡◌, ◌≢◌, ◌⊎◌, ◌-◌, ◌==◌, true, false, nat_lt, Option, Some, None}
 use Rattle.std.proofs.Common.{refl, sym, ap, subst, ◌∙◌, inl, inr}
 use Rattle.mw_words.specs.declared.gates.Gate.{Gate}

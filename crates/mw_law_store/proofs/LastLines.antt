@@ -1,4 +1,5 @@
 -- If a line is added to a tenant's history that is about one request or none, the history still matches the store alone.
+-- Used by: Histories, HistoryMatchLaws, Started, among others.
 use Rattle.std.specs.Prelude.{ℕ, true, ◌+◌, ◌≡◌, List, [], ◌∷◌, length, Option, Some, None}
 use Rattle.std.specs.FinMap as map
 use Rattle.std.proofs.Common.{refl, sym, ap, subst, ◌∙◌, inl, inr, arith}

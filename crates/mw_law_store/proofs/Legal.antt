@@ -1,5 +1,5 @@
 -- A tenant's history that is legal stays legal after a legal step, and a place reserved in it for a legal mark stays
--- reserved.
+-- reserved. Used by: ReservedPlaceLaws, ServiceLaws, Met, among others.
 use Rattle.std.specs.Prelude.{ℕ, ◌≡◌, ◌≢◌, ◌++◌, Bool, true, List, [], ◌∷◌, length, slice_get, Option, Some, None}
 use Rattle.std.specs.FinMap as map
 use Rattle.std.specs.Option.{option_and_then}

@@ -1,5 +1,5 @@
 -- If a step of a request is a mark, the store alone makes the mark, and the tenant's part of the world refines the store
--- then.
+-- then. Used by: Turns.
 use Rattle.std.specs.Prelude.{ℕ, ◌+◌, ◌-◌, ◌<◌, ◌≡◌, Bool, true, false, List, Some, None}
 use Rattle.std.proofs.Common.{refl, sym, ap, subst, ◌∙◌}
 use Rattle.mw_words.specs.declared.jobs.Job.TheVariants.{Get}

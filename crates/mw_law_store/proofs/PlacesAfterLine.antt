@@ -1,4 +1,5 @@
 -- What could be found at a place of a tenant's history stays so when a line is added or a late mark is put in.
+-- Used by: Histories, HistoryMatchLaws, LastLines, among others.
 use Rattle.std.specs.Prelude.{ℕ, ◌≡◌, ◌≢◌, ◌≤◌, List, length, slice_get, slice_set, Option, Some, None}
 use Rattle.std.proofs.Common.{refl, ap, subst, ◌∙◌, inl, inr, arith}
 use Rattle.mw_words.specs.declared.jobs.Entry.{Entry}

@@ -1,4 +1,5 @@
 -- Defines the points that a request can reach: it gives up only with FAULT or WORN, and frees no slot if it found none.
+-- Used by: Noted, Onward, StepEnds, among others.
 use Rattle.std.specs.Prelude.{Bool, true, false}
 use Rattle.mw_words.specs.declared.replies.Reply.{Reply}
 use Rattle.mw_words.specs.declared.replies.Reply.TheVariants.{Fault as SaysFault, Worn as SaysWorn}

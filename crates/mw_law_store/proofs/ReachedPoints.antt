@@ -1,4 +1,4 @@
--- After every run, each request is at a point that `ReachablePoints` lists.
+-- After every run, each request is at a point that `ReachablePoints` lists. Used by: ServiceLaws.
 use Rattle.std.specs.Prelude.{ℕ, ◌≡◌, ◌≢◌, ◌⊎◌, Bool, true, false, List, [], ◌∷◌, Option, Some, None}
 use Rattle.std.specs.Option.{option_and_then}
 use Rattle.std.proofs.Common.{refl, sym, ap, subst, ◌∙◌, inl, inr}

@@ -1,4 +1,5 @@
 -- What a read has loaded of the change that it follows stays true over others' steps, and each load adds to it.
+-- Used by: DecidedChangesFit, EndsRead, ReadRetryLaws, among others.
 use Rattle.std.specs.Prelude.{ℕ, ◌≡◌, ◌≢◌, ◌<◌, ◌+◌, ◌-◌, ◌==◌, Bool, true, false, nat_lt, List, length, Option, Some, None}
 use Rattle.std.specs.Option.{option_map_or}
 use Rattle.std.proofs.Common.{refl, sym, ap, subst, ◌∙◌, arith}

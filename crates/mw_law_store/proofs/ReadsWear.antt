@@ -1,4 +1,4 @@
--- A step of a read does not bring it to a point from which it answers WORN, unless it was at one before.
+-- A step of a read does not bring it to a point from which it answers WORN, unless it was at one before. Used by: WornNumbers.
 use Rattle.std.specs.Prelude.{ℕ, ◌-◌, ◌≡◌, ◌==◌, Bool, false, nat_lt, Option, Some, None}
 use Rattle.std.proofs.Common.{refl}
 use Rattle.mw_words.specs.declared.gates.Gate.{Gate}

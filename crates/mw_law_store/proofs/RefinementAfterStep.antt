@@ -1,5 +1,5 @@
 -- A tenant's part of the world still refines its store alone after a step, if the tenant's state, requests and changes each
--- still do.
+-- still do. Used by: CallMarks, MarkedSteps, Turns, among others.
 use Rattle.std.specs.Prelude.{ℕ, ◌≡◌, ◌≢◌, ◌==◌, Bool, true, false, if◌then◌else◌, Option, Some}
 use Rattle.std.proofs.Common.{refl, sym, subst, ◌∙◌, arith, inl, inr}
 use Rattle.std.proofs.lemmas.Bool.{cases_eq}

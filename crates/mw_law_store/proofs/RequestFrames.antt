@@ -1,5 +1,5 @@
 -- A tenant's requests still agree with the store alone when one of the store's requests changes and one worker of the tenant
--- goes on.
+-- goes on. Used by: Arrivals, CallMarks, Claims, among others.
 use Rattle.std.specs.Prelude.{ℕ, ◌≡◌, ◌≢◌, false, List, Option, Some, None}
 use Rattle.std.specs.FinMap as map
 use Rattle.std.proofs.Common.{refl, sym, ap, subst, ◌∙◌, inl, inr}

@@ -1,4 +1,5 @@
 -- The places that workers have reserved in a tenant's history stay reserved while other workers make steps.
+-- Used by: Met, StepsWithoutPlace, Turned, among others.
 use Rattle.std.specs.Prelude.{ℕ, ◌≡◌, ◌≢◌, ◌≤◌, ◌⊎◌, true, List, length, slice_get, slice_set, Option, Some, None}
 use Rattle.std.proofs.Common.{refl, sym, ap, subst, ◌∙◌, inl, inr, arith}
 use Rattle.std.specs.Option.{option_map_or}

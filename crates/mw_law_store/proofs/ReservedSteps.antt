@@ -1,5 +1,5 @@
 -- A request that comes to a point where it needs a reserved place in the history reserves one by that step, or already had
--- it.
+-- it. Used by: Called, ReservedPlaces.
 use Rattle.std.specs.Prelude.{ℕ, ◌≡◌, ◌⊎◌, ◌||◌, ◌==◌, ◌+◌, Bool, false, nat_lt, Option, Some, None}
 use Rattle.std.proofs.Common.{refl, ap, inl, inr}
 use Rattle.mw_words.specs.declared.doors.Door.{Door}

@@ -1,5 +1,5 @@
 -- Since the last start, each request came at one line of its tenant's history, with a number below the next one. Each new
--- line keeps this.
+-- line keeps this. Used by: HistoryMatchLaws, LastLines.
 use Rattle.std.specs.Prelude.{ℕ, ◌+◌, ◌≡◌, List, [], slice_get, slice_set, Option, Some, None}
 use Rattle.std.proofs.Common.{sym, subst, ◌∙◌, inl, inr, arith}
 use Rattle.std.proofs.lemmas.Option.{same_Some, none-some}

@@ -1,4 +1,5 @@
 -- What a request's step leaves of gates and doors, and so which slots are taken and how many each door counts.
+-- Used by: Turned, TakenSlots.
 use Rattle.std.specs.Prelude.{ℕ, ◌≡◌, ◌⊎◌, ◌==◌, ◌&&◌, not, true, is_some, Some}
 use Rattle.std.proofs.Common.{refl, sym, ap, ◌∙◌, inl, inr}
 use Rattle.std.proofs.lemmas.Bool.{cases_eq}

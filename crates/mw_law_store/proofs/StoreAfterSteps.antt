@@ -1,5 +1,5 @@
 -- If a store alone steps as an event's label says, and all parts of the simulation hold after it, then it simulates the
--- event.
+-- event. Used by: Met.
 use Rattle.std.specs.Prelude.{ℕ, ◌≡◌, List, Option}
 use Rattle.std.proofs.Common.{sym, ap, subst}
 use Rattle.mw_lone.specs.declared.marks.Mark.{Mark}

@@ -1,4 +1,5 @@
 -- After every run, each taken slot has a number below the worn one (the last number), because no claim takes that one.
+-- Used by: ReadRetryLaws.
 use Rattle.std.specs.Prelude.{ℕ, ◌≡◌, ◌<◌, ◌==◌, ◌&&◌, not, Bool, true, false, cond, is_some, if◌then◌else◌, Option, Some, None}
 use Rattle.std.proofs.Common.{refl, sym, subst, ◌∙◌, arith}
 use Rattle.mw_words.specs.declared.gates.Gate.{Gate}

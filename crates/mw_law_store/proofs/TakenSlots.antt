@@ -1,5 +1,5 @@
 -- Which slots are taken after a request's step, and how many its tenant's door counts, for each label (addition to the
--- history).
+-- history). Used by: Turned.
 use Rattle.std.specs.Prelude.{ℕ, ◌≡◌, ◌⊎◌, ◌+◌, ◌-◌, Bool, true, false}
 use Rattle.std.proofs.Common.{refl, sym, ap, subst, ◌∙◌, inl, inr}
 use Rattle.std.proofs.lemmas.Bool.{cases_eq}

@@ -1,4 +1,5 @@
 -- After a step of a request that is no mark, the tenant's part of the world still refines the same store alone.
+-- Used by: CallMarks, MarkedSteps, EndsOfCalls, among others.
 use Rattle.std.specs.Prelude.{ℕ, ◌≡◌, ◌⊎◌, Bool, true, false, length, Some}
 use Rattle.std.proofs.Common.{refl, sym, ap, ◌∙◌, inl, inr}
 use Rattle.std.proofs.lemmas.Bool.{cases_eq}

@@ -1,4 +1,4 @@
--- What a request sees in a word is the word's value in its tenant's file at that time.
+-- What a request sees in a word is the word's value in its tenant's file at that time. Used by: ChangeSteps, ReadSteps.
 use Rattle.std.specs.Prelude.{ℕ, ◌≡◌, ◌<◌, ◌+◌, ◌==◌, ◌&&◌, not, Bool, true, false, cond, nat_lt, List, length, Some}
 use Rattle.std.proofs.Common.{refl, sym, ap, subst, ◌∙◌, arith}
 use Rattle.std.proofs.lemmas.Bool.Decides.{nat_tests}

@@ -2,8 +2,8 @@
 //! place of its own there.
 //!
 //! The functions are empty: their contracts are the facts, proved in `proofs/file_laws`. To change a fact, begin with
-//! its definition in `specs`. docs/PROMISES and docs/THEOREM cite `every_run_holds`. mw_rule and mw_simulator import
-//! the proofs.
+//! its definition in `specs`. docs/PROMISES and docs/THEOREM cite `every_run_holds`. mw_rule, mw_simulator
+//! and mw_law_threads import the proofs.
 ghost use Rattle.mw_world.specs.Claim.Headline.{EveryRunHolds};
 ghost use Rattle.mw_law_store.specs.Files.Enabled.{CallsCanBeMade, RunsAreEnabled, StartsFindWords};
 ghost use Rattle.mw_law_store.specs.Files.Laws.{CallsKeepFiles, ComesKeepFiles, EventsKeepFiles, FirstStartsHaveFiles, HandsKeepFiles, RestartsKeepFiles, RunsGoOn, RunsHaveFiles, SoundWorldsWithFilesAreRight, StartsHaveFiles, TurnsKeepFiles};

@@ -1,7 +1,7 @@
 //! States what is proved of marks: what each does to a store alone, and that a mark may be put into a history late.
 //!
-//! The functions are empty: their contracts are the facts, proved in `proofs/late_laws`. To change a fact, begin with
-//! its definition in `specs`.
+//! The functions are empty: their contracts are the facts. mw_law_threads cites lemmas behind them. To change a fact,
+//! begin with its definition in `specs/Late`.
 ghost use Rattle.mw_law_store.specs.Late.Examples.{LateMarkComesOut};
 ghost use Rattle.mw_law_store.specs.Late.Laws.{MarksDo, DoingIsMarked, LinesAreRun, LinesExtend, EmptyPlaceAddsNothing, RepliesCommute, OthersAreLeft, RunsNumber, LateMark, LateMarkOfAll, NothingBetween, PlaceIsReserved, ReservedBesideALine, ReservedBesideALateMark};
 

@@ -1,8 +1,8 @@
 //! States what is proved of each tenant and its store alone (the sequential reference model). The functions are
 //! empty: their contracts are the facts.
 //!
-//! mw_rule and mw_simulator cite the lemmas behind them. A change of a contract changes a theorem: the last is the
-//! theorem of docs/THEOREM.md.
+//! mw_rule, mw_simulator and mw_law_threads cite the lemmas behind them. A change of a contract changes a theorem: the
+//! last is that of docs/THEOREM.md.
 ghost use Rattle.mw_world.specs.Claim.Headline.{EqualMarksHaveEqualReplies, EveryRunIsDurablyLinearizable};
 ghost use Rattle.mw_law_store.specs.Durability.{SealsAreDurable};
 ghost use Rattle.mw_law_store.specs.DurabilityInRuns.{RunsKeepAcknowledged};

@@ -1,7 +1,7 @@
 -- The proofs that one store alone goes on over a start. This page only lists its modules.
 pub mod LaterStoreLaws
-pub mod OneStoreLaws
+pub mod StartLaws
 pub mod ServersInTurnLaws
 pub mod SealCrashes
 pub mod FoundAfterCrashLaws
-pub mod NextTableLaws
+pub mod TablesInTurnLaws

@@ -1,6 +1,6 @@
 -- One store alone over a start. This page only lists its modules.
 pub mod LaterStores
-pub mod OneStore
+pub mod FoundAfter
 pub mod ServersInTurn
 pub mod FoundAfterCrashes
-pub mod NextTables
+pub mod TablesInTurn

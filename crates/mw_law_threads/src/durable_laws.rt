@@ -22,8 +22,8 @@ pub fn calls_keep_changes<D: Disk>()
 {}
 
 /// At every moment of the shared words a crash leaves whole changes: those of the run that ties the shared words to the
-/// model. It comes while no call on the file is under way, in any pass's call, before the call's event, by which the run goes
-/// on, or after it, or in a copy for a backup (`CrashMoment`).
+/// model. It comes while no call on the file is under way, in any pass's call, before its device calls, before the call's
+/// event, by which the run goes on, or after it, or in a copy for a backup (`CrashMoment`).
 ///
 /// Of an honest disk, it leaves the words of the latest start with all sealed changes put over them. One whole change more may
 /// be there: the one that a call seals, before its event, or else the one in doubt. No change of the request is sealed
@@ -35,7 +35,8 @@ pub fn every_moment_leaves_whole_changes<B: Begins, D: Disk>()
     ensures { (key : B) → MomentsLeaveWholeChanges D.facts (B.config key) (B.begun key) }
 {}
 
-/// A start finds what a crash left. It opens these bytes on a disk that is honest and synced.
+/// A start finds what a crash left. It opens these bytes on a disk that is honest and synced. Other starts may have opened
+/// them before, and been cut off in their openings or after them, or failed.
 ///
 /// The crash came at a moment at which it leaves whole changes, by [`calls_keep_changes`] or
 /// [`every_moment_leaves_whole_changes`]. If the opening goes well, it finds the words of the start before with all changes put

@@ -12,7 +12,7 @@
 //!   at all.
 //! - `Sessions`: sessions that borrow a pass for each request. The token of each is its own.
 //! - `NextRuns`: one store alone takes what a server did before a start, the start, and what the next server did, and so on for
-//!   any number of servers.
+//!   any number of servers, and of their tables.
 //!
 //! Of `Durable` these laws hold on an honest disk:
 //!
@@ -57,7 +57,7 @@ pub use durable_laws::{
 pub use history_laws::every_moment_has_one_history;
 pub use moment_laws::replies_have_moments;
 pub use next_run_laws::{
-    crashes_leave_next_runs, next_runs_are_of_one_store, next_tables_are_of_one_store,
-    servers_in_turn_are_of_one_store, stores_go_on,
+    crashes_leave_next_runs, servers_in_turn_are_of_one_store, stores_go_on,
+    tables_in_turn_are_of_one_store,
 };
 pub use whole_laws::{changes_are_whole, refused_requests_make_no_change};

@@ -1,6 +1,6 @@
--- Defines how a client's line is read from left to right, by a reader that may see a large number as a smaller one.
+-- Defines how a line is read from left to right, by a reader that may see a large number as a smaller one.
 -- Used by: mw_config, mw_schedule, mw_client, changes.rt, numbers.rt, requests.rt. It may change with the readers that cite
--- it, as long as read_line keeps its contract (Grammar, Limits).
+-- it, as long as these keep their contracts (of read_line: Grammar, Limits).
 use Rattle.std.specs.Prelude.{◌≡◌, ℕ, zero, suc, ◌+◌, ◌-◌, ◌*◌, ◌^◌, ◌==◌, min, List, [], ◌∷◌, length, if◌then◌else◌, codes, Option, Some, None, Result, Err, bytes_eq}
 use Rattle.mw_words.specs.declared.jobs.Entry.{Entry}
 use Rattle.mw_words.specs.Name.{is_name, is_digit}

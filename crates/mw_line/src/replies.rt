@@ -1,7 +1,7 @@
 //! Writes the lines that the server says to a client: replies, and errors with their numbers.
 //!
 //! Used by: mw_session, mw_client, mw_client_c, mwbench, mw_player. A new [`Say`] or [`ErrCode`] needs its text in
-//! `specs/Replies`, and a case in the first three. The texts are the protocol: docs/PROTOCOL, and the clients of each
+//! `specs/Replies`, and cases in mw_client and mw_client_c. The texts are the protocol: docs/PROTOCOL, and the clients of each
 //! language. [`MAX_REPLY`] must be as long as the longest.
 ghost use Rattle.std.specs.Prelude.{◌≡◌, ◌+◌, ◌≤◌, ◌<◌, ◌++◌, [], decimal, length};
 ghost use Rattle.mw_line.specs.Replies as spec;

@@ -1,13 +1,15 @@
 -- The buckets of a histogram one at a time: the line of the next one, and how many durations are in those before it.
--- Used by: put_buckets.
+-- Used by: put_buckets, put_histogram.
 use Rattle.std.proofs.Common.{◌≡◌, ℕ, ◌+◌, ◌-◌, ◌^◌, ◌<◌, ◌≤◌, List, [], ◌∷◌, ◌++◌, length, get_or, take, drop, min, sum, decimal, codes, refl, ap, sym, ◌∙◌, arith, append_assoc, append-nil}
 use Rattle.std.proofs.lemmas.List.{drop_more}
 use Rattle.std.proofs.lemmas.List.Sums.{sum_by_more}
 use Rattle.std.proofs.Math.ListN.{drop_of_length-le}
 use Rattle.mw_metrics.specs.declared.families.Family.{Family}
+use Rattle.mw_metrics.specs.declared.histogram.HistogramFigures.{HistogramFigures}
+use Rattle.mw_metrics.specs.declared.histogram.TheConstants.{BOUNDS}
 use Rattle.mw_metrics.specs.Exposition.{Label, label, sample, seconds}
 use Rattle.mw_metrics.specs.Names.{family_name}
-use Rattle.mw_metrics.specs.Figures.{before, bucket_lines}
+use Rattle.mw_metrics.specs.Figures.{before, bucket_lines, histogram}
 
 -- the lines that are left begin with that of the next bucket
 pub lines_more : (family : Family) (a b : Label) (counts bounds : List ℕ) (k : ℕ) → k < length bounds →
@@ -57,5 +59,23 @@ pub lines_all : (family : Family) (a b : Label) (counts bounds : List ℕ) (k : 
     text ++ bucket_lines family a b counts k (drop k bounds) ≡ start → text ≡ start
 lines_all family a b counts bounds k text start h now =
     sym (append-nil text) ∙ ap (λ (s : List ℕ). text ++ s) (sym (lines_end family a b counts bounds k h)) ∙ now
+
+-- what is put for a histogram is its lines: its buckets, the bucket of all durations, and the totals
+pub histogram_put : (family : Family) (a b : Label) (h : HistogramFigures) (text buckets more done : List ℕ) (all : ℕ) →
+    buckets ≡ text ++ bucket_lines family a b h.counts 0 BOUNDS → all ≡ before h.counts 13 →
+    more ≡ buckets ++ bucket_line family a b (codes "+Inf") all →
+    done ≡ more ++ sample (family_name family ++ codes "_sum") (a ∷ b ∷ []) (seconds h.sum_nanos) ++ sample (family_name family ++ codes "_count") (a ∷ b ∷ []) (decimal all) →
+    done ≡ text ++ histogram family a b h
+unfolding histogram
+histogram_put family a b h text buckets more done all put same one totals =
+    let lines = bucket_lines family a b h.counts 0 BOUNDS in
+    let last = λ (n : ℕ). bucket_line family a b (codes "+Inf") n in
+    let total = sample (family_name family ++ codes "_sum") (a ∷ b ∷ []) (seconds h.sum_nanos) in
+    let count = λ (n : ℕ). sample (family_name family ++ codes "_count") (a ∷ b ∷ []) (decimal n) in
+    totals
+    ∙ ap (λ (t : List ℕ). t ++ total ++ count all) (one ∙ ap (λ (t : List ℕ). t ++ last all) put ∙ append_assoc text lines (last all))
+    ∙ ap (λ (t : List ℕ). t ++ count all) (append_assoc text (lines ++ last all) total)
+    ∙ append_assoc text (lines ++ last all ++ total) (count all)
+    ∙ ap (λ (n : ℕ). text ++ (lines ++ last n ++ total ++ count n)) same
 
 pub ruleset buckets = (lines_more, lines_end, before_more, before_none)

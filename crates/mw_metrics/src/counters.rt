@@ -45,8 +45,8 @@ impl Counter {
 /// Gives what each counter has counted.
 fn values<const N: usize>(counters: &[Counter; N]) -> [u64; N] {
     let mut values = [0; N];
-    for (value, counter) in values.iter_mut().zip(counters.iter()) {
-        *value = counter.get();
+    for index in 0..N {
+        values[index] = counters[index].get();
     }
     values
 }

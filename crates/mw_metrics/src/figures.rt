@@ -1,6 +1,7 @@
 //! The figures of a server: those that are counted, and those of the moment.
 //!
-//! Used by: `meters`, `exposition`, mw_server_pages, mw_examples. Change it with `specs/Figures`.
+//! Used by: `counters`, `server_lines`, `tenant_lines`, `meters`, `exposition`, mw_server_pages, mw_examples. Change it
+//! with `specs/Figures`.
 ghost use Rattle.std.specs.Prelude.{◌≡◌};
 ghost use Rattle.mw_metrics.specs.Figures as spec;
 
@@ -49,7 +50,7 @@ pub struct TenantCounts {
 }
 
 /// Whether a tenant's file is the one that was opened, as far as its server has seen.
-#[derive(Clone, Copy, Debug, PartialEq, Eq)]
+#[derive(Clone, Copy)]
 pub enum FilePlace {
     /// It is at its path, and as it must be.
     InPlace,

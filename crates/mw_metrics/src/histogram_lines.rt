@@ -9,7 +9,9 @@ ghost use Rattle.mw_metrics.specs.Names.{family_name};
 
 use crate::families::Family;
 use crate::histogram::{BOUNDED, BOUNDS, HistogramFigures};
-use crate::samples::{MAX_LABEL_VALUE, MAX_SAMPLE, one_label, one_more_label, put_sample, seconds};
+use crate::samples::{
+    MAX_LABEL_VALUE, MAX_SAMPLE, one_more_label, put_sample, seconds, tenant_labels,
+};
 use crate::text::{MAX_METRICS, Text};
 use itoa::Buffer;
 
@@ -63,9 +65,10 @@ fn put_buckets(
     ensures room { length text.new.bytes.items ≤ length text.old.bytes.items + 12 * MAX_SAMPLE }
 {
     let mut so_far: u64 = 0;
-    for (bucket, bound) in bounds.iter().enumerate() {
+    for bucket in 0..bounds.len() {
         so_far = so_far.saturating_add(counts[bucket]);
-        put_bucket(text, family, tenant, name, value, &seconds(*bound), so_far);
+        let bound = seconds(bounds[bucket]);
+        put_bucket(text, family, tenant, name, value, &bound, so_far);
     }
     so_far.saturating_add(counts[bounds.len()])
 }
@@ -89,7 +92,7 @@ fn put_bucket(
     ensures line { text.new.bytes.items ≡ text.old.bytes.items ++ sample (family_name family ++ codes "_bucket") (label (codes "tenant") tenant.now ∷ label name.now value.now ∷ label (codes "le") bound.now ∷ []) (decimal count) }
     ensures room { length text.new.bytes.items ≤ length text.old.bytes.items + MAX_SAMPLE }
 {
-    let labels = one_more_label(&one_label(b"tenant", tenant), name, value);
+    let labels = tenant_labels(tenant, name, value);
     let labels = one_more_label(&labels, b"le", bound);
     let mut buffer = Buffer::new();
     let count = buffer.format(count).as_bytes();
@@ -114,7 +117,7 @@ fn put_totals(
     ensures lines { text.new.bytes.items ≡ text.old.bytes.items ++ sample (family_name family ++ codes "_sum") (label (codes "tenant") tenant.now ∷ label name.now value.now ∷ []) (seconds sum_nanos) ++ sample (family_name family ++ codes "_count") (label (codes "tenant") tenant.now ∷ label name.now value.now ∷ []) (decimal count) }
     ensures room { length text.new.bytes.items ≤ length text.old.bytes.items + 2 * MAX_SAMPLE }
 {
-    let labels = one_more_label(&one_label(b"tenant", tenant), name, value);
+    let labels = tenant_labels(tenant, name, value);
     put_sample(
         text,
         family.description().name,

@@ -63,6 +63,16 @@ pub(crate) fn one_more_label(labels: &[u8], name: &[u8], value: &[u8]) -> Labels
     more
 }
 
+/// Gives two labels: the tenant's, and one more.
+pub(crate) fn tenant_labels(tenant: &[u8], name: &[u8], value: &[u8]) -> Labels
+    requires tenant { length tenant.now ≤ MAX_LABEL_VALUE }
+    requires room { length name.now + length value.now * 2 ≤ 80 }
+    ensures labels { result.items ≡ label_text (label (codes "tenant") tenant.now) ++ (codes "," ++ label_text (label name.now value.now)) }
+    ensures room { length result.items ≤ 45 + length name.now + length value.now * 2 }
+{
+    one_more_label(&one_label(b"tenant", tenant), name, value)
+}
+
 #[tactic(auto, unfolding(crate::specs::Exposition::escaped))]
 fn put_escaped(labels: &mut Labels, value: &[u8])
     requires { length labels.old.items + length value.now * 2 ≤ MAX_LABELS }
@@ -87,12 +97,12 @@ fn put_byte(labels: &mut Labels, byte: u8)
     }
 }
 
-fn push(labels: &mut Labels, bytes: &[u8])
-    requires { length labels.old.items + length bytes.now ≤ MAX_LABELS }
-    ensures bytes { labels.new.items ≡ labels.old.items ++ bytes.now }
-    ensures room { length labels.new.items ≡ length labels.old.items + length bytes.now }
+fn push<const N: usize>(text: &mut ArrayVec<u8, N>, bytes: &[u8])
+    requires { length text.old.items + length bytes.now ≤ N }
+    ensures bytes { text.new.items ≡ text.old.items ++ bytes.now }
+    ensures room { length text.new.items ≡ length text.old.items + length bytes.now }
 {
-    labels.try_extend_from_slice(bytes).unwrap();
+    text.try_extend_from_slice(bytes).unwrap();
 }
 
 /// Gives a number of nanoseconds as seconds, with nine digits after the point.
@@ -103,8 +113,7 @@ pub(crate) fn seconds(nanos: u64) -> Seconds
 {
     let mut text = Seconds::new();
     let mut whole = Buffer::new();
-    text.try_extend_from_slice(whole.format(nanos / SECOND).as_bytes())
-        .unwrap();
+    push(&mut text, whole.format(nanos / SECOND).as_bytes());
     text.push(b'.');
     put_nine_digits(&mut text, nanos % SECOND);
     text
@@ -120,7 +129,7 @@ fn put_nine_digits(text: &mut Seconds, number: u64)
     let mut buffer = Buffer::new();
     let digits = buffer.format(number).as_bytes();
     put_zeros(text, 9 - digits.len());
-    text.try_extend_from_slice(digits).unwrap();
+    push(text, digits);
 }
 
 fn put_zeros(text: &mut Seconds, count: usize)

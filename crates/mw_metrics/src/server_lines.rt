@@ -86,19 +86,29 @@ fn put_lease(text: &mut Text, nanos: Option<u64>)
 }
 
 /// Puts each figure of the server that has no label.
-#[tactic(auto, unfolding(crate::specs::Figures::figure_families), using(crate::proofs::Widths::widths))]
+#[tactic(auto, unfolding(crate::specs::Figures::figure_families))]
 fn put_figures(text: &mut Text, server: &ServerMetrics)
     requires room { length text.old.bytes.items + 8 * (MAX_HEADER + MAX_SAMPLE) ≤ MAX_METRICS }
     ensures families { text.new.bytes.items ≡ text.old.bytes.items ++ spec.figure_families server.now }
     ensures room { length text.new.bytes.items ≤ length text.old.bytes.items + 8 * (MAX_HEADER + MAX_SAMPLE) }
 {
     for figure in SERVER_FIGURES {
-        let family = Family::Server(figure);
-        put_header(text, family);
-        let mut buffer = Buffer::new();
-        let number = buffer.format(figure_of(server, figure)).as_bytes();
-        put_plain_sample(text, family.description().name, number);
+        put_figure(text, server, figure);
     }
+}
+
+/// Puts one figure of the server that has no label.
+#[tactic(auto, using(crate::proofs::Widths::widths))]
+fn put_figure(text: &mut Text, server: &ServerMetrics, figure: ServerFigure)
+    requires room { length text.old.bytes.items + (MAX_HEADER + MAX_SAMPLE) ≤ MAX_METRICS }
+    ensures family { text.new.bytes.items ≡ text.old.bytes.items ++ spec.figure_family server.now figure }
+    ensures room { length text.new.bytes.items ≤ length text.old.bytes.items + (MAX_HEADER + MAX_SAMPLE) }
+{
+    let family = Family::Server(figure);
+    put_header(text, family);
+    let mut buffer = Buffer::new();
+    let number = buffer.format(figure_of(server, figure)).as_bytes();
+    put_plain_sample(text, family.description().name, number);
 }
 
 fn figure_of(server: &ServerMetrics, figure: ServerFigure) -> u64

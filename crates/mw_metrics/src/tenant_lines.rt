@@ -11,7 +11,7 @@ use crate::families::{Family, TENANT_GAUGES, TenantGauge};
 use crate::figures::{CallFigures, ReplyCounts, RequestFigures, TenantCounts, TenantMetrics};
 use crate::histogram_lines::{MAX_HISTOGRAM, put_histogram};
 use crate::kinds::{DEVICE_CALLS, DeviceCall, REPLY_KINDS, REQUEST_KINDS, ReplyKind, RequestKind};
-use crate::samples::{MAX_SAMPLE, one_label, one_more_label, put_number};
+use crate::samples::{MAX_SAMPLE, one_label, one_more_label, put_number, tenant_labels};
 use crate::server_lines::{MAX_HEADER, put_header};
 use crate::text::{MAX_METRICS, Text};
 use mw_words::MAX_TENANTS;
@@ -128,8 +128,7 @@ fn put_reply_line(text: &mut Text, tenant: &TenantMetrics, kind: RequestKind, re
     ensures line { text.new.bytes.items ≡ text.old.bytes.items ++ spec.reply_line tenant.now kind reply }
     ensures room { length text.new.bytes.items ≤ length text.old.bytes.items + MAX_SAMPLE }
 {
-    let labels = one_label(b"tenant", &tenant.figures.name);
-    let labels = one_more_label(&labels, b"kind", kind.text());
+    let labels = tenant_labels(&tenant.figures.name, b"kind", kind.text());
     let labels = one_more_label(&labels, b"reply", reply.text());
     let count = replies_of(&requests_of(&tenant.counts, kind).replies, reply);
     put_number(text, Family::Requests, &labels, count);
@@ -176,12 +175,19 @@ fn put_failures(text: &mut Text, tenant: &TenantMetrics)
     ensures lines { text.new.bytes.items ≡ text.old.bytes.items ++ spec.failure_lines tenant.now }
     ensures room { length text.new.bytes.items ≤ length text.old.bytes.items + 3 * MAX_SAMPLE }
 {
-    let label = one_label(b"tenant", &tenant.figures.name);
     for call in DEVICE_CALLS {
-        let labels = one_more_label(&label, b"call", call.text());
-        let failures = calls_of(&tenant.counts, call).failures;
-        put_number(text, Family::DeviceFailures, &labels, failures);
+        put_failure_line(text, tenant, call);
     }
+}
+
+fn put_failure_line(text: &mut Text, tenant: &TenantMetrics, call: DeviceCall)
+    requires room { length text.old.bytes.items + MAX_SAMPLE ≤ MAX_METRICS }
+    ensures line { text.new.bytes.items ≡ text.old.bytes.items ++ spec.failure_line tenant.now call }
+    ensures room { length text.new.bytes.items ≤ length text.old.bytes.items + MAX_SAMPLE }
+{
+    let labels = tenant_labels(&tenant.figures.name, b"call", call.text());
+    let failures = calls_of(&tenant.counts, call).failures;
+    put_number(text, Family::DeviceFailures, &labels, failures);
 }
 
 /// Puts how long requests took.

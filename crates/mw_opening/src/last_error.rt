@@ -1,6 +1,7 @@
 //! The last error that the system told of a tenant's file, for a note.
 //!
-//! Used by: `file_state`, which has one of each file; `file_fault`, `tenant_disks`. Many threads may share it.
+//! Used by: `opening`, `file_state`, which has one of each file; `file_fault`, `tenant_disks`. Many threads may share
+//! it.
 ghost use Rattle.std.specs.Prelude.{◌≡◌};
 
 use std::io::{self, ErrorKind};

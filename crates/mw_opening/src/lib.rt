@@ -5,6 +5,12 @@
 //! [`WatchedFile`], which times its calls and counts them, and keeps in a [`FileState`] what is known of it.
 //! [`open_plain`] opens a file only if it is plain. [`Notes`] writes notes.
 //!
+//! - *What a contract says*: [`open_parts`] makes the parts of just the files that it opened, each synced before and
+//!   fit for its line. A tenant has none only for a cause.
+//! - *Proved*: each disk is over what the runtime opened at the line's path.
+//! - *Tested only*: what the system has there, refusals, locks, folders, notes (mw_examples, `scripts/check-locks`,
+//!   `scripts/check-refusals`, `scripts/check-new-file`).
+//!
 //! Used by: mw_examples, mw_programs. docs/OPERATING lists the notes and says which files a server opens: change them
 //! together.
 #![tactic(auto)]

@@ -1,7 +1,7 @@
 //! Writes notes for whoever runs the server, each on a line of its own.
 //!
-//! Used by: `opening`; mw_programs. It has no contracts. docs/OPERATING tells the limits at the top, and
-//! scripts/check-limits tries one.
+//! Used by: `file_fault`, `folders`, `opening`; mw_programs. It has no contracts. docs/OPERATING tells the limits at
+//! the top, and scripts/check-limits tries one.
 
 use arrayvec::ArrayVec;
 use jiff::Timestamp;

@@ -13,7 +13,7 @@ use Rattle.mw_file.specs.RecoveryInvariant.{IsFile, IsBeforeOrAfter}
 use Rattle.mw_record.specs.Layout.{pairs_of}
 use Rattle.mw_record.specs.Records.{Pairs, put_pairs}
 use Rattle.mw_lone.specs.Store.{Store}
-use Rattle.mw_plain.specs.declared.book.LoadedFile.{LoadedFile}
+use Rattle.mw_plain.specs.declared.loaded_file.LoadedFile.{LoadedFile}
 use Rattle.mw_plain.specs.declared.plain.Plain.{Plain}
 use Rattle.mw_plain.specs.declared.tickets.Ticket.{Ticket}
 use Rattle.mw_plain.specs.declared.tickets.Start.TheVariants.{Done, Open}

@@ -23,7 +23,7 @@ use Rattle.mw_record.specs.Records.{Pairs, put_pairs}
 use Rattle.mw_record.proofs.ReadAgain.{put-put_pairs}
 use Rattle.mw_lone.specs.Store.{Store}
 use Rattle.mw_lone.proofs.SoundStores.{length-put}
-use Rattle.mw_plain.specs.declared.book.LoadedFile.{LoadedFile}
+use Rattle.mw_plain.specs.declared.loaded_file.LoadedFile.{LoadedFile}
 use Rattle.mw_plain.specs.Books.{IsPrepared}
 use Rattle.mw_plain.specs.Misses.{IsFirstMiss}
 use Rattle.mw_plain.specs.Cases.{Missed, Unsealed, Unsettled, Changed, refusal}

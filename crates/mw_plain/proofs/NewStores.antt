@@ -16,7 +16,7 @@ use Rattle.mw_file.specs.File.{disk_of}
 use Rattle.mw_file.specs.RecoveryInvariant.{RecoversTo}
 use Rattle.mw_record.specs.Layout.{pairs_of}
 use Rattle.mw_lone.specs.Store.{Store}
-use Rattle.mw_plain.specs.declared.book.LoadedFile.{LoadedFile}
+use Rattle.mw_plain.specs.declared.loaded_file.LoadedFile.{LoadedFile}
 use Rattle.mw_plain.specs.declared.part.Part.{Part}
 use Rattle.mw_plain.specs.declared.plain.Plain.{Plain}
 use Rattle.mw_plain.specs.Quotas.{quotas_of}

@@ -1,4 +1,4 @@
--- A call for one tenant leaves valid each ticket (a started change) whose change is still prepared.
+-- A call for one tenant leaves valid each ticket (a started change) whose change is still prepared. Used by: Serves, TaskLaws.
 use Rattle.std.proofs.Common.{◌≡◌, ℕ, ◌<◌, Option, IsTrue, sym, ap, subst, ◌∙◌, inl, inr}
 use Rattle.std.proofs.lemmas.Bool.{cases_eq}
 use Rattle.std.specs.Option.{option_and_then, option_map_or}

@@ -15,8 +15,8 @@ use Rattle.mw_lone.specs.Store.{entries_of}
 use Rattle.mw_lone.proofs.SoundStores.{length-put}
 use Rattle.mw_plain.specs.declared.part.Part.{Part}
 use Rattle.mw_plain.specs.declared.plain.Plain.{Plain}
-use Rattle.mw_plain.specs.declared.calls.Begun.{Begun}
-use Rattle.mw_plain.specs.declared.calls.Begun.TheVariants.{Done, Prepared as PreparedIn}
+use Rattle.mw_plain.specs.declared.loaded_file.Begun.{Begun}
+use Rattle.mw_plain.specs.declared.loaded_file.Begun.TheVariants.{Done, Prepared as PreparedIn}
 use Rattle.mw_plain.specs.declared.tickets.Ticket.{Ticket}
 use Rattle.mw_plain.specs.declared.tickets.Start.{Start}
 use Rattle.mw_plain.specs.declared.tickets.Start.TheVariants.{Done as IsDone, Open}

@@ -20,8 +20,8 @@ use Rattle.mw_file.proofs.Free.{free_stage_at}
 use Rattle.mw_file.specs.RecoveryInvariant.{ContentsStay}
 use Rattle.mw_file.specs.PlaceStates.{stage_of, free_place, IsStaged}
 use Rattle.mw_record.specs.Layout.{pairs_of}
-use Rattle.mw_plain.specs.declared.book.LoadedFile.{LoadedFile}
-use Rattle.mw_plain.specs.declared.calls.Begun.TheVariants.{Done, Prepared as PreparedIn}
+use Rattle.mw_plain.specs.declared.loaded_file.LoadedFile.{LoadedFile}
+use Rattle.mw_plain.specs.declared.loaded_file.Begun.TheVariants.{Done, Prepared as PreparedIn}
 use Rattle.mw_plain.specs.Cases.{Unprepared, Prepared}
 use Rattle.mw_plain.specs.CallEnds.{StartEnds}
 

@@ -8,7 +8,7 @@ use Rattle.std.proofs.lemmas.List.Elements.{All-nil, All-cons}
 use Rattle.mw_words.specs.declared.limits.TheConstants.{MAX_PLACES, MAX_POOL, MAX_TENANTS}
 use Rattle.mw_report.specs.declared.figures.TenantFigures.{TenantFigures}
 use Rattle.mw_report.specs.Table.{IsWithinLimits, AreWithinLimits}
-use Rattle.mw_plain.specs.declared.book.LoadedFile.{LoadedFile}
+use Rattle.mw_plain.specs.declared.loaded_file.LoadedFile.{LoadedFile}
 use Rattle.mw_plain.specs.declared.part.Part.{Part}
 use Rattle.mw_plain.specs.Books.{used_in, places_in}
 use Rattle.mw_plain.specs.Quotas.{quotas_of, used_by}

@@ -1,5 +1,5 @@
 -- Defines what the calls on a plain store promise: each tenant is answered, and left, as its store alone does it.
--- Used by: restarts.rt, tenants.rt. A change here changes what tests compare the engine with.
+-- Used by: plain.rt, restarts.rt. A change here changes what tests compare the engine with.
 use Rattle.std.specs.Prelude.{◌≡◌, ◌≢◌, ℕ, false, List, length, Option, Some, None, is_some}
 use Rattle.mw_disk.specs.Facts.{Facts}
 use Rattle.mw_words.specs.declared.jobs.Entry.{Entry}
@@ -7,7 +7,7 @@ use Rattle.mw_words.specs.declared.jobs.Job.{Job}
 use Rattle.mw_words.specs.declared.jobs.Job.TheVariants.{Cas}
 use Rattle.mw_words.specs.declared.replies.Reply.{Reply}
 use Rattle.mw_lone.specs.Store.{Store, request, entries_of}
-use Rattle.mw_plain.specs.declared.book.LoadedFile.{LoadedFile}
+use Rattle.mw_plain.specs.declared.loaded_file.LoadedFile.{LoadedFile}
 use Rattle.mw_plain.specs.declared.plain.Plain.{Plain}
 use Rattle.mw_plain.specs.declared.tickets.Ticket.{Ticket}
 use Rattle.mw_plain.specs.declared.tickets.Start.{Start}

@@ -1,12 +1,12 @@
 -- Names the parts of a tenant's loaded file (its open file, with its words in memory), also if the file didn't open.
--- Used by: calls.rt, part.rt, serving.rt. It may change with LoadedFile, in src/book.rt.
+-- Used by: loaded_file.rt, part.rt. It may change with LoadedFile, in src/loaded_file.rt.
 use Rattle.std.specs.Prelude.{◌≡◌, ℕ, Bool, true, false, List, length, Option, Some, None}
 use Rattle.mw_words.specs.declared.jobs.Entry.{Entry}
 use Rattle.mw_file.specs.declared.place_states.Stage.TheVariants.{Prepared}
 use Rattle.mw_file.specs.File.{words_of, states_of}
 use Rattle.mw_file.specs.PlaceStates.{stage_of, writes_of_place}
 use Rattle.mw_record.specs.Layout.{pairs_of}
-use Rattle.mw_plain.specs.declared.book.LoadedFile.{LoadedFile}
+use Rattle.mw_plain.specs.declared.loaded_file.LoadedFile.{LoadedFile}
 
 module _ {D : Type 0} where
   -- how many slots the tenant uses

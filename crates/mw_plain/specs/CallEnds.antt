@@ -1,5 +1,5 @@
 -- Defines how the start of a job and the finish of a change end for one tenant: its reply, its file, and its store alone.
--- Used by: calls.rt, serving.rt. It may change with them, as long as Answers still follows.
+-- Used by: loaded_file.rt, part.rt. It may change with them, as long as Answers still follows.
 use Rattle.std.specs.Prelude.{◌≡◌, ◌≢◌, ◌≤◌, ◌+◌, ℕ, true, false, List, length, Option, Some, None, is_some}
 use Rattle.mw_disk.specs.Facts.{Facts}
 use Rattle.mw_disk.specs.Runs.{Good, Bad}
@@ -10,9 +10,9 @@ use Rattle.mw_words.specs.declared.jobs.Job.TheVariants.{Cas}
 use Rattle.mw_words.specs.declared.replies.Reply.{Reply}
 use Rattle.mw_file.specs.File.{disk_of, words_of, states_of}
 use Rattle.mw_lone.specs.Store.{Store}
-use Rattle.mw_plain.specs.declared.book.LoadedFile.{LoadedFile}
-use Rattle.mw_plain.specs.declared.calls.Begun.{Begun}
-use Rattle.mw_plain.specs.declared.calls.Begun.TheVariants.{Done, Prepared as PreparedIn}
+use Rattle.mw_plain.specs.declared.loaded_file.LoadedFile.{LoadedFile}
+use Rattle.mw_plain.specs.declared.loaded_file.Begun.{Begun}
+use Rattle.mw_plain.specs.declared.loaded_file.Begun.TheVariants.{Done, Prepared as PreparedIn}
 use Rattle.mw_plain.specs.Books.{used_in, faulted_in, places_in, IsPrepared}
 use Rattle.mw_plain.specs.Cases.{StartCase, FinishCase, Faulted, Looked, Full, Unprepared, Prepared, GaveUp, Missed, Unsealed, Unsettled, Changed, StartFits, FinishFits, start_reply, finish_reply, after_start, after_finish, is_end}
 use Rattle.mw_plain.specs.Refinement.{Backs, IsKept, CrashLeaves}

@@ -10,7 +10,7 @@ use Rattle.mw_file.specs.File.{disk_of, words_of, states_of, has_failed}
 use Rattle.mw_file.specs.RecoveryInvariant.{RecoversTo}
 use Rattle.mw_file.specs.PlaceStates.{all_free}
 use Rattle.mw_lone.specs.Store.{Store}
-use Rattle.mw_plain.specs.declared.book.LoadedFile.{LoadedFile}
+use Rattle.mw_plain.specs.declared.loaded_file.LoadedFile.{LoadedFile}
 use Rattle.mw_plain.specs.declared.part.Part.{Part}
 
 -- a line keeps the limits

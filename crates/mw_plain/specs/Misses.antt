@@ -1,5 +1,5 @@
 -- Defines the first entry of a change whose word doesn't have the expected value: a NO names its address.
--- Used by: calls.rt, changes.rt. A change here changes which address a NO names.
+-- Used by: changes.rt, loaded_file.rt. A change here changes which address a NO names.
 use Rattle.std.specs.Prelude.{◌≡◌, ◌≢◌, ◌<◌, ℕ, List, length, Some, IsTrue, slice_get, take}
 use Rattle.mw_words.specs.declared.jobs.Entry.{Entry}
 use Rattle.mw_words.specs.Change.{fits, word_at}

@@ -1,5 +1,5 @@
 -- Defines how many slots the tenants of a plain store may use and do use, and which disks their files are on.
--- Used by: opening.rt, plain.rt, tenants.rt.
+-- Used by: opening.rt, plain.rt.
 use Rattle.std.specs.Prelude.{ℕ, List, sum_by, Option}
 use Rattle.std.specs.Option.{option_map}
 use Rattle.mw_file.specs.File.{disk_of}

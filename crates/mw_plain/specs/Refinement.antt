@@ -9,7 +9,7 @@ use Rattle.mw_words.specs.declared.jobs.Entry.{Entry}
 use Rattle.mw_file.specs.File.{disk_of, states_of}
 use Rattle.mw_file.specs.RecoveryInvariant.{RecoversTo, IsBeforeOrAfter}
 use Rattle.mw_lone.specs.Store.{Store}
-use Rattle.mw_plain.specs.declared.book.LoadedFile.{LoadedFile}
+use Rattle.mw_plain.specs.declared.loaded_file.LoadedFile.{LoadedFile}
 
 module _ {D : Type 0} where
   -- The store alone has the loaded file's words, slots in use and fault.

@@ -1,5 +1,5 @@
 -- Defines the figures that a report of the plain store has for a tenant.
--- Used by: serving.rt, tenants.rt. A change here changes the figures that a report has for a tenant.
+-- Used by: part.rt, plain.rt. A change here changes the figures that a report has for a tenant.
 use Rattle.std.specs.Prelude.{not}
 use Rattle.mw_report.specs.declared.figures.TenantFigures.{TenantFigures}
 use Rattle.mw_plain.specs.declared.part.Part.{Part}

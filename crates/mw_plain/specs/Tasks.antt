@@ -1,5 +1,5 @@
 -- Defines how a list of tasks (jobs, each with its tenant) is answered, and what it does to the tenants' stores alone.
--- Used by: tenants.rt. A change here changes what Plain::run promises.
+-- Used by: plain.rt. A change here changes what Plain::run promises.
 use Rattle.std.specs.Prelude.{◌≡◌, ◌<◌, ◌==◌, ℕ, List, [], ◌∷◌, map, IsTrue, if◌then◌else◌}
 use Rattle.mw_disk.specs.Facts.{Facts}
 use Rattle.mw_words.specs.declared.jobs.Job.{Job}

@@ -1,5 +1,5 @@
 -- Defines when a ticket, which `start` gives for a change and `finish` uses up, is valid.
--- Used by: tenants.rt. A change here changes what `start` promises and `finish` requires.
+-- Used by: plain.rt. A change here changes what `start` promises and `finish` requires.
 use Rattle.std.specs.Prelude.{◌<◌, IsTrue}
 use Rattle.mw_words.specs.Change.{is_change}
 use Rattle.mw_plain.specs.declared.plain.Plain.{Plain}

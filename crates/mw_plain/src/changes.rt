@@ -1,6 +1,6 @@
 //! Compares a tenant's words with the values that a change expects, and writes its new values into them.
 //!
-//! Called by `calls.rt` alone.
+//! Called by `loaded_file.rt` alone.
 ghost use Rattle.std.specs.Prelude.{◌≡◌, length, IsTrue, MatchOption};
 ghost use Rattle.std.specs.List.{list_all};
 ghost use Rattle.mw_words.specs.Change as spec;

@@ -6,19 +6,23 @@
 //! for one job after the other. Each call is proved to answer as the tenant's store alone does, and to leave the same
 //! words, slots and fault, whatever the devices do. It leaves every other tenant as it was.
 //!
+//! - *What a contract says*: how each call answers, as the tenant's store alone does, and what a crash in it leaves
+//!   (`answers`).
+//! - *Proved*: a call's marks are legal ([`marks_of_a_call`]), and a start may go on from what a crash leaves
+//!   ([`a_restart_goes_on`]).
+//! - *Tested only*: that the engine answers in the same way (`answers_and_fails_as_the_plain_store` of
+//!   mw_engine_tests). No contract joins the two.
+//!
 //! Only tests use this crate. A new kind of job or mark begins in `specs/Cases`.
 #![tactic(auto)]
 
-mod book;
-mod calls;
 mod changes;
 mod laws;
+mod loaded_file;
 mod opening;
 mod part;
 mod plain;
 mod restarts;
-mod serving;
-mod tenants;
 mod tickets;
 
 pub use laws::marks_of_a_call;

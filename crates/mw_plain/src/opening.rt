@@ -5,7 +5,7 @@
 ghost use Rattle.std.specs.Prelude.{◌≡◌, ◌≤◌, length, map, IfOk};
 ghost use Rattle.mw_words.specs.declared.limits.TheConstants.{MAX_POOL, MAX_TENANTS};
 
-use crate::book::LoadedFile;
+use crate::loaded_file::LoadedFile;
 use crate::part::Part;
 use crate::plain::Plain;
 use mw_config::TenantLine;
@@ -61,7 +61,7 @@ impl<D: Disk + Drop> Plain<D> {
         } = self;
         let mut disks = disks;
         for part in parts {
-            disks.push(part.into_disk()).unwrap();
+            disks.push_reserved(part.into_disk());
         }
         disks
     }

@@ -13,7 +13,7 @@ ghost use Rattle.mw_file.specs.File.{disk_of, states_of};
 ghost use Rattle.mw_file.specs.RecoveryInvariant.{IsBeforeOrAfter};
 ghost use Rattle.mw_file.specs.OpeningEnds.{Opens};
 ghost use Rattle.mw_lone.specs.Store.{Store, request, entries_of};
-ghost use Rattle.mw_plain.specs.declared.book.LoadedFile.{LoadedFile};
+ghost use Rattle.mw_plain.specs.declared.loaded_file.LoadedFile.{LoadedFile};
 ghost use Rattle.mw_plain.specs.declared.plain.Plain.{Plain};
 ghost use Rattle.mw_plain.specs.Answers.{FileKeeps};
 ghost use Rattle.mw_plain.specs.Cases.{CanChange, under_way};

@@ -1,7 +1,7 @@
 //! The values that the plain store's calls take and give: tasks, tickets of started changes, and what a start
 //! answers.
 //!
-//! Used by: `tenants.rt`, which alone makes a [`Ticket`]. A new field or variant needs its value there.
+//! Used by: `plain.rt`, which alone makes a [`Ticket`]. A new field or variant needs its value there.
 
 use mw_file::Place;
 use mw_words::{Entries, Job, Reply};

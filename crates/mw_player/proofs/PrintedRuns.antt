@@ -1,4 +1,4 @@
--- The replies that a played run prints are those that the run hands out.
+-- The replies that a played run prints are those that the run hands out. Used by: PlayerStepLaws, Served.
 use Rattle.std.specs.Prelude.{ℕ, ◌≡◌, ◌==◌, ◌&&◌, ◌++◌, Bool, true, false, if◌then◌else◌, List, [], ◌∷◌, Option, Some, None}
 use Rattle.std.specs.Option.{option_map, option_to_list, unwrap_or}
 use Rattle.std.proofs.Common.{refl, sym, ap, ◌∙◌, append_assoc, append-nil}

@@ -1,8 +1,8 @@
 //! Tells why a line was not played to its end: where its worker is, or which part of a restart can't be.
 //!
-//! Used by: `program`, for the text after the line's number alone. Change it with `specs/Reasons`, `specs/Positions`
-//! and docs/SCHEDULES; mw_player_tests and scripts/program_parts/pages.py expect the texts. The 10000 steps are
-//! `MOST_STEPS` of `player`, the quota's 64 is `MAX_QUOTA`.
+//! Used by: `restarts`, `program`, for the text after the line's number alone. Change it with `specs/Reasons`,
+//! `specs/Positions` and docs/SCHEDULES; mw_player_tests and scripts/program_parts/pages.py expect the texts. The 10000
+//! steps are `MOST_STEPS` of `player`, the quota's 64 is `MAX_QUOTA`.
 ghost use Rattle.std.specs.Prelude.{◌≡◌};
 ghost use Rattle.mw_world.specs.Definition.State.{State};
 ghost use Rattle.mw_simulator.specs.Representation.{Represents};

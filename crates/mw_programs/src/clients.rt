@@ -1,6 +1,6 @@
 //! Serves the clients that come to the addresses of a server, each by a service that is free.
 //!
-//! Used by: `services`. Change it with docs/OPERATING, which has what it prints and its notes.
+//! Used by: `serving`, `services`. Change it with docs/OPERATING, which has what it prints and its notes.
 ghost use Rattle.std.specs.Prelude.{◌<◌, vec_len};
 ghost use Rattle.mw_connections.specs.Promises.{KeepsPromise, PagesKeep};
 

@@ -6,6 +6,7 @@
 ghost use Rattle.std.specs.Prelude.{List};
 ghost use Rattle.mw_session.specs.Talk.{Call};
 ghost use Rattle.mw_service.specs.EngineAnswers.{ByWorker};
+ghost use Rattle.mw_programs.specs.ScriptSession.{IsOfScript};
 
 use crate::promise::{EngineNetwork, ServerPromise};
 use mw_config::ArgFault;
@@ -59,8 +60,9 @@ pub trait Console {
 
 /// A console that can run a script, which is answered as `Q` promises.
 pub trait ScriptConsole<Q: ServerPromise>: Console {
-    /// Serves one session, which reads the script and writes the replies, by this worker. `keeps`: it keeps what was promised of
-    /// the engine `K`, for which the server's network was used up. A script may never end, so this may wait for ever.
+    /// Serves one session, which reads the script and writes the replies, by this worker. Gives how the session ended. `keeps`: the
+    /// worker keeps what was promised of the engine `K`, for which the server's network was used up. `session`: the worker served
+    /// just this session. A script may never end, so this may wait for ever.
     fn run<N, K, I, J, D, R, T>(
         &mut self,
         alloc: Global,
@@ -75,7 +77,8 @@ pub trait ScriptConsole<Q: ServerPromise>: Console {
         D: Disk + Drop,
         R: Wait,
         T: FaultWatch,
-        requires keeps { (calls : List Call) → ByWorker J.identity calls → Q.kept_by K.identity calls };
+        requires keeps { (calls : List Call) → ByWorker J.identity calls → Q.kept_by K.identity calls }
+        ensures session { IsOfScript (I.remaining script) J.identity worker.old.pass worker.new.pass result };
 }
 
 /// A console that prints by a writer.

@@ -1,5 +1,11 @@
 //! Implements `mwserve`: serves tenants' words, from a script or to the clients that connect.
 //!
+//! - *What a contract says*: [`serve`] requires that an engine of files which a start opened keeps what the network
+//!   and the console promise. No other can serve (`promise.rt`).
+//! - *Proved*: a page's copy of a file is the engine's (`specs/Copies`).
+//! - *Tested only*: sockets, waits, `--admin`, what is printed and noted, and exit statuses (mw_examples,
+//!   `scripts/check-programs`).
+//!
 //! Used by: mwserve, mw_examples. docs/OPERATING describes the program for users: change them together.
 #![tactic(auto)]
 

@@ -1,4 +1,4 @@
--- If two files have the same open records in their first places, they pass the same tests of damage there.
+-- If two files have the same open records in their first places, they pass the same tests of damage there. Used by: FirstBytes.
 use Rattle.std.proofs.Common.{◌≡◌, ℕ, zero, suc, ◌<◌, ◌&&◌, ◌||◌, not, nat_le, Bool, true, false, Option, Some, None, [], ◌∷◌, length, refl, ap, ◌∙◌, arith}
 use Rattle.std.proofs.lemmas.Bool.{and_left, and_right, lt-leb}
 use Rattle.std.specs.Option.{option_map_or}

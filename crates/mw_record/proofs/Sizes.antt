@@ -1,4 +1,4 @@
--- The tests for damage may use the sizes that were read from a layout's head.
+-- The tests for damage may use the sizes that were read from a layout's head. Used by: Undamaged.
 use Rattle.std.proofs.Common.{◌≡◌, ℕ, ◌&&◌, nat_le, List, length, ap, ◌∙◌}
 use Rattle.mw_record.specs.declared.layout.Layout.{Layout}
 use Rattle.mw_record.specs.Layout.{size}

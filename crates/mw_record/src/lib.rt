@@ -27,6 +27,12 @@
 //! entries are its record, which is put over the home words. The other bytes of a closed place are not looked
 //! at.
 //!
+//! - *What a contract says*: [`decode`] tells the words and records that bytes say, or their first damage. What
+//!   writes gives just the bytes of `specs/Layout`.
+//! - *Proved*: what is written is read again; the words that are told are just those that the bytes represent.
+//! - *Tested only*: that docs/FILES says the same (`scripts/check-files`). Other damage isn't found: there are no
+//!   checksums.
+//!
 //! Used by: many crates from mw_file_text on. mw_file reads and writes files by it, mw_init makes new ones, and
 //! mw_show prints them. CONTRIBUTING says under *Limits of the file* which of it may change without a new layout.
 #![tactic(auto)]

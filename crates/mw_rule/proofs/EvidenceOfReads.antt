@@ -1,4 +1,4 @@
--- A read goes on to FAULT only if it found the fault at its tenant's door.
+-- A read goes on to FAULT only if it found the fault at its tenant's door. Used by: EvidenceAtPoints, EvidenceSteps.
 use Rattle.std.specs.Prelude.{ℕ, ◌-◌, ◌==◌, Bool, nat_lt, List, Option, Some, None}
 use Rattle.std.proofs.Common.{inl}
 use Rattle.mw_words.specs.declared.doors.Door.{Door}

@@ -1,5 +1,5 @@
 -- A call on a tenant's file is one event of one worker. After it, what the worker's token (ghost knowledge of its request)
--- says is true.
+-- says is true. Used by: FileCallRule.
 use Rattle.std.specs.Prelude.{ℕ, ◌≡◌, List, [], ◌∷◌, ◌++◌, Bool, Option, Some}
 use Rattle.std.specs.Option.{option_and_then}
 use Rattle.std.proofs.lemmas.Option.{none-some}

@@ -1,4 +1,5 @@
 -- A call on a file keeps the table's rule (`specs/Rule`), if the thread that has the file makes it by one step on one word.
+-- Used by: FileCalls.
 use Rattle.std.specs.Prelude.{ℕ, ◌≡◌, ◌≤◌, Bool, List, [], ◌∷◌, ◌++◌, slice_index, slice_set, Option, Some, None}
 use Rattle.std.proofs.Common.{refl, sym, ap, subst, ◌∙◌, ◌⊎◌, inl, inr}
 use Rattle.std.proofs.lemmas.Option.{same_Some}

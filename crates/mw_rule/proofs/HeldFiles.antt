@@ -1,4 +1,5 @@
 -- What a thread knows of a file that it has taken stays true over all events but a call on that file.
+-- Used by: Preservation, StepRule.
 use Rattle.std.specs.Prelude.{ℕ, ◌≡◌, ◌≤◌, true, List, [], ◌∷◌, Option, Some, None}
 use Rattle.std.proofs.Common.{refl, sym, subst, ◌∙◌, arith}
 use Rattle.mw_words.specs.declared.jobs.Job.{Job}

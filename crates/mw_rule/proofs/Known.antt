@@ -1,4 +1,4 @@
--- Before and after each step of a thread's call on a file, what it knows of the file and its request is true.
+-- Before and after each step of a thread's call on a file, what it knows of the file and its request is true. Used by: FileCalls.
 use Rattle.std.specs.Prelude.{ℕ, ◌+◌, ◌≡◌, ◌≤◌, ◌<◌, ◌==◌, true, List, [], ◌∷◌, ◌++◌, Some, None}
 use Rattle.std.proofs.Common.{sym, ap, subst, ◌∙◌, arith}
 use Rattle.std.proofs.lemmas.Bool.Decides.{nat_tests}

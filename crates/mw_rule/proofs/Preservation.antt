@@ -1,5 +1,5 @@
 -- A thread's step keeps the table's rule (`specs/Rule`), if the step's events are all of one of the thread's own workers and
--- no start.
+-- no start. Used by: FileCallRule, StepRule, ViewAfterStep.
 use Rattle.std.specs.Prelude.{ℕ, ◌+◌, ◌≡◌, ◌≢◌, ◌≤◌, ◌<◌, true, List, ◌++◌, length, slice_index, slice_set, Option, Some}
 use Rattle.std.proofs.Common.{refl, sym, ap, subst, ◌∙◌, ◌⊎◌, inl, inr, arith}
 use Rattle.std.proofs.lemmas.List.{length-set, get_or-set_same, get_or-set_other}

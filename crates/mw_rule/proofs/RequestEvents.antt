@@ -1,5 +1,5 @@
 -- After a worker's events for its request (arrival, step, handed-out reply), what the worker's token (ghost knowledge of its
--- request) says is true.
+-- request) says is true. Used by: FileCallEvents, StepRule, ViewAfterStep.
 use Rattle.std.specs.Prelude.{ℕ, ◌≡◌, ◌≢◌, ◌≤◌, ◌<◌, ◌==◌, ◌&&◌, not, Bool, true, false, if◌then◌else◌, List, [], ◌∷◌, ◌++◌, length, is_some, is_none, nat_lt, Option, Some, None}
 use Rattle.std.specs.Option.{option_and_then}
 use Rattle.std.proofs.Common.{refl, sym, ap, subst, ◌∙◌, append_assoc, append-nil, inl, inr, arith}

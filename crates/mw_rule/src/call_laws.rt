@@ -1,8 +1,8 @@
 //! States what is proved of calls on tenants' files: how they start and end, and what the file token says of a
 //! file.
 //!
-//! The functions are empty: their contracts are the facts, proved in `proofs/call_laws`. To change a fact, begin with
-//! its definition in `specs`.
+//! The functions are empty: their contracts are the facts. mw_table and mw_law_threads cite the lemmas behind them. To
+//! change a fact, begin with its definition in `specs`.
 ghost use Rattle.mw_law_store.specs.Quotas.{EventsTellQuotas};
 ghost use Rattle.mw_rule.specs.Calls.OtherEvents.{OthersLeaveFiles, OthersLeaveFilesLong};
 ghost use Rattle.mw_rule.specs.Calls.CallsByToken.{CallingStays, CallingStaysLong, CallsEndByFileToken};

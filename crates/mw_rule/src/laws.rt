@@ -1,7 +1,7 @@
 //! States what is proved of the rule that ties the threads' shared words to a run of the world (`specs/Rule`).
 //!
-//! The functions are empty: their contracts are the facts, proved in `proofs/laws`. To change a fact, begin with its
-//! definition in `specs`.
+//! The functions are empty: their contracts are the facts. mw_table, mw_service and mw_law_threads cite the lemmas
+//! behind them. To change a fact, begin with its definition in `specs`.
 ghost use Rattle.mw_rule.specs.WholeCalls.{CallsBegin, CallsTakeFiles, CallsDealt, CallsEnd, CallsFile, CallsGiveBack, CallsGoOn, CallsMeet, CallsOverPlainLoads, CallsStart};
 ghost use Rattle.mw_rule.specs.RunEvents.{FileCallsEndOn, FileCallsFindFaultsOn, FileCallsLoadOn, FileCallsMeetFaultsOn, FirstStepsGoOn, JoinsGoOn, PlainLoadsGoOn, PartsGoOn, StepsGoOn};
 ghost use Rattle.mw_rule.specs.Laws.{TakingFilesKeepsTheRule, FileCallsEndWell, FileCallsFindFaults, FileCallsLoad, FileCallsMeetFaults, FilesAreOfSeen, ChangesAreOwn, SplitsKeepTheRule, GivingFilesKeepsTheRule, FirstStepsKeepTheRule, MergedPartsAgain, MergingKeepsTheRule, LearningKeepsTheRule, PlainLoadsKeepTheRule, MeetingKeepsTheRule, MeetingsAreRight, NotesKeepTheRule, NotesLoseNothing, PartsAreRight, StartsUnderTheRule, StepsKeepTheRule};

@@ -1,7 +1,7 @@
 //! Gives the rule (`specs/Rule`) as a type that `atomic_table` takes, and the ways in which threads split and merge
 //! what they know (`specs/Splits`).
 //!
-//! Used by: mw_table; mw_law_threads, for [`Begins`]. Change it with these two pages.
+//! Used by: `laws`, mw_table; mw_law_threads, for [`Begins`]. Change it with these two pages.
 ghost use Rattle.std.specs.Prelude.{List, ℕ};
 ghost use Rattle.mw_world.specs.declared.config.Config.{Config};
 ghost use Rattle.mw_world.specs.Definition.Events.{WorldEvent};

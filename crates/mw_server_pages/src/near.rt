@@ -94,11 +94,11 @@ impl Uses {
 
 /// Adds a limit. One of which there is nothing is none.
 fn add(limits: &mut Limits, kind: LimitKind, tenant: &[u8], used: u64, most: u64) {
-    if most == 0 {
+    // There is room for all.
+    if most == 0 || limits.is_full() {
         return;
     }
-    // There is room for all.
-    let _ = limits.try_push(Limit {
+    limits.push(Limit {
         kind,
         tenant: Name::try_from(tenant).unwrap_or_default(),
         used,

@@ -2,6 +2,8 @@
 //!
 //! `server_pages` takes a sample when it is asked for figures. No contract says what the curves show: it is tested.
 //! docs/HTTP and the text of `recents` tell how many samples are kept, and for how long.
+ghost use Rattle.std.specs.Prelude.{◌≤◌, vec_capacity};
+ghost use Rattle.mw_server_pages.specs.declared.samples.TheConstants.{SAMPLES};
 
 use crate::near::Uses;
 use crate::recents::{CURVE_HEIGHT, CURVE_WIDTH, Curve, MAX_POINTS, Point, Recent};
@@ -69,6 +71,7 @@ pub(crate) struct Samples {
     samples: Vec<Sample>,
     uses: Uses,
     down: [Option<u64>; MAX_TENANTS],
+    ghost room: { SAMPLES ≤ vec_capacity samples },
 }
 
 impl Samples {
@@ -79,11 +82,11 @@ impl Samples {
     /// Memory is out.
     pub(crate) fn new(alloc: Global) -> Result<Self, AllocError> {
         let mut samples = Vec::with_capacity(alloc, SAMPLES)?;
-        samples.push(Sample {
+        samples.push_reserved(Sample {
             at: 0,
             counted: [Counted::default(); MAX_TENANTS],
             uses: Uses::none(),
-        })?;
+        });
         Ok(Samples {
             samples,
             uses: Uses::none(),
@@ -122,8 +125,7 @@ impl Samples {
         if self.samples.len() >= SAMPLES {
             self.samples.remove(0);
         }
-        // There is room for all of them.
-        let _ = self.samples.push(sample);
+        self.samples.push_reserved(sample);
     }
 
     /// Gives the most that was used of each limit of late, so many seconds after the start.
@@ -142,7 +144,9 @@ impl Samples {
         let mut recents = ArrayVec::new();
         for (number, tenant) in figures.tenants.iter().enumerate() {
             // There is room for each tenant.
-            let _ = recents.try_push(self.recent(now, number, tenant));
+            if !recents.is_full() {
+                recents.push(self.recent(now, number, tenant));
+            }
         }
         recents
     }
@@ -185,9 +189,9 @@ impl Samples {
         let mut values = ArrayVec::new();
         for pair in self.samples.windows(2) {
             if let [before, after] = pair {
-                if now.saturating_sub(after.at) <= SHOWN {
-                    // There are fewer samples than points.
-                    let _ = values.try_push(value_between(before, after, tenant, figure));
+                // There are fewer samples than points, so there is room for each.
+                if now.saturating_sub(after.at) <= SHOWN && !values.is_full() {
+                    values.push(value_between(before, after, tenant, figure));
                 }
             }
         }
@@ -254,8 +258,10 @@ fn share(sum: u64, count: u64) -> u64 {
 fn points(now: u64, values: &[Value], most: u64) -> ArrayVec<Point, MAX_POINTS> {
     let mut points = ArrayVec::new();
     for value in values {
-        // There are no more points than figures.
-        let _ = points.try_push(point(now.saturating_sub(value.at), value.figure, most));
+        // There are no more points than figures, so there is room for each.
+        if !points.is_full() {
+            points.push(point(now.saturating_sub(value.at), value.figure, most));
+        }
     }
     points
 }

@@ -1,5 +1,5 @@
 -- Defines what a worker answers to a session, by what its pass (its handle to the engine) knew before and after.
--- Used by: src/served.rt, src/worker.rt, mw_law_threads. It may change with src/served.rt and src/worker.rt.
+-- Used by: src/served.rt, src/worker.rt, mw_law_threads, mw_programs. It may change with src/served.rt and src/worker.rt.
 use Rattle.std.specs.Prelude.{◌≡◌, length, map, MatchOption}
 use Rattle.mw_session.specs.declared.session.Ended.{Ended}
 use Rattle.mw_session.specs.Transitions.{GoesThrough}

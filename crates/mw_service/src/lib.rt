@@ -16,6 +16,12 @@
 //! `specs/Served` says what a worker answers, `specs/Borrowed` what a borrower answers, `specs/OwnReplies` that each reply is to a
 //! request of its borrower's own, and `specs/SessionOrder` that its replies come in order.
 //!
+//! - *What a contract says*: each reply is right in its tenant's history, or has its evidence (`answered`).
+//!   [`Worker::run`] says it of a session.
+//! - *Proved*: a session's replies are in order, whichever passes it borrows ([`replies_are_in_order`]).
+//! - *Tested only*: tickets of passes, that reads use the passes for reads and changes the others, notes on failed
+//!   files (`scripts/check-crowd`), counts and times.
+//!
 //! Used by: mw_programs; mw_law_threads has laws about it. `must-fail` edits some bodies.
 #![tactic(auto)]
 

@@ -1,7 +1,7 @@
-//! Gives the rule of request tokens (`specs/RequestTokens`) as a type that `atomic_table` takes, and the ways in which tokens are
-//! given out and collected.
+//! Gives the rule of request tokens as a type that `atomic_table` takes, and the ways in which tokens are given out and
+//! collected.
 //!
-//! Used by: `request_tokens`.
+//! Used by: `request_tokens`. Change it with `specs/RequestTokens`.
 
 use crate::token_views::TokenView;
 use atomic_table::{Join, Play, Split, TableRule};

@@ -1,6 +1,6 @@
 //! A worker: it serves sessions with its pass, its handle to the engine.
 //!
-//! Used by: mw_programs, for a script and for each client of a server without `--clients`. Change it with
+//! Used by: `served`, mw_programs, for a script and for each client of a server without `--clients`. Change it with
 //! `specs/Served`. docs/PROMISES cites `Worker::run`.
 ghost use Rattle.std.specs.Prelude.{◌≡◌, true};
 ghost use Rattle.std.specs.Io.KnownBytes.{IsAtEnd};

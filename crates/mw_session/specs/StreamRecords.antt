@@ -1,6 +1,6 @@
 -- Defines what is recorded of a peer's stream: the bytes that were read and written, and how often a call ended otherwise.
--- Used by: mw_http, mw_connections, mw_server_pages, mw_workers, mw_service, transcript.rt, recorded_stream.rt. A change here
--- changes what a session promises of its stream.
+-- Used by: many crates from mw_http on, transcript.rt, recorded_stream.rt. A change here changes what a session promises of its
+-- stream.
 use Rattle.std.specs.Prelude.{ℕ, ◌+◌, ◌==◌, ◌++◌, List, [], take, Result, Ok, Err, if◌then◌else◌}
 use Rattle.mw_session.specs.declared.stream_call.StreamCall.{StreamCall}
 use Rattle.mw_session.specs.declared.stream_call.StreamCall.TheVariants as call

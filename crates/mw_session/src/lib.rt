@@ -23,6 +23,12 @@
 //! A session reads and writes a [`RecordedStream`], which records what was read and written, and which call failed.
 //! What it says is in `specs/Talk`; CONTRIBUTING lists under *A command* what a new line needs.
 //!
+//! - *What a contract says*: [`Session::run`] asks only what its lines ask, answers in order, and tells a fault of
+//!   the stream exactly if a call ended so.
+//! - *Proved*: lines determine what is heard of them ([`one_hearing`]).
+//! - *Tested only*: that a [`Duplex`] fails only if its reader or writer does (`session_tests` of mw_serving_tests),
+//!   and that `Memory` has a cause (`scripts/fail-each-allocation`).
+//!
 //! Used by: many crates from mw_http on. mw_connections runs one for each connection, mw_service one for a script.
 #![tactic(auto)]
 

@@ -1,9 +1,9 @@
 //! Owns a peer's stream, and records what is read from it and written to it.
 //!
-//! Used by: mw_http, mw_connections, mw_service, mw_programs. Nothing else reads or writes the stream: its
-//! fields are private, and a record begins here, empty. So what a contract says of the record, it says of the calls
-//! made here. [`RecordedStream::read`] and [`RecordedStream::write`] make one call of the stream each, and give and
-//! record its outcome.
+//! Used by: `session`, `writer`, mw_http, mw_connections, mw_service, mw_programs. Nothing else reads or writes the
+//! stream: its fields are private, and a record begins here, empty. So what a contract says of the record, it says of
+//! the calls made here. [`RecordedStream::read`] and [`RecordedStream::write`] make one call of the stream each, and
+//! give and record its outcome.
 ghost use Rattle.std.specs.Prelude.{◌≡◌, ◌<◌, length, IfOk};
 ghost use Rattle.std.specs.Io.{ReadsAtMost, WritesAtMost};
 ghost use Rattle.std.specs.Io.KnownBytes.{IsAtEnd};

@@ -1,8 +1,8 @@
 //! Runs one session: reads the client's bytes, and answers the lines that have come.
 //!
-//! Used by: mw_connections, for each connection; mw_service, for a script; mw_programs, for [`Ended`].
-//! `specs/WholeSessions` says what [`Session::run`] promises, `specs/RecordedCalls` of which calls of the stream. The
-//! loop may change with `specs/UnderWay` and `specs/SessionParts`. docs/PROMISES cites `Session::run`.
+//! Used by: `steps`, `writer`, mw_connections, for each connection; mw_service, for a script; mw_programs, for
+//! [`Ended`]. `specs/WholeSessions` says what [`Session::run`] promises, `specs/RecordedCalls` of which calls of the
+//! stream. The loop may change with `specs/UnderWay` and `specs/SessionParts`. docs/PROMISES cites `Session::run`.
 //! docs/ARCHITECTURE tells the number of `PIECE`.
 ghost use Rattle.std.specs.Prelude.{◌≡◌, ℕ, [], ◌∷◌, List, OnOk};
 ghost use Rattle.std.specs.Io.KnownBytes.{IsAtEnd};

@@ -1,8 +1,8 @@
 //! The trait of a peer's stream, which a session reads and writes, and of what a wait for the peer is told of others
 //! who wait.
 //!
-//! Used by: mw_http, mw_connections, mw_server_pages, mw_workers, mw_service, mw_programs. [`Duplex`] makes one of a reader
-//! and a writer; mw_connections has that of a socket. A new call needs a body in each.
+//! Used by: `recorded_stream`, mw_http, mw_connections, mw_server_pages, mw_workers, mw_service, mw_programs.
+//! [`Duplex`] makes one of a reader and a writer; mw_connections has that of a socket. A new call needs a body in each.
 ghost use Rattle.std.specs.Prelude.{ℕ, List, Option};
 ghost use Rattle.std.specs.Io.{ReadsAtMost, WritesAtMost};
 ghost use Rattle.std.specs.Io.KnownBytes.{Keeps, ReadConsumes, WriteAppends};

@@ -1,4 +1,5 @@
 -- If a list agrees with a map, they still agree after one element of both is set to the same.
+-- Used by: CallEndLaws, TakenOverMarks, Unchanged, among others.
 use Rattle.std.specs.Prelude.{ℕ, zero, suc, ◌≡◌, ◌≢◌, ◌<◌, List, [], ◌∷◌, length, slice_get, slice_set, Some}
 use Rattle.std.proofs.Common.{refl, sym, ap, subst, ◌∙◌, inl, inr, arith}
 use Rattle.std.proofs.lemmas.Bool.{cases_eq}

@@ -1,5 +1,5 @@
 -- If every run is durably linearizable, a crash leaves the words of the tenant's store alone, with the change in doubt or
--- without it. The crash comes between events or during a call.
+-- without it. The crash comes between events or during a call. Used by: Crashes, OpenedImages.
 use Rattle.std.specs.Option.{option_map}
 use Rattle.std.proofs.Common.{◌≡◌, ◌∙◌, ◌<◌, ℕ, zero, suc, List, [], ◌∷◌, length, slice_get, Option, Some, None, refl, sym, ap, subst, inl, arith}
 use Rattle.mw_words.specs.declared.jobs.Entry.{Entry}

@@ -8,6 +8,12 @@
 //! The other files of `specs` are about parts: `StepParts` a step, `CallEnds` and `Crashes` a call on a file,
 //! `Starts`, `Quotas` and `Stops` a start. mw_world_memory has the parts of a world in memory.
 //!
+//! - *What a contract says*: [`World::step`] makes an event happen as defined, or changes nothing. The theorem holds
+//!   of what was played (`serves`).
+//! - *Proved*: a crash leaves the words of the tenant's store alone, with the change in doubt or without
+//!   ([`every_image_is_of_store`]).
+//! - *Tested only*: that a start goes by the image of the cut call's own bytes (`torn-gate` of mw_player_tests).
+//!
 //! Used by: mw_world_trials, mw_table_tests, mw_player.
 #![tactic(auto)]
 

@@ -1,4 +1,4 @@
--- A tenant's marks tell whether its file opened at the last start.
+-- A tenant's marks tell whether its file opened at the last start. Used by: AfterRuns.
 use Rattle.std.specs.Prelude.{ℕ, ◌≡◌, ◌==◌, ◌&&◌, Bool, true, false, not, if◌then◌else◌, List, [], ◌∷◌, ◌++◌, length, Option, Some, None, is_none, is_some}
 use Rattle.std.specs.Option.{option_and_then}
 use Rattle.std.proofs.Common.{refl, sym, subst, inl, inr}

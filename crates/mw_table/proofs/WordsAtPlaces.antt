@@ -1,4 +1,4 @@
--- `place_at` inverts `index_of`: at the index of a shared word's place, it gives that place.
+-- `place_at` inverts `index_of`: at the index of a shared word's place, it gives that place. Used by: PlacesAtIndexes.
 use Rattle.std.proofs.Common.{ℕ, ◌≡◌, ◌+◌, ◌-◌, ◌*◌, ◌/◌, ◌%◌, ◌<◌, ap, ◌∙◌, arith}
 use Rattle.std.proofs.lemmas.Bool.Decides.{nat_tests}
 use Rattle.mw_words.specs.declared.limits.TheConstants.{MAX_ENTRIES, MAX_TENANTS, MAX_WORDS, MAX_WORKERS}

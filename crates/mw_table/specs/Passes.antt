@@ -1,4 +1,5 @@
--- Defines to which table a pass belongs, and what of it stays over a call: its worker, or all except that it becomes idle.
+-- Defines to which table a pass belongs, what of it stays over a call (its worker, or all except that it becomes idle), and which
+-- steps are attempts.
 -- Used by: src/call_steps.rt, src/calls.rt, src/file_calls.rt, src/first_steps.rt, src/meet.rt, src/notes.rt,
 -- src/passes.rt, src/steps.rt, src/turns.rt, mw_core.
 use Rattle.std.specs.Prelude.{◌≡◌, Bool, true, false}

@@ -23,6 +23,12 @@
 //! `specs/Runs` what a table begins with; `specs/NewFilePasses` and `specs/FileCalls` what a file pass is, and what a
 //! call on the file requires.
 //!
+//! - *What a contract says*: what the pass learns by a step (`took`), and which events extend a run by it (`event`).
+//! - *Proved*: by the type of [`Shared`], the table is under the rule of mw_rule at each moment, with all that passes
+//!   know.
+//! - *Tested only*: that a step asks for no memory (`scripts/check-memory`). mw_table_tests play races of two
+//!   threads.
+//!
 //! Used by: mw_core, mw_table_tests; mw_law_threads, in contracts. A new kind of step comes with its case in mw_look
 //! (`specs/Steps`) and mw_rule.
 #![tactic(auto)]

@@ -1,7 +1,7 @@
 //! What a table is made of: what the files gave at a start, or a run from a new world.
 //!
-//! Used by: `at_start`, `after_run`; mw_core, which passes on [`FileOpening`]; mw_table_tests. Change it with
-//! `specs/Origins`.
+//! Used by: `new_table`, `shared`, `at_start`, `after_run`; mw_core, which passes on [`FileOpening`]; mw_table_tests.
+//! Change it with `specs/Origins`.
 ghost use Rattle.mw_table.specs.Origins.{begun_of, config_of, first_of};
 
 use crate::run_before::RunBefore;

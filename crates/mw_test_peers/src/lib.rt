@@ -1,20 +1,18 @@
 //! What tests of other crates share. Peers of sessions: a reader and a writer that fail when they are told to, sweeps over
-//! each place of failure, a service in memory, and clients over sockets. A file that fails. A player of stories of
-//! programs. They are here, on few libraries, because a function takes longer to prove over many.
+//! each place of failure, a service in memory, and clients over sockets. New folders. They are here, on few libraries,
+//! because a function takes longer to prove over many.
 //!
 //! Used by: mw_examples, mw_serving_tests, mw_http_tests, mw_engine_tests.
 #![tactic(auto)]
 
 mod callers;
-mod fake_file;
+mod folders;
 mod peers;
-mod player;
 mod shelf;
 mod sweeps;
 
 pub use callers::{Caller, Habit, Place, come_and_go};
-pub use fake_file::{Call, DEVICE, FakeFile, INTERRUPTED};
+pub use folders::new_folder;
 pub use peers::{Failure, Page, Sender};
-pub use player::{Output, Programs, Story, new_folder, play, play_served};
 pub use shelf::{Clerk, Shelf};
 pub use sweeps::{INPUT, OUTPUT, replied};

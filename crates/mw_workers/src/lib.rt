@@ -8,12 +8,15 @@
 //! If a connection may wait for a worker for so many seconds only, it waits in a longer queue ([`WAITING`]). A
 //! further thread hands the oldest over to a worker that is free, or closes it in time.
 //!
-//! [`accept_all`] is what the acceptor does, and [`serve_each`] what each worker does. It is proved that both leave
-//! out no connection and keep the order. The queue between them is [`crossbeam_channel`]'s; it is tested that a
-//! connection comes out of it once.
-//!
 //! [`serve_beside`] also serves the clients of another listener, by a worker of their own. They take turns: one that
 //! ends no line for a whole [`TURN`] gives way to one that waits.
+//!
+//! - *What a contract says*: [`accept_all`], which the acceptor runs, and [`serve_each`], which each worker runs,
+//!   leave out no connection and keep the order. Each is served by one session, only by a service that keeps the
+//!   listener's promise.
+//! - *Proved*: [`serve_all`] and [`serve_beside`] ask for as many connections as are wanted.
+//! - *Tested only*: [`crossbeam_channel`]'s queue between them: that a connection comes out of it once (`crowd_tests`
+//!   of mw_serving_tests). Also that all workers begin, waits and turns (`desk_tests`, `scripts/check-crowd`).
 //!
 //! Used by: mw_programs. The proofs are about which connection is put where, and what its session read and wrote; of
 //! threads they say nothing. Change it with docs/PROTOCOL and docs/OPERATING.

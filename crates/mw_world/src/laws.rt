@@ -1,8 +1,8 @@
 //! States facts about the definition of a world: places are apart, runs extend by events, starts have the
 //! invariant, short runs come out.
 //!
-//! The functions are empty: their contracts are the facts, proved in `proofs/laws`. To change a fact, begin with its
-//! definition in `specs`.
+//! The functions are empty: their contracts are the facts. Crates of laws, mw_rule and mw_simulator cite the lemmas
+//! behind them. To change a fact, begin with its definition in `specs`.
 ghost use Rattle.std.specs.Prelude.{ℕ};
 ghost use Rattle.mw_world.specs.Claim.Examples.{ComeOut};
 ghost use Rattle.mw_world.specs.Claim.Headline.{EqualMarksHaveEqualReplies, EveryRunIsDurablyLinearizable};

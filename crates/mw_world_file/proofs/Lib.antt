@@ -3,6 +3,7 @@ pub mod CalledDisks
 pub mod CrashedFiles
 pub mod EnoughPlaces
 pub mod ExactDisks
+mod FaultedFiles
 pub mod KeptPlaces
 pub mod NewFiles
 pub mod OldFiles

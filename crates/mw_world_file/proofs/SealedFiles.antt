@@ -207,6 +207,15 @@ unsettled old slot xs isnt are within file shows = elim (cases_lt (file.place_of
   | inr past ↦ and_left (nat_lt (file.place_of slot) (quota_of old)) (is_sealed (file.places (file.place_of slot))) (le-ltb (file.place_of slot) (quota_of old) past)
 ]
 
+-- the same for a cancel
+pub uncancelled : (old : SimulatedFile) (slot : ℕ) (xs : List KeptPlace) → is_prepared (place_in xs (get_or old.place_of slot 0)) ≡ false → xs ≡ old.places.items → slot < MAX_POOL → (file : File) → Represents old file
+    → suits CancelCall file (quota_of old) (file.place_of slot) ≡ false
+uncancelled old slot xs isnt are within file shows = elim (cases_lt (file.place_of slot) (quota_of old)) [
+  | inl lt ↦ and_right (nat_lt (file.place_of slot) (quota_of old)) (is_prepared (file.places (file.place_of slot)))
+      (ap is_prepared (shows.same_places (file.place_of slot) lt ∙ ap (place_in old.places.items) (shows.same_place_of slot within) ∙ ap (λ l. place_in l (get_or old.place_of slot 0)) (sym are)) ∙ isnt)
+  | inr past ↦ and_left (nat_lt (file.place_of slot) (quota_of old)) (is_prepared (file.places (file.place_of slot))) (le-ltb (file.place_of slot) (quota_of old) past)
+]
+
 -- A sealed change of a slot.
 module _ (old : SimulatedFile) (slot number : ℕ) (entries : ArrayVec Entry) (is : IsAt old slot number (KeptSealed entries)) where
   -- a copy of the file has the change's entries

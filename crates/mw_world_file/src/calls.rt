@@ -21,7 +21,7 @@ use crate::changes::{share_a_word, with_change};
 use crate::device::Device;
 use crate::faults::BookFault;
 use crate::outcomes::Outcome;
-use crate::places::{Place, copies, has_empty};
+use crate::places::{Place, copies, has_empty, prepared_in, sealed_in};
 use mw_disk::MemDisk;
 use mw_file::{Place as FilePlace, TenantFile};
 use mw_look::Call;
@@ -220,7 +220,7 @@ impl SimulatedFile {
         ensures moments { CrashesDoNoHarm self.now Call.Seal slot result }
     {
         let place = self.place_of[slot as usize];
-        let Some(Place::Prepared(entries)) = self.places.get(place as usize) else {
+        let Some(entries) = prepared_in(&self.places, place) else {
             return Err(BookFault::NotEnabled);
         };
         if !is_apart(&self.places, entries) {
@@ -261,7 +261,7 @@ impl SimulatedFile {
         ensures moments { CrashesDoNoHarm self.now Call.Settle slot result }
     {
         let place = self.place_of[slot as usize];
-        let Some(Place::Sealed(entries)) = self.places.get(place as usize) else {
+        let Some(entries) = sealed_in(&self.places, place) else {
             return Err(BookFault::NotEnabled);
         };
         if !may_end(device_calls(Call::Settle, entries), outcome) {
@@ -296,7 +296,7 @@ impl SimulatedFile {
         ensures moments { CrashesDoNoHarm self.now Call.Cancel slot result }
     {
         let place = self.place_of[slot as usize];
-        let Some(Place::Prepared(entries)) = self.places.get(place as usize) else {
+        let Some(entries) = prepared_in(&self.places, place) else {
             return Err(BookFault::NotEnabled);
         };
         if !may_end(device_calls(Call::Cancel, entries), outcome) {

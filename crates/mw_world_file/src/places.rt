@@ -1,9 +1,9 @@
 //! The record places of a simulated file, and the change in each.
 //!
 //! Used by: `book`, `calls`, `opened`, `opening`, `stops`. Change it with `specs/Devices` and `specs/Files`.
-ghost use Rattle.std.specs.Prelude.{◌≡◌, IfOk};
+ghost use Rattle.std.specs.Prelude.{◌≡◌, Some, false, slice_get, IfOk, MatchOption};
 ghost use Rattle.std.specs.List.{list_any};
-ghost use Rattle.mw_world_file.specs.Devices.{told};
+ghost use Rattle.mw_world_file.specs.Devices.{told, place_in};
 ghost use Rattle.mw_world_file.specs.Files as file;
 
 use mw_words::{Entries, copy_of};
@@ -47,6 +47,28 @@ pub(crate) fn has_empty(places: &[Place]) -> bool
     ensures { result ≡ list_any (λ place. file.is_empty (told place)) places.now }
 {
     places.iter().any(|place| place.is_empty())
+}
+
+/// Returns the change in a place, if it is prepared.
+pub(crate) fn prepared_in(places: &[Place], number: u16) -> Option<&Entries>
+    ensures { MatchOption result (file.is_prepared (place_in places.now number) ≡ false)
+        (λ entries. slice_get places.now number ≡ Some (Place.Prepared entries.now)) }
+{
+    match places.get(number as usize) {
+        Some(Place::Prepared(entries)) => Some(entries),
+        _ => None,
+    }
+}
+
+/// Returns the change in a place, if it is sealed.
+pub(crate) fn sealed_in(places: &[Place], number: u16) -> Option<&Entries>
+    ensures { MatchOption result (file.is_sealed (place_in places.now number) ≡ false)
+        (λ entries. slice_get places.now number ≡ Some (Place.Sealed entries.now)) }
+{
+    match places.get(number as usize) {
+        Some(Place::Sealed(entries)) => Some(entries),
+        _ => None,
+    }
 }
 
 /// Copies places. The only error is that memory is out.

@@ -1,13 +1,11 @@
 //! Computes what is left of a simulated file when all stops: its bytes, and the change in doubt.
 //!
 //! Used by: `restarts`. Change it with `specs/Files`, `specs/Devices`, `specs/Recovery` and `specs/StoppedFiles`.
-ghost use Rattle.std.specs.Prelude.{◌≡◌, ℕ, List, Some, false, slice_get, MatchOption, IfOk};
+ghost use Rattle.std.specs.Prelude.{◌≡◌, ℕ, List, false, IfOk};
 ghost use Rattle.mw_disk.specs.Memory.{memory_facts, with_stop};
 ghost use Rattle.mw_record.specs.Records.{Pairs};
 ghost use Rattle.mw_file.specs.File.{disk_of, at_of, words_of, states_of, has_failed};
 ghost use Rattle.mw_file.specs.RecoveryInvariant.{RecoversTo};
-ghost use Rattle.mw_world_file.specs.Files.{is_prepared, is_sealed};
-ghost use Rattle.mw_world_file.specs.Devices.{place_in};
 ghost use Rattle.mw_world_file.specs.Recovery.{until};
 
 use crate::book::SimulatedFile;
@@ -15,7 +13,7 @@ use crate::calls::{device_calls, is_apart};
 use crate::cut::{Cut, Left};
 use crate::device::Device;
 use crate::faults::BookFault;
-use crate::places::{Place, has_empty};
+use crate::places::{has_empty, prepared_in, sealed_in};
 use mw_disk::MemDisk;
 use mw_file::{Place as FilePlace, TenantFile};
 use mw_look::Call;
@@ -41,28 +39,6 @@ fn copy_until(
     let mut copy = file.copy(alloc)?;
     copy.stop_next(calls);
     Ok(copy)
-}
-
-/// Returns the change in a place, if it is prepared.
-fn prepared_in(places: &[Place], number: u16) -> Option<&Entries>
-    ensures { MatchOption result (is_prepared (place_in places.now number) ≡ false)
-        (λ entries. slice_get places.now number ≡ Some (Place.Prepared entries.now)) }
-{
-    match places.get(number as usize) {
-        Some(Place::Prepared(entries)) => Some(entries),
-        _ => None,
-    }
-}
-
-/// Returns the change in a place, if it is sealed.
-fn sealed_in(places: &[Place], number: u16) -> Option<&Entries>
-    ensures { MatchOption result (is_sealed (place_in places.now number) ≡ false)
-        (λ entries. slice_get places.now number ≡ Some (Place.Sealed entries.now)) }
-{
-    match places.get(number as usize) {
-        Some(Place::Sealed(entries)) => Some(entries),
-        _ => None,
-    }
 }
 
 impl SimulatedFile {

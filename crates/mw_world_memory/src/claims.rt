@@ -62,18 +62,12 @@ impl ClaimLog {
         ensures { (worker : ℕ) (actor : ActorState) (past : History) → Recalls self.old past → Recalls self.new (with_label label worker actor request past) }
     {
         match label {
-            StepLabel::Claimed(own) => {
-                let _ = self.claims.push(Claim { own, request });
-            }
+            StepLabel::Claimed(own) => self.claims.push_reserved(Claim { own, request }),
             StepLabel::GaveUp {
                 own,
                 says_fault: true,
-            } => {
-                let _ = self.fault_decided.push(own);
-            }
-            StepLabel::FailedToSeal(target) => {
-                let _ = self.fault_decided.push(target);
-            }
+            } => self.fault_decided.push_reserved(own),
+            StepLabel::FailedToSeal(target) => self.fault_decided.push_reserved(target),
             _ => {}
         }
     }

@@ -59,7 +59,7 @@ impl Lines {
         ensures closed { self.new.closed ≡ self.old.closed }
         ensures lines { self.new.lines.items ≡ more self.old.lines.items line }
     {
-        let _ = self.lines.push(line);
+        self.lines.push_reserved(line);
     }
 
     /// Takes in the label of a worker's step. `worker_state` and `claims` are those from before the step. There

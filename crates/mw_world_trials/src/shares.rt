@@ -1,6 +1,6 @@
 //! Keeps how many slots each tenant of a world may use at a time, and says which quotas a start can give.
 //!
-//! Used by: `run`.
+//! Used by: `clauses`, `seen`, `run`.
 
 use mw_words::{MAX_PLACES, MAX_QUOTA};
 use mw_world::{Config, Stop};

@@ -1,6 +1,6 @@
 //! Reads the command line of `mwbench`: the server, the tenant, and how many clients do what.
 //!
-//! Used by: `run`. docs/BENCH tells the options and their limits: change both together.
+//! Used by: `client`, `crowd`, `run`. docs/BENCH tells the options and their limits: change both together.
 use arrayvec::ArrayVec;
 use clap::ArgMatches;
 use clap::builder::ValueParser;

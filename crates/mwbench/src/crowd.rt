@@ -1,6 +1,6 @@
 //! Runs all clients of a load, each in a thread of its own, and writes once a second what they did.
 //!
-//! Used by: `run`, `report`. It has no contracts.
+//! Used by: `sums`, `run`, `report`. It has no contracts.
 use crate::client::{Asker, Counts, Stop, Task};
 use crate::command_line::Settings;
 use crate::replies::Replies;

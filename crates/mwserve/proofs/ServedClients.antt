@@ -1,4 +1,5 @@
 -- An engine that begins with the files which a start opened keeps what mwserve promises.
+-- Used by: engines_keep_the_promise, and the answers of main.rt.
 use Rattle.std.specs.Prelude.{ℕ, Bool, List}
 use Rattle.std.proofs.Common.{inl, inr}
 use Rattle.mw_programs.specs.FromBelow.{DeviceCall, Facts, FileFault}

@@ -1,7 +1,7 @@
 //! Gives a request's next step: one operation on a shared word, or one call on its tenant's file.
 //!
-//! mw_core and mw_simulator call `Actor::ask` before each step. A new point needs a case here, in `specs/Asks` and in
-//! `specs/Parts`.
+//! mw_core, mw_simulator, mw_player and mw_world_trials call `Actor::ask` before each step. A new point needs a case
+//! here, in `specs/Asks` and in `specs/Parts`, and what `points.rt` names.
 ghost use Rattle.std.specs.Prelude.{IfSome, ◌≡◌, ◌<◌};
 ghost use Rattle.mw_words.specs.declared.limits.TheConstants.{WORN_NUMBER};
 ghost use Rattle.mw_words.specs.declared.places.At.TheVariants.{Door as AtDoor, Gate as AtGate, Status as AtStatus, Count, Addr, Expected, New};

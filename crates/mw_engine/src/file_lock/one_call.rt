@@ -3,7 +3,7 @@
 //! Only functions here and in `file_lock` take a file's lock. Each releases it before it returns, and makes nothing
 //! but calls on the file meanwhile (`specs/Errands`). So no atomic step is made under the lock.
 //!
-//! Used by: `serving`, which calls `combine`; `combiner`, which makes calls for others; tests, which call `file`.
+//! Used by: `serving`, which calls `combine`; `combiner`, which makes calls for others; it and tests call `file`.
 //! Change it with `specs/Errands`, `specs/FileCalls`, `specs/History`, `specs/Passes`, `specs/Replies` and
 //! `specs/Steps`. After a change run scripts/check-wakes.
 ghost use Rattle.std.specs.Prelude.{◌≢◌, None};
@@ -52,10 +52,20 @@ impl<J: EngineBrand, D: Disk + Drop, H: Hold + Drop> Engine<J, D, H> {
             self.make_own(rt, lock, guard, pass, actor, &waiter);
             return;
         }
+        let Some(own_box) = self.errands.get(usize::from(waiter.worker)) else {
+            self.file(rt, pass, actor);
+            return;
+        };
         // `replace_with` moves one value out of a `&mut`. A pass can't be copied, so the machine is.
         let own = actor.copy();
         *actor = replace_with(pass, own, |pass, actor| {
-            let Errand { pass, actor } = self.send(rt, lock, Errand { pass, actor }, waiter);
+            let Errand { pass, actor } = self.send(
+                rt,
+                lock,
+                own_box,
+                Errand { pass, actor },
+                waiter,
+            );
             (pass, actor)
         });
     }

@@ -1,5 +1,5 @@
 -- What each kind of step does to a gate or a door: both sides of each count (the number in the word, and the sum over
--- requests) change by the same.
+-- requests) change by the same. Used by: GateSteps, QuietSteps, ReadSteps, among others.
 use Rattle.std.specs.Prelude.{ℕ, ◌≡◌, ◌≢◌, ◌<◌, ◌≤◌, ◌+◌, ◌-◌, ◌==◌, ◌&&◌, true, false, Bool, cond, if◌then◌else◌}
 use Rattle.std.proofs.Common.{refl, sym, ap, subst, ◌∙◌, inl, inr, arith}
 use Rattle.std.proofs.lemmas.Bool.{cases_eq}

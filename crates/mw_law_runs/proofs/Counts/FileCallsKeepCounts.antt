@@ -1,5 +1,5 @@
 -- Each call on a tenant's file keeps the invariant of counts (pins of slots, slots that doors count). It changes no gate,
--- leaves no pin behind, and changes a door only in its fault.
+-- leaves no pin behind, and changes a door only in its fault. Used by: RunsKeepCounts.
 use Rattle.std.specs.Prelude.{ℕ, ◌≡◌, Bool, true, false, if◌then◌else◌, IfSome, Option, Some, None}
 use Rattle.std.proofs.Common.{refl, subst, arith}
 use Rattle.std.proofs.lemmas.Bool.Decides.{nat_tests}

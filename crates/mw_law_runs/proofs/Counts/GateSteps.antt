@@ -1,4 +1,5 @@
 -- The steps that change a gate or a door, and the one that leaves a pin behind, keep the invariant of counts (`CountsStand`).
+-- Used by: BitExactness, Callers, ReadSteps, among others.
 use Rattle.std.specs.Prelude.{ℕ, ◌≡◌, ◌<◌, ◌≤◌, ◌+◌, ◌-◌, ◌==◌, ◌&&◌, Bool, true, false, cond, if◌then◌else◌, nat_lt, Some}
 use Rattle.std.proofs.Common.{refl, ap, subst, arith}
 use Rattle.std.proofs.lemmas.Bool.Decides.{nat_tests}

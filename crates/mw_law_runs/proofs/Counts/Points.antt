@@ -1,5 +1,5 @@
 -- How many pins a request (a read or a change) holds at its point and after its next step. Also which slots it will free, and
--- which its door counts for it.
+-- which its door counts for it. Used by: FileCallsKeepCounts, GateSteps, QuietSteps, among others.
 use Rattle.std.specs.Prelude.{ℕ, ◌≡◌}
 use Rattle.std.proofs.Common.{refl, ◌∙◌}
 use Rattle.mw_look.specs.declared.observations.Observation.{Observation}

@@ -1,5 +1,5 @@
 -- The steps that change no gate and no door, and leave no pin behind, keep the invariant of counts (`CountsStand`). Most
--- steps are such.
+-- steps are such. Used by: FileCallsKeepCounts, GateSteps, ReadSteps, among others.
 use Rattle.std.specs.Prelude.{ℕ, ◌≡◌, ◌<◌, ◌==◌, Bool, true, false, List, Some}
 use Rattle.std.proofs.Common.{refl, sym, ap, subst}
 use Rattle.mw_words.specs.declared.jobs.Entry.{Entry}

@@ -1,5 +1,5 @@
 -- How many pins a read holds after each step, case by case. Also which slots it will free, and which its tenant's door counts
--- for it.
+-- for it. Used by: Points.
 use Rattle.std.specs.Prelude.{ℕ, ◌≡◌, ◌+◌, ◌-◌, ◌==◌, ◌&&◌, Bool, true, false, cond, nat_lt, nat_le, IfSome, Option, Some, None}
 use Rattle.std.proofs.Common.{refl, sym, ap, arith}
 use Rattle.std.proofs.lemmas.Bool.Decides.{nat_tests}

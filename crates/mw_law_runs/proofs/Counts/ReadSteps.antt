@@ -1,4 +1,4 @@
--- The steps of a read that change a gate or a door keep the invariant of counts (`CountsStand`).
+-- The steps of a read that change a gate or a door keep the invariant of counts (`CountsStand`). Used by: StepsKeepCounts.
 use Rattle.std.specs.Prelude.{ℕ, ◌≡◌, ◌<◌, ◌-◌, ◌==◌, cond, Some}
 use Rattle.std.proofs.Common.{refl, ap, subst, ◌∙◌, arith}
 use Rattle.mw_words.specs.declared.doors.Door.{Door}

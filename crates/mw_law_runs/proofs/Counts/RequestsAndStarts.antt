@@ -1,4 +1,4 @@
--- A request that arrives, a reply that is handed out, and a start keep the invariant of counts (`CountsStand`).
+-- Arrivals, replies handed out, starts and restarts keep the invariant of counts (`CountsStand`). Used by: RunsKeepCounts.
 use Rattle.std.specs.Prelude.{ℕ, zero, suc, ◌≡◌, ◌<◌, ◌==◌, ◌&&◌, Bool, true, false, nat_lt, is_none, List, length, if◌then◌else◌, Option, Some, None}
 use Rattle.std.proofs.Common.{refl, sym, subst, arith}
 use Rattle.std.proofs.lemmas.Bool.Decides.{nat_tests}

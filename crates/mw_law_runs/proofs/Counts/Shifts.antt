@@ -1,5 +1,5 @@
 -- If one worker goes on and one gate or door changes with it, the counts stay right, because both sides of each count change
--- by the same.
+-- by the same. Used by: Effects, QuietSteps, RequestsAndStarts.
 use Rattle.std.specs.Prelude.{ℕ, zero, suc, ◌≡◌, ◌≢◌, ◌<◌, ◌≤◌, ◌+◌, ◌==◌, ◌&&◌, true, false, if◌then◌else◌, Option, Some, None}
 use Rattle.std.proofs.Common.{refl, sym, ap, subst, ◌∙◌, inl, inr, arith}
 use Rattle.std.proofs.lemmas.Bool.{cases_eq}

@@ -1,4 +1,5 @@
 -- Each step of a worker's request keeps the invariant of counts (`CountsStand`): one case for each point of the program.
+-- Used by: RunsKeepCounts.
 use Rattle.std.specs.Prelude.{ℕ, ◌≡◌, ◌&&◌, Bool, true, false, not, Option, Some, None, is_some, if◌then◌else◌}
 use Rattle.std.proofs.Common.{refl, subst, arith}
 use Rattle.mw_look.specs.declared.points.Point.{Point as ReadPoint}

@@ -1,4 +1,5 @@
 -- A sum over workers or slots, after one worker or one slot changed, is the old sum with one term replaced.
+-- Used by: Effects, GateSteps, Room, among others.
 use Rattle.std.specs.Prelude.{ℕ, zero, suc, ◌≡◌, ◌≢◌, ◌<◌, ◌≤◌, ◌+◌, ◌==◌, ◌&&◌, if◌then◌else◌, Some}
 use Rattle.std.proofs.Common.{refl, ap, ◌∙◌, inl, inr, arith}
 use Rattle.std.proofs.lemmas.Bool.{cases_eq}

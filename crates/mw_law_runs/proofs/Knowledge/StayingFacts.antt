@@ -1,5 +1,5 @@
 -- Each single fact that a request may know stays true over a worker's steps that keep the request's own (`KeepsOwn`): its
--- pin, its draft, its worker's row and next attempt number.
+-- pin, its draft, its worker's row and next attempt number. Used by: Stability, Acquisition, Releases, among others.
 use Rattle.std.specs.Prelude.{ℕ, ◌≡◌, ◌≢◌, ◌≤◌, ◌⊎◌, List, length, is_some}
 use Rattle.std.proofs.Common.{refl, sym, ap, subst, ◌∙◌, inl, inr, arith}
 use Rattle.mw_words.specs.declared.replies.Reply.{Reply}

@@ -1,4 +1,4 @@
--- Planting an attempt in a word, and taking it back, keep the invariant of the shared words (`Memory`).
+-- Planting an attempt in a word, and taking it back, keep the invariant of the shared words (`Memory`). Used by: MovesKeepMemory.
 use Rattle.std.proofs.Common.{ℕ, arith}
 use Rattle.std.proofs.lemmas.Bool.Decides.{nat_tests}
 use Rattle.mw_words.specs.declared.places.At.TheVariants.{Data}

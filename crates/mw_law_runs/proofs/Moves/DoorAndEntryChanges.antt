@@ -1,4 +1,5 @@
 -- Setting a door, and writing a status, a count or an entry into a slot, keep the invariant of the shared words (`Memory`).
+-- Used by: MovesKeepMemory.
 use Rattle.std.proofs.Common.{ℕ, arith}
 use Rattle.std.proofs.lemmas.Bool.Decides.{nat_tests}
 use Rattle.mw_words.specs.declared.places.At.TheVariants.{Door as AtDoor, Status as AtStatus, Count, Addr, Expected, New}

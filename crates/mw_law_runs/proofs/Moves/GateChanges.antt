@@ -1,4 +1,4 @@
--- Claiming, pinning, unpinning and freeing a slot keep the invariant of the shared words (`Memory`).
+-- Claiming, pinning, unpinning and freeing a slot keep the invariant of the shared words (`Memory`). Used by: MovesKeepMemory.
 use Rattle.std.proofs.Common.{◌≡◌, ℕ, List, arith}
 use Rattle.std.proofs.lemmas.Bool.Decides.{nat_tests}
 use Rattle.mw_words.specs.declared.jobs.Entry.{Entry}

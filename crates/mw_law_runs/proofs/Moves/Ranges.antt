@@ -1,4 +1,5 @@
 -- If a value in range is written to a shared word, all shared words stay in range.
+-- Used by: AttemptChanges, DoorAndEntryChanges, GateChanges, among others.
 use Rattle.std.proofs.Common.{◌≡◌, ◌≤◌, ℕ, subst, arith}
 use Rattle.std.specs.Prelude.{◌==◌, if◌then◌else◌, Bool, true, false}
 use Rattle.std.proofs.lemmas.Bool.Decides.{nat_tests}

@@ -1,4 +1,4 @@
--- Giving a change another status keeps what other workers rely on (`Rely`).
+-- Giving a change another status keeps what other workers rely on (`Rely`). Used by: Relied.
 use Rattle.std.proofs.Common.{ℕ, arith}
 use Rattle.std.proofs.lemmas.Bool.Decides.{nat_tests}
 use Rattle.mw_actor.specs.declared.points.Slot.{Slot}

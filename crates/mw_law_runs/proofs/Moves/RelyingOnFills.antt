@@ -1,5 +1,5 @@
 -- Moves that write into doors, slots and rows, and those that change only the history, keep what other workers rely on
--- (`Rely`).
+-- (`Rely`). Used by: Relied.
 use Rattle.std.proofs.Common.{ℕ, arith}
 use Rattle.std.proofs.lemmas.Bool.Decides.{nat_tests}
 use Rattle.mw_words.specs.declared.doors.Door.{Door}

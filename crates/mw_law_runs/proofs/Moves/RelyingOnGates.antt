@@ -1,4 +1,4 @@
--- Claiming, pinning, unpinning and freeing a slot keep what other workers rely on (`Rely`).
+-- Claiming, pinning, unpinning and freeing a slot keep what other workers rely on (`Rely`). Used by: Relied.
 use Rattle.std.proofs.Common.{ℕ, List, arith}
 use Rattle.std.proofs.lemmas.Bool.Decides.{nat_tests}
 use Rattle.mw_words.specs.declared.jobs.Entry.{Entry}

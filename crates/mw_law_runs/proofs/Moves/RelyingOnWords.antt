@@ -1,4 +1,5 @@
 -- Changing a data word (planting, taking back, holding, releasing, cleaning) keeps what other workers rely on (`Rely`).
+-- Used by: Relied.
 use Rattle.std.proofs.Common.{◌≢◌, ℕ, arith}
 use Rattle.std.proofs.lemmas.Bool.Decides.{nat_tests}
 use Rattle.mw_words.specs.declared.statuses.Status.TheVariants.{Open}

@@ -1,4 +1,5 @@
 -- Setting a row, and the moves that change only the history, keep the invariant of the shared words (`Memory`).
+-- Used by: MovesKeepMemory.
 use Rattle.std.proofs.Common.{ℕ, arith}
 use Rattle.std.proofs.lemmas.Bool.Decides.{nat_tests}
 use Rattle.mw_words.specs.declared.places.At.TheVariants.{Row as AtRow}

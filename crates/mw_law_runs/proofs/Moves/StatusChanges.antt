@@ -1,4 +1,4 @@
--- Giving a change another status keeps the invariant of the shared words (`Memory`).
+-- Giving a change another status keeps the invariant of the shared words (`Memory`). Used by: MovesKeepMemory.
 use Rattle.std.proofs.Common.{ℕ, arith}
 use Rattle.std.proofs.lemmas.Bool.Decides.{nat_tests}
 use Rattle.mw_words.specs.declared.places.At.TheVariants.{Status as AtStatus}

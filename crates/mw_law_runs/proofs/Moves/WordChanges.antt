@@ -1,4 +1,5 @@
 -- Holding a word, giving it its new value, releasing it and cleaning it keep the invariant of the shared words (`Memory`).
+-- Used by: MovesKeepMemory.
 use Rattle.std.proofs.Common.{ℕ, arith}
 use Rattle.std.proofs.lemmas.Bool.Decides.{nat_tests}
 use Rattle.mw_words.specs.declared.places.At.TheVariants.{Data}

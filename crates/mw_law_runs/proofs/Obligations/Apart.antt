@@ -1,5 +1,5 @@
 -- Lemmas that two cases exclude each other: kinds of words, won and lost exchanges, statuses of finished and unfinished
--- changes.
+-- changes. Used by: Cleaners, Cleanups, LastPins, among others.
 use Rattle.std.specs.Prelude.{ℕ, ◌≡◌, Bool, true, false}
 use Rattle.mw_law_runs.specs.Obligations.{IsUnfinished}
 use Rattle.mw_words.specs.declared.statuses.Status.{Status}

@@ -1,5 +1,5 @@
 -- A request that must clean a word (remove its reference to a change) still will after its step. An unfinished change's
--- request will clean all its words.
+-- request will clean all its words. Used by: StepObligations.
 use Rattle.std.specs.Prelude.{ℕ, ◌≡◌, ◌<◌, ◌⊎◌, ◌+◌, true, List, length, is_some, Some}
 use Rattle.std.proofs.Common.{refl, sym, ap, subst, ◌∙◌, inl, inr}
 use Rattle.mw_words.specs.declared.jobs.Entry.{Entry}

@@ -1,5 +1,5 @@
 -- If a word has a change's new value but still names its slot, the change's request will still clean it after the request's
--- next step.
+-- next step. Used by: Cleaners, FileCalls.
 use Rattle.std.specs.Prelude.{ℕ, ◌≡◌, ◌+◌, ◌==◌, ◌&&◌, true, false, cond, nat_lt, nat_le, length, Option, Some, None}
 use Rattle.std.proofs.Common.{sym, ap, ◌∙◌, arith}
 use Rattle.std.proofs.lemmas.Bool.Decides.{nat_tests}

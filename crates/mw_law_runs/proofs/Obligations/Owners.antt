@@ -1,4 +1,5 @@
 -- After each step a request still has its own change, except after the last step that it makes for the change.
+-- Used by: Cleaners, FileCalls, StepObligations.
 use Rattle.std.specs.Prelude.{ℕ, ◌≡◌, List, Some}
 use Rattle.mw_words.specs.declared.jobs.Entry.{Entry}
 use Rattle.mw_look.specs.declared.observations.Observation.{Observation}

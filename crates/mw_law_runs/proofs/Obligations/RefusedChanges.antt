@@ -1,4 +1,5 @@
 -- A request that must release a word of a refused change still will after its step, while the word is held for that change.
+-- Used by: StepObligations.
 use Rattle.std.specs.Prelude.{ℕ, ◌≡◌, ◌⊎◌, ◌+◌, ◌&&◌, true, false, cond, nat_lt, nat_le, List, length, is_some}
 use Rattle.std.proofs.Common.{refl, sym, ap, subst, ◌∙◌, inl, inr, arith}
 use Rattle.std.proofs.lemmas.Bool.Decides.{nat_tests}

@@ -1,4 +1,4 @@
--- Which of the effects in `StepEffects` the step of a request may have: one case for each point.
+-- Which of the effects in `StepEffects` the step of a request may have: one case for each point. Used by: StepObligations.
 use Rattle.std.specs.Prelude.{◌≡◌, true, false}
 use Rattle.std.proofs.Common.{refl, sym}
 use Rattle.mw_words.specs.declared.replies.Reply.{Reply}

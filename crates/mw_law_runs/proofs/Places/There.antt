@@ -1,4 +1,5 @@
 -- If a request's point names only slots and entries that exist, its next step is at a word that exists, unless it is a call.
+-- Used by: PlaceInvariant.
 use Rattle.std.specs.Prelude.{ℕ, zero, suc, ◌≡◌, ◌≤◌, ◌<◌, ◌&&◌, Bool, true, false, nat_lt, List, [], ◌∷◌, length, Some, None}
 use Rattle.std.specs.List.{list_all}
 use Rattle.std.proofs.Common.{refl, sym, ap, subst, ◌∙◌, arith}

@@ -1,5 +1,5 @@
--- Defines `Memory`, the invariant of the shared words, which holds at every moment of a run, and what else each step needs to
--- keep it. Memory is here the shared words, the history and the numbers of the workers' attempts.
+-- Defines `Memory`, the invariant of the shared words at every moment of a run, with what each step needs to keep it. Memory is
+-- here the shared words, the history and the numbers of the workers' attempts.
 -- Used by: mw_law_store.
 use Rattle.std.specs.Prelude.{ℕ, ◌≡◌}
 use Rattle.mw_world.specs.declared.config.Config.{Config}

@@ -1,5 +1,5 @@
 -- The moves (elementary changes of shared words) that a worker makes for one tenant leave another tenant's door and changes
--- unchanged.
+-- unchanged. Used by: Points, Tenants.
 use Rattle.std.specs.Prelude.{ℕ, ◌≡◌, ◌≢◌, ◌⊎◌, Bool, true, List, [], ◌∷◌}
 use Rattle.std.proofs.Common.{refl, sym, ap, subst, ◌∙◌, inl, inr, arith}
 use Rattle.std.proofs.lemmas.Bool.Decides.{nat_tests}

@@ -1,4 +1,4 @@
--- Each move (elementary change of shared words) of a request's step is made for the tenant of that request.
+-- Each move (elementary change of shared words) of a request's step is made for the tenant of that request. Used by: Tenants.
 use Rattle.std.specs.Prelude.{ℕ, ◌≡◌, ◌++◌, Bool, true, false, [], ◌∷◌}
 use Rattle.std.proofs.Common.{refl, subst}
 use Rattle.mw_words.specs.declared.replies.Reply.TheVariants.{Fault as SaysFault}

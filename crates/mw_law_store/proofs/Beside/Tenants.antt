@@ -1,4 +1,4 @@
--- A step of one tenant's request leaves another tenant's part of the world unchanged.
+-- A step of one tenant's request leaves another tenant's part of the world unchanged. Used by: Turned.
 use Rattle.std.specs.Prelude.{ℕ, ◌≡◌, ◌≢◌, ◌<◌, ◌⊎◌, true, ◌&&◌, not, is_some, Some}
 use Rattle.std.proofs.Common.{refl, sym, ap, ◌∙◌, inl, inr, arith}
 use Rattle.mw_words.specs.declared.doors.Door.{Door}

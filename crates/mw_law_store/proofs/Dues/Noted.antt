@@ -1,5 +1,5 @@
 -- Each step, and each call on a file, leaves its request as the step's label says. The label is what the step adds to the
--- history.
+-- history. Used by: ReachedPoints, Called, Turned.
 use Rattle.std.specs.Prelude.{ℕ, ◌≡◌, Bool, true, false, Some}
 use Rattle.std.proofs.Common.{refl, subst, inl, inr}
 use Rattle.mw_words.specs.declared.jobs.Job.{Job}

@@ -1,4 +1,5 @@
 -- A request that works on a change still has its own change at its next point, or that change is finished and has its reply.
+-- Used by: StepEnds, Steps, ReservedSteps, among others.
 use Rattle.std.specs.Prelude.{ℕ, ◌≡◌, ◌+◌, ◌==◌, ◌&&◌, Bool, true, false, cond, nat_lt, nat_le, Option, Some, None, length}
 use Rattle.std.proofs.Common.{refl}
 use Rattle.mw_words.specs.declared.limits.TheConstants.{MAX_ENTRIES, MAX_VALUE, MAX_WORDS, WORN_NUMBER}

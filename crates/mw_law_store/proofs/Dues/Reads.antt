@@ -1,4 +1,5 @@
 -- Each step of a read leaves its request as the step's label says. The label is what the step adds to the history.
+-- Used by: Steps.
 use Rattle.std.specs.Prelude.{ℕ, ◌-◌, ◌+◌, ◌==◌, nat_lt, Option, Some, None}
 use Rattle.std.proofs.Common.{refl, sym, subst, inl}
 use Rattle.mw_words.specs.declared.limits.TheConstants.{MAX_ENTRIES, WORN_NUMBER}

@@ -1,4 +1,5 @@
--- Lists the ends that a step of a request may have, for each label. The label is what the step adds to the history.
+-- Lists the ends that a step of a request may have, for each label (addition to the history).
+-- Used by: Dues/Steps, SimulationSteps/Turned, among others.
 use Rattle.std.specs.Prelude.{ℕ, ◌≡◌, ◌⊎◌, true, false, Some, None}
 use Rattle.std.proofs.Common.{sym, ap, ◌∙◌, inl}
 use Rattle.mw_words.specs.declared.doors.Door.{Door}

@@ -1,4 +1,4 @@
--- Each step of a request leaves it as its label (what it adds to the history) says: one case for each point.
+-- Each step of a request leaves it as its label (what it adds to the history) says: one case for each point. Used by: Noted.
 use Rattle.std.specs.Prelude.{ℕ, ◌≡◌, ◌+◌, ◌==◌, ◌||◌, Bool, true, false, nat_lt, Option, Some, None}
 use Rattle.std.proofs.Common.{refl, sym, subst, inl, inr}
 use Rattle.mw_words.specs.declared.limits.TheConstants.{WORN_NUMBER}

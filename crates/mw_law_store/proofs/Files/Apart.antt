@@ -1,4 +1,4 @@
--- Two changes that are decided YES and not finished share no word.
+-- Two changes that are decided YES and not finished share no word. Used by: CallsCanBeMade, Tenants.
 use Rattle.std.specs.Prelude.{ℕ, ◌≡◌, ◌≢◌, ◌⊎◌, ◌==◌, Bool, true, false, List, [], ◌∷◌, is_some}
 use Rattle.std.specs.List.{list_any}
 use Rattle.std.proofs.Common.{refl, sym, subst, inl, inr, arith}

@@ -1,5 +1,5 @@
 -- Each move (elementary change of shared words) keeps `HasFiles`. Exceptions: a fault set at a door, a slot freed while its
--- change is in its file, and the moves of a call on a file.
+-- change is in its file, and the moves of a call on a file. Used by: CallFiles, TurnFiles.
 use Rattle.std.specs.Prelude.{ℕ, ◌≡◌, false, List, [], ◌∷◌}
 use Rattle.std.proofs.Common.{refl, sym, ap, ◌∙◌, arith}
 use Rattle.std.proofs.lemmas.Bool.Decides.{nat_tests}

@@ -1,5 +1,5 @@
 -- Which record places of a file hold changes, computed from what is due to each slot of the pool, and how they change with
--- that.
+-- that. Used by: ArrivalsAndStarts, CallFiles, Filed, among others.
 use Rattle.std.specs.Prelude.{ℕ, ◌≡◌, ◌≢◌, ◌<◌, ◌⊎◌, ◌==◌, Bool, true, false, List}
 use Rattle.std.proofs.Common.{refl, sym, ap, ◌∙◌, inl, inr, arith}
 use Rattle.std.proofs.lemmas.Bool.Decides.{nat_tests}

@@ -1,5 +1,6 @@
 -- A step keeps `HasFiles` (the shared words agree with the tenants' files) if it leaves the faults of doors, the values of
 -- words, the tenants' files, and what is due to each slot there.
+-- Used by: ArrivalsAndStarts, CallFiles, MovesKeepFiles, among others.
 use Rattle.std.specs.Prelude.{ℕ, ◌≡◌, ◌≢◌, ◌⊎◌, Bool}
 use Rattle.std.proofs.Common.{refl, sym, subst, ◌∙◌, inl, inr}
 use Rattle.mw_world_file.specs.Files.{File}

@@ -1,4 +1,4 @@
--- A call on a file that succeeds keeps `HasFiles`: the shared words agree with the tenants' files.
+-- A call on a file that succeeds keeps `HasFiles`: the shared words agree with the tenants' files. Used by: CallFiles.
 use Rattle.std.specs.Prelude.{ℕ, ◌≡◌, ◌≢◌, ◌<◌, ◌⊎◌, ◌==◌, ◌&&◌, Bool, true, false, if◌then◌else◌, List, length, is_some, Option, Some, None}
 use Rattle.std.specs.Option.{option_map_or}
 use Rattle.std.proofs.Common.{refl, sym, ap, subst, ◌∙◌, inl, inr, arith}

@@ -1,4 +1,5 @@
 -- What the shared words tell of each tenant's file: which changes are in it, by the status of each slot's change.
+-- Used by: ArrivalsAndStarts, CallFiles, CallsCanBeMade, among others.
 use Rattle.std.specs.Prelude.{ℕ, ◌≡◌, ◌<◌, ◌==◌, ◌&&◌, Bool, true, false, if◌then◌else◌, List, [], length}
 use Rattle.std.proofs.Common.{refl, sym, ap, subst, ◌∙◌, inr, arith}
 use Rattle.std.proofs.lemmas.Bool.Decides.{nat_tests}

@@ -1,5 +1,5 @@
 -- What a step of a change's request gives the simulation: what it finds at a door, gate or word, and the change's next
--- status.
+-- status. Used by: StepsByPoint.
 use Rattle.std.specs.Prelude.{ℕ, zero, suc, ◌≡◌, ◌≢◌, ◌≤◌, ◌<◌, ◌⊎◌, ◌+◌, Bool, true, false, cond, nat_lt, List, [], ◌∷◌, length, slice_get, Some}
 use Rattle.std.proofs.Common.{refl, sym, ap, subst, ◌∙◌, inl, inr, arith}
 use Rattle.std.proofs.lemmas.Bool.Decides.{nat_tests}

@@ -1,5 +1,5 @@
 -- Each end of a call on a file makes at most one addition to the history of its request's tenant, and none to another
--- tenant's.
+-- tenant's. Used by: Called.
 use Rattle.std.specs.Prelude.{ℕ, ◌≡◌, ◌≢◌, ◌&&◌, Bool, true, false, not, if◌then◌else◌, List, [], Some}
 use Rattle.std.proofs.Common.{refl, sym, ap, subst, ◌∙◌, inl, inr, arith}
 use Rattle.std.proofs.lemmas.Bool.{cases_eq}

@@ -1,4 +1,5 @@
 -- Defines what a step gives the simulation besides its end, by its label: what it found at the tenant's file, door and gates.
+-- Used by: ChangeSteps, ReadSteps, ReplySteps, among others.
 use Rattle.std.specs.Prelude.{ℕ, ◌≡◌, ◌≢◌, ◌<◌, true, false, List, slice_get, Some, None}
 use Rattle.mw_words.specs.declared.jobs.Entry.{Entry}
 use Rattle.mw_words.specs.declared.jobs.Job.TheVariants.{Get}

@@ -1,4 +1,4 @@
--- What a step of a read gives the simulation: a failed file, a value, or a slot to give back.
+-- What a step of a read gives the simulation: a failed file, a value, or a slot to give back. Used by: ChangeSteps, StepsByPoint.
 use Rattle.std.specs.Prelude.{ℕ, ◌≡◌, ◌≤◌, ◌<◌, ◌⊎◌, ◌&&◌, Bool, true, false, cond, List, Option, Some}
 use Rattle.std.proofs.Common.{refl, sym, ap, subst, ◌∙◌, inl, inr, arith}
 use Rattle.std.proofs.lemmas.Bool.Decides.{nat_tests}

@@ -1,4 +1,4 @@
--- When a file seals a change, the change is in its record place and its expected values are the file's words.
+-- When a file seals a change, the change is in its record place and its expected values are the file's words. Used by: Called.
 use Rattle.std.specs.Prelude.{ℕ, ◌≡◌, Bool, true, false, List}
 use Rattle.std.proofs.Common.{refl, sym, ap, subst, ◌∙◌}
 use Rattle.mw_words.specs.declared.jobs.Entry.{Entry}

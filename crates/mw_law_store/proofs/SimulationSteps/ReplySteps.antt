@@ -1,4 +1,5 @@
 -- When a request is about to take back its own change's pin and then reply, that change is finished and has this reply.
+-- Used by: StepsByPoint, Turned.
 use Rattle.std.specs.Prelude.{◌≡◌, ◌≢◌, ◌⊎◌, Bool, true, false, List, Some}
 use Rattle.std.proofs.Common.{refl, sym, ap, subst, ◌∙◌, inl, inr}
 use Rattle.mw_words.specs.declared.jobs.Entry.{Entry}

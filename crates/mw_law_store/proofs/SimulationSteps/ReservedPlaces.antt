@@ -1,4 +1,4 @@
--- After each step, a request has no reserved place in the history, keeps the one that it had, or has a new one.
+-- After each step, a request has no reserved place in the history, keeps the one that it had, or has a new one. Used by: Turned.
 use Rattle.std.specs.Prelude.{ℕ, ◌≡◌, ◌==◌, ◌-◌, ◌+◌, Bool, true, false, cond, nat_lt, Option, Some, None}
 use Rattle.std.proofs.Common.{refl, sym, subst, inl, inr}
 use Rattle.mw_words.specs.declared.gates.Gate.{Gate}

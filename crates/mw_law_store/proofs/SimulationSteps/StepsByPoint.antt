@@ -1,5 +1,5 @@
--- Each step that is no call on a file gives the simulation what its label (addition to the history) needs: one case for each
--- point.
+-- Each step that is no call on a file gives the simulation by the store alone what its label (addition to the history) needs: one
+-- case for each point. Used by: SimulationSteps/Turned.
 use Rattle.std.specs.Prelude.{ℕ, ◌≡◌, ◌≢◌, ◌⊎◌, Bool, true, false, List, Some, None}
 use Rattle.std.proofs.Common.{refl, sym, ap, subst, ◌∙◌, inl, inr}
 use Rattle.mw_words.specs.declared.jobs.Entry.{Entry}

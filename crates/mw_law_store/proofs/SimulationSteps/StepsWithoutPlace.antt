@@ -1,5 +1,5 @@
 -- A step after which its request has no reserved place: what it adds to one tenant's history, and how that tenant's store
--- alone steps.
+-- alone steps. Used by: Called, EndsOfCalls.
 use Rattle.std.specs.Prelude.{ℕ, ◌≡◌, ◌≢◌, true, false, Some, None}
 use Rattle.std.proofs.Common.{refl, sym, ap, ◌∙◌}
 use Rattle.mw_lone.specs.declared.marks.Mark.{Mark}

@@ -1,5 +1,5 @@
 -- The store alone of a request's tenant simulates a step that is no call on a file: one case for each label (what the step
--- adds to the history).
+-- adds to the history). Used by: ReservedPlaces, Turned.
 use Rattle.std.specs.Prelude.{ℕ, ◌≡◌, ◌≢◌, ◌⊎◌, ◌+◌, ◌-◌, Bool, true, false, List, length, slice_get, slice_set, Option, Some, None}
 use Rattle.std.proofs.Common.{refl, sym, ap, subst, ◌∙◌, inl, inr, arith}
 use Rattle.mw_words.specs.declared.doors.Door.{Door}

@@ -1,4 +1,4 @@
--- A call on a file keeps the world facts (`specs/WorldFacts`), however it ends.
+-- A call on a file keeps the world facts (`specs/WorldFacts`), however it ends. Used by: WorldFactLaws.
 use Rattle.std.specs.Prelude.{ℕ, ◌≡◌, ◌⊎◌, Bool, true, false, List, Option, Some, None}
 use Rattle.std.proofs.Common.{refl, sym, ap, subst, ◌∙◌, inl, inr}
 use Rattle.mw_words.specs.declared.jobs.Entry.{Entry}

@@ -1,4 +1,5 @@
 -- A worker's moves (elementary changes) keep the world facts about decided faults and about the tenants of changes.
+-- Used by: WorldFactLaws, Calls, Requests, among others.
 use Rattle.std.specs.Prelude.{ℕ, ◌≡◌, ◌⊎◌, Bool, true, false, List, [], ◌∷◌}
 use Rattle.std.proofs.Common.{refl, sym, ◌∙◌, inl, inr, arith}
 use Rattle.std.proofs.lemmas.Bool.Decides.{nat_tests}

@@ -1,4 +1,5 @@
 -- A request passes its tenant's door only if the door has no fault; and a change's request is never at a point of a read.
+-- Used by: EndsRead, ChangeSteps, StepsByPoint, among others.
 use Rattle.std.specs.Prelude.{ℕ, ◌≡◌, ◌⊎◌, ◌+◌, Bool, true, false, cond, nat_lt}
 use Rattle.std.proofs.Common.{refl, ap, inl, inr}
 use Rattle.mw_words.specs.declared.doors.Door.{Door}

@@ -1,4 +1,4 @@
--- A request gives up with FAULT only after a call on its file has failed.
+-- A request gives up with FAULT only after a call on its file has failed. Used by: StepsByPoint, Calls, Turns.
 use Rattle.std.specs.Prelude.{ℕ, ◌≡◌, ◌⊎◌, ◌+◌, ◌==◌, ◌&&◌, Bool, true, false, cond, nat_lt, nat_le, length, Option, Some, None}
 use Rattle.std.proofs.Common.{refl, sym, ap, ◌∙◌, inl, inr}
 use Rattle.mw_words.specs.declared.doors.Door.{Door}

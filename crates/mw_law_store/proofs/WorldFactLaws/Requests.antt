@@ -1,4 +1,5 @@
 -- A step of one worker's request keeps the world facts about each request's tenant and about what a read has loaded.
+-- Used by: WorldFactLaws, Calls, Turns.
 use Rattle.std.specs.Prelude.{ℕ, ◌≡◌, ◌≢◌, ◌<◌, ◌⊎◌, Bool, true, false, Some}
 use Rattle.std.proofs.Common.{refl, sym, ap, subst, ◌∙◌, inl, inr, arith}
 use Rattle.std.proofs.lemmas.Bool.Decides.{nat_tests}

@@ -1,4 +1,4 @@
--- A step of a request that is no call on a file keeps the world facts (`specs/WorldFacts`).
+-- A step of a request that is no call on a file keeps the world facts (`specs/WorldFacts`). Used by: WorldFactLaws.
 use Rattle.std.specs.Prelude.{ℕ, ◌≡◌, ◌⊎◌, ◌&&◌, ◌++◌, not, Bool, true, false, is_some, if◌then◌else◌, [], ◌∷◌, Option, Some, None}
 use Rattle.std.proofs.Common.{refl, sym, ap, subst, ◌∙◌, inl, inr}
 use Rattle.mw_words.specs.declared.replies.Reply.TheVariants.{Fault as SaysFault}

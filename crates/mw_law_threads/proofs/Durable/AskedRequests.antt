@@ -1,5 +1,5 @@
 -- A request that a pass was answered has asked for the change of its job, in every run that goes on from the one that the
--- pass knew.
+-- pass knew. Used by: DurableLaws.
 use Rattle.std.specs.Prelude.{ℕ, ◌<◌, ◌++◌, List, [], ◌∷◌, Some}
 use Rattle.std.proofs.Common.{sym, subst, ◌∙◌, append_assoc}
 use Rattle.mw_words.specs.declared.jobs.Job.{Job}

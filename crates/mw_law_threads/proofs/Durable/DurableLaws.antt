@@ -57,7 +57,7 @@ use Rattle.mw_core.proofs.FromTable.{each_last}
 use Rattle.mw_engine.specs.FromBelow.{HeldIsOnlyRead, IsOnlyRead}
 use Rattle.mw_engine.specs.History.{IsAnswered}
 use Rattle.mw_engine.proofs.AgreementForms.{agrees_of}
-use Rattle.mw_law_threads.specs.Durable.CrashMoments.{AfterTheEvent, AtRest, BeforeTheEvent, CrashMoment, InACopy, IsAtRest, IsHeld, first_disk, last_disk, stake_at, token_at}
+use Rattle.mw_law_threads.specs.Durable.CrashMoments.{AfterTheEvent, AtRest, BeforeDeviceCalls, BeforeTheEvent, CrashMoment, InACopy, IsAtRest, IsHeld, first_disk, last_disk, stake_at, token_at}
 use Rattle.mw_law_threads.specs.Durable.Durable.{AreSealed, AreSealedIn, CallsKeepChanges, CallsLeaveWholeChanges, CallsLeaveWhollyOrNot, LeavesChangeOfRun, LeavesChangesOfRun, LeavesWholeChanges, LeavesWhollyOrNot, LeavesWhollyOrNotInRun, LeavesWithChange, at_stake_in, MomentsLeaveWholeChanges}
 use Rattle.mw_law_threads.proofs.Durable.AskedRequests.{request_asked}
 use Rattle.mw_law_threads.proofs.Durable.Stakes.{doubt_is_asked, doubt_is_pending, stake_is_asked}
@@ -338,6 +338,7 @@ module _ {D : Type 0} (facts : D → Facts) where
     -- the thread that has the token at the moment of a crash
     pub held_at : (crash : CrashMoment facts s tenant) → IsHeld s (token_at facts crash)
     held_at (AtRest rest) = held_at_rest s tenant rest
+    held_at (BeforeDeviceCalls call held) = held
     held_at (BeforeTheEvent call held) = held
     held_at (AfterTheEvent call held) = held
     held_at (InACopy rest after read) = held_at_rest s tenant rest
@@ -346,6 +347,7 @@ module _ {D : Type 0} (facts : D → Facts) where
     pub its_tenant : (crash : CrashMoment facts s tenant) → (token_at facts crash).tenant ≡ tenant
     its_tenant (AtRest rest) = same_tenant rest.file_pass.seat.me.0.files rest.file_pass.tenant rest.file_pass.its ∙ rest.its
     its_tenant (InACopy rest after read) = same_tenant rest.file_pass.seat.me.0.files rest.file_pass.tenant rest.file_pass.its ∙ rest.its
+    its_tenant (BeforeDeviceCalls call held) = call.once.its ∙ call.its
     its_tenant (BeforeTheEvent call held) = call.once.its ∙ call.its
     its_tenant (AfterTheEvent call held) = ap (λ (one : FileToken). one.tenant) call.once.kept_is ∙ (called_tenant call.once.end call.token call.actor call.once.called ∙ (call.once.its ∙ call.its))
 
@@ -353,6 +355,8 @@ module _ {D : Type 0} (facts : D → Facts) where
   moments_leave_whole_changes config begun s id tenant view tied (AtRest rest) at live =
       in_doubt config begun s id view tied at live (file_kept rest.file_pass) (held_at_rest s tenant rest) tenant (its_tenant {s = s} (AtRest rest)) rest.book
       (agrees_of facts rest.book (file_kept rest.file_pass) (opening_at rest.identity.openings rest.file_pass.tenant).quota rest.identity.config.pool rest.kept.agrees).shows.stands
+  moments_leave_whole_changes config begun s id tenant view tied (BeforeDeviceCalls call held) at live =
+      in_doubt config begun s id view tied at live call.token held tenant (its_tenant (BeforeDeviceCalls call held)) call.before call.once.agreed.shows.stands
   moments_leave_whole_changes config begun s id tenant view tied (BeforeTheEvent call held) at live =
       in_a_call config begun s id view tied at live call.token held tenant (its_tenant (BeforeTheEvent call held)) call.before call.after call.old call.new call.actor call.next call.kept call.waiting call.once
   moments_leave_whole_changes config begun s id tenant view tied (AfterTheEvent call held) at live =

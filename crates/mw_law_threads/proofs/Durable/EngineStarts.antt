@@ -38,6 +38,6 @@ module _ {E : Type 0} where
       either (inr after) = inr (ap (λ (start : TenantStart). start.words) is ∙ after)
 
 pub engines_start_with_changes : {D E : Type 0} (facts : D → Facts) (again : E → Facts) → EnginesStartWithChanges facts again
-engines_start_with_changes facts again view tenant more old new left honest disk opened image its_honest rest opens lines files number line here there =
+engines_start_with_changes facts again view tenant more old new left honest image came openings disk opened reached its_honest rest opens lines files number line here there =
     gives again _ more line opened _ (read_at lines files number line (Some opened) here there)
-    (starts_find_changes facts again view tenant more old new left honest disk (Ok opened) image its_honest rest opens)
+    (starts_find_changes facts again view tenant more old new left honest image came openings disk (Ok opened) reached its_honest rest opens)

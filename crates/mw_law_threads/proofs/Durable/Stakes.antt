@@ -1,5 +1,5 @@
 -- The change at stake in a call on a file is just what one request asked for: the change in a seal's place, or the one in
--- doubt.
+-- doubt. Used by: DurableLaws.
 use Rattle.std.specs.Prelude.{ℕ, ◌<◌, List, length, Option}
 use Rattle.std.proofs.Common.{ap, subst, inl, inr, arith}
 use Rattle.std.proofs.lemmas.Bool.{cases_lt}

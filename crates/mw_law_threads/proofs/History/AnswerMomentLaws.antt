@@ -1,6 +1,6 @@
 -- A request that was answered has its moment in each run that goes on from the one that its thread knew and hands its reply
 -- out.
--- For `after_reply`.
+-- For `after_reply`. Used by: AfterReplyLaws, AnswersInOneRunLaws, SameReplies.
 use Rattle.std.specs.Prelude.{ℕ, zero, suc, ◌≡◌, ◌++◌, List, [], ◌∷◌, slice_get, Option, Some}
 use Rattle.std.proofs.Common.{refl, sym, ap, subst, ◌∙◌, inl, inr, arith, append_assoc}
 use Rattle.std.proofs.lemmas.List.{append_cancel_left}

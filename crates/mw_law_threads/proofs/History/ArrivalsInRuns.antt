@@ -1,5 +1,5 @@
 -- The arrival of a request of which a thread knows, in every run that goes on from the one that the thread knew: the events
--- before it, the world at it, and its number.
+-- before it, the world at it, and its number. Used by: AskedRequests, AnswerMomentLaws, AnswersInOneRunLaws, among others.
 use Rattle.std.specs.Prelude.{ℕ, ◌≡◌, ◌++◌, List, [], ◌∷◌, map, Option, Some}
 use Rattle.std.specs.Option.{option_and_then}
 use Rattle.std.proofs.Common.{refl, sym, ap, subst, ◌∙◌, arith, append_assoc}

@@ -1,5 +1,5 @@
 -- What a thread knows at a moment of the table, or a note has told it, is true in the run that ties the table to the model.
--- For `after_reply`.
+-- For `after_reply`. Used by: DurableLaws, AnswersInOneRunLaws, OwnRequestLaws.
 use Rattle.std.specs.Prelude.{ℕ, ◌≡◌, ◌<◌, List, Some}
 use Rattle.std.proofs.Common.{sym, subst, ◌∙◌, inl, inr}
 use Rattle.atomic_table.specs.Table.{State as Table}

@@ -1,4 +1,5 @@
 -- The reply that is handed out under a request's number is handed out by the worker to which the request came.
+-- Used by: AnswerMomentLaws, HandOuts, CauseMoments.
 use Rattle.std.specs.Prelude.{ℕ, ◌≡◌, ◌≢◌, ◌<◌, ◌≤◌, ◌==◌, ◌++◌, if◌then◌else◌, Bool, true, false, List, [], ◌∷◌, Option, Some, None}
 use Rattle.std.specs.Option.{option_map}
 use Rattle.std.proofs.Common.{refl, sym, ap, subst, ◌∙◌, inl, inr, arith}

@@ -1,5 +1,5 @@
 -- Two runs that a thread knows as one hand out the same replies, whatever a start gave to tenants that are not there, and
--- whichever device call failed in a call on a file.
+-- whichever device call failed in a call on a file. Used by: AnswersInOneRunLaws.
 use Rattle.std.specs.Prelude.{ℕ, zero, suc, ◌≡◌, ◌<◌, ◌≤◌, ◌==◌, ◌&&◌, ◌⊎◌, ◌++◌, if◌then◌else◌, cond, not, nat_lt, is_some, Bool, true, false, List, [], ◌∷◌, length, map, slice_get, slice_index_or, Option, Some, None}
 use Rattle.std.specs.Option.{option_to_list}
 use Rattle.std.proofs.Common.{refl, sym, ap, subst, ◌∙◌, inl, inr, arith, length-append}

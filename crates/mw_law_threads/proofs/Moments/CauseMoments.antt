@@ -1,5 +1,5 @@
 -- BUSY and FAULT have a moment of the call: what the request's own steps found was so in the world at a moment between its
--- arrival and its reply.
+-- arrival and its reply. Used by: MomentLaws.
 use Rattle.std.specs.Prelude.{ℕ, zero, suc, ◌≡◌, ◌<◌, ◌⊎◌, ◌++◌, ◌&&◌, if◌then◌else◌, not, Bool, true, false, is_none, is_some, List, [], ◌∷◌, slice_get, Option, Some, None}
 use Rattle.std.proofs.Common.{refl, sym, ap, subst, ◌∙◌, inl, inr, arith, append-nil, append_assoc}
 use Rattle.std.proofs.lemmas.Option.{none-some, option_and_then_some, same_Some}

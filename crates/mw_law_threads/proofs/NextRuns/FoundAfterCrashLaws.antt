@@ -29,11 +29,11 @@ use Rattle.mw_table.specs.FromRule.{End, FindsFault, GoesWell, MayEnd, MeetsFaul
 use Rattle.mw_law_threads.proofs.Durable.DurableLaws.{contents_by, held_at, its_tenant, of_view, so}
 use Rattle.mw_law_threads.proofs.History.OneHistoryLaws.{fits_live}
 use Rattle.mw_law_threads.proofs.NextRuns.SealCrashes.{in_doubt, may_be_cut_off, same_entries}
-use Rattle.mw_law_threads.specs.Durable.CrashMoments.{AfterTheEvent, AtRest, BeforeTheEvent, CallOnFile, CrashMoment, InACopy, IsHeld, first_disk, last_disk, stake_at, token_at}
+use Rattle.mw_law_threads.specs.Durable.CrashMoments.{AfterTheEvent, AtRest, BeforeDeviceCalls, BeforeTheEvent, CallOnFile, CrashMoment, InACopy, IsHeld, first_disk, last_disk, stake_at, token_at}
 use Rattle.mw_law_threads.specs.Durable.Durable.{LeavesChangesOfRun}
 use Rattle.mw_law_threads.specs.Durable.Starts.{GivesEither}
 use Rattle.mw_law_threads.specs.NextRuns.FoundAfterCrashes.{CrashesLeaveNextRuns, IsAtItsCall}
-use Rattle.mw_law_threads.specs.NextRuns.OneStore.{IsFoundAfter}
+use Rattle.mw_law_threads.specs.NextRuns.FoundAfter.{IsFoundAfter}
 
 module _ {D : Type 0} (facts : D → Facts) (config : Config) (begun : (ℕ → TenantStart) → List WorldEvent → Type 0) (s : Table ActorState View) (id tenant : ℕ) (view : View) (tied : TableInvariant config begun s)
     (crash : CrashMoment facts s tenant) (given : TenantStart) (at : get_elem? s.views id ≡ some view) (live : IsLive view)
@@ -129,6 +129,8 @@ module _ {D : Type 0} (facts : D → Facts) (config : Config) (begun : (ℕ → 
 
 pub crashes_leave_next_runs : {D : Type 0} (facts : D → Facts) (config : Config) (begun : (ℕ → TenantStart) → List WorldEvent → Type 0) → CrashesLeaveNextRuns facts config begun
 crashes_leave_next_runs facts config begun s id tenant view tied (AtRest rest) given at live within left gives = quiet facts config begun s id tenant view tied (AtRest rest) given at live left gives refl
+crashes_leave_next_runs facts config begun s id tenant view tied (BeforeDeviceCalls call held) given at live within left gives =
+    quiet facts config begun s id tenant view tied (BeforeDeviceCalls call held) given at live left gives refl
 crashes_leave_next_runs facts config begun s id tenant view tied (BeforeTheEvent call held) given at live within left gives = in_call facts config begun s id tenant view tied call held given at live within left gives
 crashes_leave_next_runs facts config begun s id tenant view tied (AfterTheEvent call held) given at live within left gives =
     quiet facts config begun s id tenant view tied (AfterTheEvent call held) given at live left gives refl

@@ -1,5 +1,5 @@
 -- A call that seals a change is cut off: the model's stop may cut it off there, and what is in doubt then is the change that
--- the call seals.
+-- the call seals. Used by: FoundAfterCrashLaws.
 use Rattle.std.specs.Prelude.{ℕ, ◌≡◌, ◌<◌, ◌&&◌, ◌==◌, if◌then◌else◌, not, nat_le, Bool, true, false, List, Some}
 use Rattle.std.specs.Option.{option_map}
 use Rattle.std.proofs.Common.{sym, ap, subst, ◌∙◌, arith}

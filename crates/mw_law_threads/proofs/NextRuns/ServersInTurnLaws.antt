@@ -10,9 +10,9 @@ use Rattle.mw_world.specs.Definition.State.{TenantStart, marks_of, store_at, wor
 use Rattle.mw_world.specs.Definition.World.{replies_to}
 use Rattle.mw_law_store.proofs.RunSimulation.{every_run_is_durably_linearizable}
 use Rattle.mw_law_threads.proofs.NextRuns.LaterStoreLaws.{stores_go_on}
-use Rattle.mw_law_threads.proofs.NextRuns.OneStoreLaws.{Starts, legal, quota_fits, served, starts_so}
+use Rattle.mw_law_threads.proofs.NextRuns.StartLaws.{Starts, legal, quota_fits, served, starts_so}
 use Rattle.mw_law_threads.specs.NextRuns.LaterStores.{GoesOn, IsLater, later_mark, later_reply}
-use Rattle.mw_law_threads.specs.NextRuns.OneStore.{IsFoundAfter}
+use Rattle.mw_law_threads.specs.NextRuns.FoundAfter.{IsFoundAfter}
 use Rattle.mw_law_threads.specs.NextRuns.ServersInTurn.{AreOfOneStoreInTurn, IsServerRun, RunInTurn, ServerRun, ServersInTurnAreOfOneStore, asked_before, asked_of, replies_in_turn, start_of}
 
 -- numbers that are greater twice

@@ -1,4 +1,4 @@
--- A pass that a session borrowed knows the run that the session's note tells. For `after_loan`.
+-- A pass that a session borrowed knows the run that the session's note tells. For `after_loan`. Used by: AfterReplyLaws.
 use Rattle.std.specs.Prelude.{Option, Some, None}
 use Rattle.mw_rule.specs.KnownRuns.{ExtendsKnownRun}
 use Rattle.mw_rule.specs.declared.views.View.{View}

@@ -1,6 +1,6 @@
 -- Two replies are to two requests. Two requests of a tenant with one number are one arrival in one run, so one worker served
 -- both, and its pass had not known the reply when the request came.
--- For specs/AfterReplies.
+-- For specs/AfterReplies. Used by: AfterReplyLaws.
 use Rattle.std.specs.Prelude.{ℕ, ◌≡◌, ◌≢◌, ◌≤◌, ◌<◌, ◌==◌, ◌&&◌, Bool, true, false, ◌++◌, ◌⊎◌, List, [], ◌∷◌, map, slice_get, Option, Some}
 use Rattle.std.proofs.Common.{refl, sym, ap, subst, ◌∙◌, inl, inr, arith}
 use Rattle.std.proofs.lemmas.Option.{same_Some}

@@ -1,5 +1,5 @@
 -- In each store alone that simulates a tenant, a request that was handed a reply other than WORN has it, or a start has
--- dropped the request.
+-- dropped the request. Used by: RefusedChangeLaws, StoresOfRuns.
 use Rattle.std.specs.Prelude.{ℕ, zero, suc, ◌+◌, ◌==◌, ◌≡◌, ◌≢◌, ◌<◌, ◌≤◌, ◌⊎◌, if◌then◌else◌, Bool, true, false, List, [], ◌∷◌, ◌++◌, slice_get, Option, Some, None}
 use Rattle.std.specs.Option.{option_map, option_to_list}
 use Rattle.std.proofs.Common.{refl, sym, ap, subst, ◌∙◌, inl, inr, arith}

@@ -1,5 +1,5 @@
 -- After lines without a start, the entries that the abstract state has for a request are those with which it came, and the
--- change in doubt is one of these.
+-- change in doubt is one of these. Used by: WholeChangeLaws.
 use Rattle.std.specs.Prelude.{ℕ, zero, suc, ◌≡◌, ◌≢◌, ◌⊎◌, ◌++◌, List, [], ◌∷◌, length, slice_get, Option, Some, None}
 use Rattle.std.proofs.Common.{refl, sym, ap, subst, ◌∙◌, inl, inr, arith, append_assoc, append-nil}
 use Rattle.std.proofs.lemmas.Bool.{cases_eq}

@@ -1,5 +1,5 @@
 -- In each store alone that simulates a tenant, the change in doubt is that of a request which was answered FAULT, and the
--- words are still those that it fits.
+-- words are still those that it fits. Used by: RefusedChangeLaws, StoresOfRuns, WholeChangeLaws.
 use Rattle.std.specs.Prelude.{ℕ, ◌≡◌, ◌≢◌, ◌⊎◌, true, false, List, [], Option, Some, None}
 use Rattle.std.proofs.Common.{refl, sym, ap, subst, ◌∙◌, inl, inr, arith}
 use Rattle.std.proofs.lemmas.Option.{same_Some, none-some}

@@ -1,4 +1,5 @@
 -- After every run some store alone simulates a tenant, of which AnsweredRequests and StoresInDoubt hold too.
+-- Used by: RefusedChangeLaws, WholeChangeLaws.
 use Rattle.std.specs.Prelude.{ℕ, ◌≡◌, ◌<◌, false, ◌++◌, List, [], ◌∷◌, length, slice_get, Option, Some, None}
 use Rattle.std.proofs.Common.{refl, sym, ap, ◌∙◌, inl, inr, arith}
 use Rattle.std.proofs.lemmas.Option.{none-some}

@@ -1,6 +1,6 @@
--- Defines the moments at which a crash may come, of one tenant's file: between two calls, in a call before its event (its one
--- step on the shared words), in a call after it, and in a copy.
--- Used by: specs/Durable/Durable, specs/AfterReplies.
+-- Defines the moments at which a crash may come, of one tenant's file: between two calls, in a call before its device calls, in one
+-- before its event (its one step on the shared words), in one after it, and in a copy.
+-- Used by: specs/Durable/Durable, specs/AfterReplies, specs/NextRuns/FoundAfterCrashes, specs/NextRuns/TablesInTurn.
 use Rattle.std.specs.Prelude.{ℕ, ◌≡◌, List, [], ◌∷◌, Option}
 use mathlib.Core.Option.{some}
 use lib.ListN.{get_elem?}
@@ -58,12 +58,14 @@ module _ {D : Type 0} (facts : D → Facts) where
   -- A crash comes at this moment of the table:
   --
   -- - while no call on the tenant's file is under way;
+  -- - in a call, before its device calls: a thread has the token of before the call. The crash finds the disk of before it;
   -- - in a call, before its event: a thread still has the token of before the call. The crash may find any moment of the whole call;
   -- - in a call, after its event: a thread has the token of after the call, whose device calls are over;
   -- - in a copy for a backup, which is no call of the model: the file is only read, from the book that the file pass is kept with to
   --   this one. The crash may find any moment of the copy.
   pub data CrashMoment (s : Table ActorState View) (tenant : ℕ) : Type 0 where
     AtRest : IsAtRest s tenant → CrashMoment s tenant
+    BeforeDeviceCalls : (call : CallOnFile tenant) → IsHeld s call.token → CrashMoment s tenant
     BeforeTheEvent : (call : CallOnFile tenant) → IsHeld s call.token → CrashMoment s tenant
     AfterTheEvent : (call : CallOnFile tenant) → IsHeld s call.kept → CrashMoment s tenant
     InACopy : (rest : IsAtRest s tenant) (after : Book D) → IsOnlyRead facts rest.book after → CrashMoment s tenant
@@ -72,13 +74,15 @@ module _ {D : Type 0} (facts : D → Facts) where
     -- the token that a thread has at that moment
     abbrev pub token_at : CrashMoment s tenant → FileToken
     token_at (AtRest rest) = file_kept rest.file_pass
+    token_at (BeforeDeviceCalls call held) = call.token
     token_at (BeforeTheEvent call held) = call.token
     token_at (AfterTheEvent call held) = call.kept
     token_at (InACopy rest after read) = file_kept rest.file_pass
 
-    -- The change at stake: the one that the call seals, before its event. Else it is the one in doubt.
+    -- The change at stake: the one that the call seals, from its device calls to its event. Else it is the one in doubt.
     abbrev pub stake_at : CrashMoment s tenant → List Entry
     stake_at (AtRest rest) = (file_kept rest.file_pass).doubt
+    stake_at (BeforeDeviceCalls call held) = call.token.doubt
     stake_at (BeforeTheEvent call held) = stake_by call.once.end call.once.called call.token
     stake_at (AfterTheEvent call held) = call.kept.doubt
     stake_at (InACopy rest after read) = (file_kept rest.file_pass).doubt
@@ -86,6 +90,7 @@ module _ {D : Type 0} (facts : D → Facts) where
     -- the tenant's disk at the first moment that the crash may find
     abbrev pub first_disk : CrashMoment s tenant → Option D
     first_disk (AtRest rest) = disk_in rest.book.held
+    first_disk (BeforeDeviceCalls call held) = disk_in call.before.held
     first_disk (BeforeTheEvent call held) = disk_in call.before.held
     first_disk (AfterTheEvent call held) = disk_in call.after.held
     first_disk (InACopy rest after read) = disk_in rest.book.held
@@ -93,6 +98,7 @@ module _ {D : Type 0} (facts : D → Facts) where
     -- and at the last one
     abbrev pub last_disk : CrashMoment s tenant → Option D
     last_disk (AtRest rest) = disk_in rest.book.held
+    last_disk (BeforeDeviceCalls call held) = disk_in call.before.held
     last_disk (BeforeTheEvent call held) = disk_in call.after.held
     last_disk (AfterTheEvent call held) = disk_in call.after.held
     last_disk (InACopy rest after read) = disk_in after.held

@@ -12,7 +12,7 @@ use Rattle.mw_world.specs.Definition.Events.{WorldEvent}
 use Rattle.mw_world.specs.Definition.State.{State, TenantStart, marks_of, store_at, store_of, tenants_of, world_at}
 use Rattle.mw_world.specs.Definition.World.{replies_to}
 use Rattle.mw_law_threads.specs.NextRuns.LaterStores.{IsLater, later_mark, later_reply}
-use Rattle.mw_law_threads.specs.NextRuns.OneStore.{IsFoundAfter}
+use Rattle.mw_law_threads.specs.NextRuns.FoundAfter.{IsFoundAfter}
 
 -- One server's run, and which of its tenants is meant: the server's configuration, what its start gave, its events, and its last world.
 pub record ServerRun : Type 0 where

@@ -1,4 +1,4 @@
--- Proves a goal (proof obligation) of next_report (src/report.rt): each further line of a report keeps its loop's invariant.
+-- Goals of `next_report` (src/report.rt): each further line of a report keeps its loop's invariant.
 use Rattle.std.specs.Prelude.{All, List}
 use Rattle.std.proofs.Common.{subst, sym}
 use Rattle.std.proofs.lemmas.List.Elements.{All-push}

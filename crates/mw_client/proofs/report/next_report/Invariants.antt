@@ -1,4 +1,4 @@
--- The invariant of the loop of next_report (src/report.rt), which reads a report line by line.
+-- The loop invariant of `next_report` (src/report.rt), which reads a report line by line.
 use Rattle.std.specs.Prelude.{All}
 use Rattle.std.specs.Io.KnownBytes.{Consumes}
 use Rattle.mw_report.specs.Table.{IsWithinLimits}

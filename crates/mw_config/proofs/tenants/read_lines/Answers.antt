@@ -1,5 +1,5 @@
 -- Goals of `read_lines` (src/tenants.rt).
-use Rattle.std.proofs.Common.{◌≡◌, List, subst, rules}
+use Rattle.std.proofs.Common.{List, subst}
 use Rattle.mw_config.specs.declared.lines.TenantLine.{TenantLine}
 use Rattle.mw_config.specs.LineTexts.{line_of, lines_of}
 use Rattle.mw_config.specs.LineReader.{Continues}
@@ -12,6 +12,5 @@ loop-rest-preserved c =
     let rest = c.loop-rest.rest.now in
     let after = c.in_ok-tenant.after.now in
     let line = line_of c.in_ok-tenant.tenant in
-    let same : c.deref.result.now ≡ items = search rules in
-    let continues = subst (λ (ts : List TenantLine). Continues (lines_of ts) rest line after) same c.in_ok-tenant.ensures in
+    let continues = subst (λ (ts : List TenantLine). Continues (lines_of ts) rest line after) c.deref.ensures.0 c.in_ok-tenant.ensures in
     tenants_more items c.push.new.self.items c.in_ok-tenant.tenant rest after c.args.text.now c.loop-rest.invariant continues c.push.ensures.items

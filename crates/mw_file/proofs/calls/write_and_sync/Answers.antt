@@ -1,8 +1,8 @@
 -- Goals of `write_and_sync` (src/calls.rt).
 use Rattle.std.proofs.Common.{length, true, false, arith}
-use Rattle.mw_disk.proofs.RunLaws.{good_call, bad_call, called_later, still_honest, touched_trans, touched_write, touched_quiet}
+use Rattle.mw_disk.proofs.RunLaws.{good_call, bad_call, called_later, still_honest, touched_trans, touched_write, touched_quiet, good_trans, later_trans}
 use Rattle.mw_file.specs.RollForward.{InRange}
-use Rattle.mw_file.proofs.Ran.{stops}
+use Rattle.mw_file.proofs.Ran.{stops, ran_err}
 use Rattle.mw_file.proofs.calls.write_and_sync.Goals as goal
 
 pub returns-in_err-sync-clause-touched : goal.returns-in_err-sync-clause-touched
@@ -43,3 +43,23 @@ returns-in_err-sync-clause-calls g c =
     let new = g.D.Disk.facts c.sync.new.self in
     stops 1 1 2 old mid new _ (omega arith) (good_call old mid c.in_ok-write_at.ensures.call) (bad_call mid new c.in_err-sync.ensures.call (λ honest. c.in_err-sync.ensures.spared))
     c.from_residual-in_err-sync.ensures.0
+
+pub returns-in_err-write_at-clause-calls : goal.returns-in_err-write_at-clause-calls
+returns-in_err-write_at-clause-calls g c =
+    let old = g.D.Disk.facts c.args.disk.now in
+    let mid = g.D.Disk.facts c.write_at.new.self in
+    ran_err 1 2 old mid _ (omega arith) (bad_call old mid c.in_err-write_at.ensures.call (λ honest. c.in_err-write_at.ensures.spared)) c.from_residual.ensures.0
+
+pub returns-clause-calls : goal.returns-clause-calls
+returns-clause-calls g c =
+    let old = g.D.Disk.facts c.args.disk.now in
+    let mid = g.D.Disk.facts c.write_at.new.self in
+    let new = g.D.Disk.facts c.sync.new.self in
+    good_trans 1 1 old mid new (good_call old mid c.in_ok-write_at.ensures.call) (good_call mid new c.in_ok-sync.ensures.call)
+
+pub returns-clause-later : goal.returns-clause-later
+returns-clause-later g c =
+    let old = g.D.Disk.facts c.args.disk.now in
+    let mid = g.D.Disk.facts c.write_at.new.self in
+    let new = g.D.Disk.facts c.sync.new.self in
+    later_trans old mid new (called_later old mid true c.in_ok-write_at.ensures.call) (called_later mid new true c.in_ok-sync.ensures.call)

@@ -1,7 +1,7 @@
 -- Goals of `front` (src/copies.rt).
-use Rattle.std.proofs.Common.{◌≡◌, ◌+◌, ℕ, length, min, arith, sym, ap, ◌∙◌, refl, true, subst}
+use Rattle.std.proofs.Common.{◌≡◌, ◌+◌, ℕ, length, min, arith, sym, ap, ◌∙◌, refl, true, subst, false}
 use Rattle.mw_disk.specs.Runs.{Good}
-use Rattle.mw_disk.proofs.RunLaws.{good_call, good_trans, then_bad, bad_wider, called_later, still_honest, touched_trans, touched_quiet}
+use Rattle.mw_disk.proofs.RunLaws.{good_call, good_trans, then_bad, bad_wider, called_later, still_honest, touched_trans, touched_quiet, later_trans}
 use Rattle.mw_record.specs.declared.layout.TheConstants.{MAX_FILE}
 use Rattle.mw_file.specs.RollForward.{Nowhere}
 use Rattle.mw_file.proofs.Ended.{went_well}
@@ -52,3 +52,25 @@ returns-clause-touched g c honest =
     let f2 = g.D.Disk.facts c.read_front.new.disk in
     touched_trans Nowhere f0 f1 f2 (touched_quiet Nowhere f0 f1 true c.in-Ok.ensures.call (c.in-Ok.ensures.crash honest) (c.in-Ok.ensures.same honest))
     (c.read_front.ensures.touched (still_honest f0 f1 (called_later f0 f1 true c.in-Ok.ensures.call) honest))
+
+pub returns-then-is_err-clause-later : goal.returns-then-is_err-clause-later
+returns-then-is_err-clause-later g c =
+    let f0 = g.D.Disk.facts c.args.disk.now in
+    let f1 = g.D.Disk.facts c.len.new.self in
+    let f2 = g.D.Disk.facts c.read_front.new.disk in
+    later_trans f0 f1 f2 (called_later f0 f1 true c.in-Ok.ensures.call) c.read_front.ensures.later
+
+pub returns-clause-later : goal.returns-clause-later
+returns-clause-later g c =
+    let f0 = g.D.Disk.facts c.args.disk.now in
+    let f1 = g.D.Disk.facts c.len.new.self in
+    let f2 = g.D.Disk.facts c.read_front.new.disk in
+    later_trans f0 f1 f2 (called_later f0 f1 true c.in-Ok.ensures.call) c.read_front.ensures.later
+
+pub returns-in_default-clause-touched : goal.returns-in_default-clause-touched
+returns-in_default-clause-touched g c honest =
+    touched_quiet Nowhere (g.D.Disk.facts c.args.disk.now) (g.D.Disk.facts c.len.new.self) false c.in_default.ensures.call (c.in_default.ensures.crash honest) (c.in_default.ensures.same honest)
+
+pub returns-in_default-vec-clause-touched : goal.returns-in_default-vec-clause-touched
+returns-in_default-vec-clause-touched g c honest =
+    touched_quiet Nowhere (g.D.Disk.facts c.args.disk.now) (g.D.Disk.facts c.len.new.self) true c.in-Ok.ensures.call (c.in-Ok.ensures.crash honest) (c.in-Ok.ensures.same honest)

@@ -3,14 +3,14 @@ use Rattle.std.proofs.Common.{◌≤◌, ℕ, List, [], ◌∷◌, length, true,
 use Rattle.mw_disk.specs.DeviceCalls.{Sync, WriteAt}
 use Rattle.mw_disk.proofs.MakesLaws.{makes_one, makes_step}
 use Rattle.mw_disk.specs.Facts.{patched}
-use Rattle.mw_disk.proofs.RunLaws.{good_call, bad_call, good_trans, called_later, still_honest}
+use Rattle.mw_disk.proofs.RunLaws.{good_call, bad_call, good_trans, called_later, still_honest, later_trans}
 use Rattle.mw_record.specs.declared.layout.TheConstants.{SECOND_AT, WORD_SIZE}
 use Rattle.mw_record.specs.Layout.{number_bytes}
 use Rattle.mw_record.proofs.ReadBytes.{length-number_bytes}
 use Rattle.mw_file.specs.RollForward.{InRange}
 use Rattle.mw_file.proofs.Grown.{grown_write, grown_quiet, grown_more}
 use Rattle.mw_file.proofs.Migrated.{laid_bytes}
-use Rattle.mw_file.proofs.Ran.{stops}
+use Rattle.mw_file.proofs.Ran.{stops, ran_err}
 use Rattle.mw_file.proofs.migration.lay.Goals as goal
 
 pub returns-in_err-write_at-2-clause-calls : goal.returns-in_err-write_at-2-clause-calls
@@ -118,3 +118,44 @@ returns-clause-made g c =
     (makes_step g.D.Disk.made told (Sync ∷ []) true c.write_at.new.self c.write_at-2.new.self c.sync.new.self
     (subst (λ (bs : List ℕ). g.D.Disk.made (WriteAt SECOND_AT bs) true c.write_at.new.self c.write_at-2.new.self) c.home_word.ensures.bytes c.in_ok-write_at-2.ensures.made)
     (makes_one g.D.Disk.made Sync true c.write_at-2.new.self c.sync.new.self c.in_ok-sync.ensures.made))
+
+pub returns-in_err-write_at-clause-calls : goal.returns-in_err-write_at-clause-calls
+returns-in_err-write_at-clause-calls g c =
+    let old = g.D.Disk.facts c.args.disk.now in
+    let one = g.D.Disk.facts c.write_at.new.self in
+    ran_err 1 3 old one _ (omega arith) (bad_call old one c.in_err-write_at.ensures.call (λ honest. c.in_err-write_at.ensures.spared)) c.from_residual.ensures.0
+
+pub returns-in_err-write_at-clause-grown : goal.returns-in_err-write_at-clause-grown
+returns-in_err-write_at-clause-grown g c honest =
+    let old = g.D.Disk.facts c.args.disk.now in
+    let one = g.D.Disk.facts c.write_at.new.self in
+    grown_write (InRange SECOND_AT WORD_SIZE) c.args.at old one false c.in_err-write_at.ensures.call c.args.at (length c.args.second.now)
+    (c.in_err-write_at.ensures.crash honest) (c.in_err-write_at.ensures.torn honest) (λ k from to low. absurd (omega (arith, from, low)))
+
+pub returns-clause-calls : goal.returns-clause-calls
+returns-clause-calls g c =
+    let old = g.D.Disk.facts c.args.disk.now in
+    let one = g.D.Disk.facts c.write_at.new.self in
+    let two = g.D.Disk.facts c.write_at-2.new.self in
+    let new = g.D.Disk.facts c.sync.new.self in
+    good_trans 2 1 old two new
+    (good_trans 1 1 old one two (good_call old one c.in_ok-write_at.ensures.call) (good_call one two c.in_ok-write_at-2.ensures.call))
+    (good_call two new c.in_ok-sync.ensures.call)
+
+pub returns-clause-later : goal.returns-clause-later
+returns-clause-later g c =
+    let old = g.D.Disk.facts c.args.disk.now in
+    let one = g.D.Disk.facts c.write_at.new.self in
+    let two = g.D.Disk.facts c.write_at-2.new.self in
+    let new = g.D.Disk.facts c.sync.new.self in
+    later_trans old two new
+    (later_trans old one two (called_later old one true c.in_ok-write_at.ensures.call) (called_later one two true c.in_ok-write_at-2.ensures.call))
+    (called_later two new true c.in_ok-sync.ensures.call)
+
+pub returns-clause-rest : goal.returns-clause-rest
+returns-clause-rest g c honest =
+    let old = g.D.Disk.facts c.args.disk.now in
+    let one = g.D.Disk.facts c.write_at.new.self in
+    let two = g.D.Disk.facts c.write_at-2.new.self in
+    let honest1 = still_honest old one (called_later old one true c.in_ok-write_at.ensures.call) honest in
+    c.in_ok-sync.ensures.durable (still_honest one two (called_later one two true c.in_ok-write_at-2.ensures.call) honest1)

@@ -1,10 +1,10 @@
 -- Goals of `migrate` (src/migration.rt).
 use Rattle.std.proofs.Common.{true, false, arith}
 use Rattle.mw_disk.specs.DeviceCalls.{Makes}
-use Rattle.mw_disk.proofs.MakesLaws.{makes_after}
+use Rattle.mw_disk.proofs.MakesLaws.{makes_after, makes_cut}
 use Rattle.mw_disk.proofs.Remembered.{on_err}
 use Rattle.mw_file.specs.OpeningCalls.{lay_list, migration_list, switch_list}
-use Rattle.mw_disk.proofs.RunLaws.{still_honest}
+use Rattle.mw_disk.proofs.RunLaws.{still_honest, later_trans}
 use Rattle.mw_file.proofs.Migrated.{laying_moments, laying_read, switch_fits, switching_moments, switching_read, migrated, low_enough, reaches, laying_grown, switching_grown, all_given}
 use Rattle.mw_file.proofs.Ran.{stops, goes_on}
 use Rattle.mw_file.proofs.migration.migrate.Goals as goal
@@ -151,3 +151,12 @@ returns-in_err-write_and_sync-clause-made g c =
 pub returns-clause-made : goal.returns-clause-made
 returns-clause-made g c =
     makes_after g.D.Disk.made (lay_list c.args.at c.args.second.now) switch_list true c.args.disk.now c.lay.new.disk c.write_and_sync.new.disk c.in_ok-lay.ensures.made c.in_ok-write_and_sync.ensures.made
+
+pub returns-in_err-lay-clause-made : goal.returns-in_err-lay-clause-made
+returns-in_err-lay-clause-made g c =
+    on_err (λ ok. Makes g.D.Disk.made (migration_list c.args.at c.args.second.now) ok c.args.disk.now c.lay.new.disk) _ c.from_residual.ensures.0
+    (makes_cut g.D.Disk.made (lay_list c.args.at c.args.second.now) switch_list c.args.disk.now c.lay.new.disk c.in_err-lay.ensures.made)
+
+pub returns-clause-later : goal.returns-clause-later
+returns-clause-later g c =
+    later_trans (g.D.Disk.facts c.args.disk.now) (g.D.Disk.facts c.lay.new.disk) (g.D.Disk.facts c.write_and_sync.new.disk) c.lay.ensures.later c.write_and_sync.ensures.later

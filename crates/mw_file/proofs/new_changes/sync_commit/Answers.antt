@@ -3,7 +3,7 @@ use Rattle.std.proofs.Common.{◌+◌, [], ◌∷◌, ◌++◌, length, inl, tru
 use Rattle.mw_disk.specs.DeviceCalls.{WriteAt, Sync, Makes}
 use Rattle.mw_disk.proofs.MakesLaws.{makes_after, makes_cut}
 use Rattle.mw_disk.proofs.Remembered.{on_err}
-use Rattle.mw_disk.proofs.RunLaws.{still_honest, leaves_wider}
+use Rattle.mw_disk.proofs.RunLaws.{still_honest, leaves_wider, later_trans}
 use Rattle.mw_record.specs.declared.layout.TheConstants.{COMMITTED}
 use Rattle.mw_file.specs.DeviceCalls.{record_calls, seal_calls}
 use Rattle.mw_file.proofs.Ran.{goes_on, stops, ran_err}
@@ -120,3 +120,10 @@ returns-clause-done g c contents states next can may staged =
     let touched = c.write_and_sync.ensures.touched honest fits in
     committed_with start mid new c.args.at c.args.words contents states c.args.ahead.now can kept c.args.place.0 may at is_at touched next (c.in_ok-write_and_sync.ensures.rest honest)
     (c.in_ok-write_and_sync.ensures.written honest) (c.in_ok-write_records.ensures.written contents states can) staged
+
+pub returns-clause-later : goal.returns-clause-later
+returns-clause-later g c =
+    let old = g.D.Disk.facts c.args.disk.now in
+    let mid = g.D.Disk.facts c.write_records.new.disk in
+    let new = g.D.Disk.facts c.write_and_sync.new.disk in
+    later_trans old mid new c.write_records.ensures.later c.write_and_sync.ensures.later

@@ -3,7 +3,7 @@ use Rattle.std.proofs.Common.{◌+◌, [], ◌∷◌, ◌++◌, length, true, fa
 use Rattle.mw_disk.specs.DeviceCalls.{Sync, Makes}
 use Rattle.mw_disk.proofs.MakesLaws.{makes_one, makes_after, makes_cut}
 use Rattle.mw_disk.proofs.Remembered.{on_err}
-use Rattle.mw_disk.proofs.RunLaws.{good_call, bad_call, still_honest}
+use Rattle.mw_disk.proofs.RunLaws.{good_call, bad_call, still_honest, later_trans, called_later}
 use Rattle.mw_file.specs.DeviceCalls.{record_calls}
 use Rattle.mw_file.proofs.Ran.{goes_on, stops, ran_err}
 use Rattle.mw_file.proofs.RecordWrites.{recorded_quiet, synced_with}
@@ -75,3 +75,10 @@ returns-clause-done g c contents states can =
     let honest = still_honest start mid c.write_records.ensures.later can.honest in
     synced_with start mid new c.args.at c.args.words contents states c.args.changes.now can (c.write_records.ensures.kept contents states can) true c.in_ok-sync.ensures.call
     (c.in_ok-sync.ensures.crash honest) (c.in_ok-sync.ensures.same honest) (c.in_ok-sync.ensures.durable honest) (c.in_ok-write_records.ensures.written contents states can)
+
+pub returns-clause-later : goal.returns-clause-later
+returns-clause-later g c =
+    let old = g.D.Disk.facts c.args.disk.now in
+    let mid = g.D.Disk.facts c.write_records.new.disk in
+    let new = g.D.Disk.facts c.sync.new.self in
+    later_trans old mid new c.write_records.ensures.later (called_later mid new true c.in_ok-sync.ensures.call)

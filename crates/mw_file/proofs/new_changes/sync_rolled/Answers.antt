@@ -3,7 +3,7 @@ use Rattle.std.proofs.Common.{◌+◌, ◌++◌, length, true, false, arith}
 use Rattle.mw_disk.specs.DeviceCalls.{Makes}
 use Rattle.mw_disk.proofs.MakesLaws.{makes_after, makes_cut}
 use Rattle.mw_disk.proofs.Remembered.{on_err}
-use Rattle.mw_disk.proofs.RunLaws.{still_honest, leaves_wider}
+use Rattle.mw_disk.proofs.RunLaws.{still_honest, leaves_wider, later_trans}
 use Rattle.mw_file.specs.DeviceCalls.{record_calls, roll_device_calls}
 use Rattle.mw_file.specs.PlaceStates.{roll_calls}
 use Rattle.mw_file.proofs.Ran.{goes_on, stops, ran_err}
@@ -123,3 +123,10 @@ returns-clause-done g c contents next can are =
     let roll = roll_can start mid new at words contents states ahead can kept honest in
     rolled_with start mid new at words contents states ahead can kept next (c.roll_forward.ensures.read (length states) contents roll) (c.in_ok-roll_forward.ensures.done (length states) contents roll)
     (c.in_ok-write_records.ensures.written contents states can) are
+
+pub returns-clause-later : goal.returns-clause-later
+returns-clause-later g c =
+    let old = g.D.Disk.facts c.args.disk.now in
+    let mid = g.D.Disk.facts c.write_records.new.disk in
+    let new = g.D.Disk.facts c.roll_forward.new.disk in
+    later_trans old mid new c.write_records.ensures.later c.roll_forward.ensures.later

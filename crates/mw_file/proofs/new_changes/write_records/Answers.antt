@@ -91,3 +91,6 @@ returns-clause-made g c =
     let changes = c.args.changes.now in
     let long : length changes ≤ c.loop-change.change-index = (let l = c.loop-change-test.false in omega arith) in
     continues_end g.D.Disk.made _ _ c.args.disk.now c.loop-change.disk c.loop-change.invariant.3 (no_records c.args.at c.args.words changes c.loop-change.change-index long)
+
+pub returns-clause-kept : goal.returns-clause-kept
+returns-clause-kept g c contents states can = (c.loop-change.invariant.2 contents states can).0

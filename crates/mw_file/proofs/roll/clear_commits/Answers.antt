@@ -1,8 +1,8 @@
 -- Goals of `clear_commits` (src/roll.rt).
-use Rattle.std.proofs.Common.{◌<◌, ◌≤◌, ◌+◌, [], ◌∷◌, ◌++◌, ◌∙◌, length, take, arith, ap, true, false}
+use Rattle.std.proofs.Common.{◌<◌, ◌≤◌, ◌+◌, [], ◌∷◌, ◌++◌, ◌∙◌, length, take, arith, ap, true, false, ◌≡◌, ℕ, sym, subst, drop, slice_index}
 use Rattle.std.proofs.lemmas.List.{take_all}
 use Rattle.std.proofs.lemmas.List.Sums.{sum_by_more, sum_by_more_le}
-use Rattle.mw_disk.proofs.RunLaws.{bad_call, later_trans, still_honest, touched_trans, touched_quiet}
+use Rattle.mw_disk.proofs.RunLaws.{bad_call, later_trans, still_honest, touched_trans, touched_quiet, good_call, called_later, good_none, later_refl, touched_none}
 use Rattle.mw_record.specs.declared.layout.Layout.TheVariants.{Second}
 use Rattle.mw_record.specs.Layout.{place_at}
 use Rattle.mw_file.specs.PlaceStates.{commit_writes, commit_writes_of}
@@ -133,3 +133,36 @@ returns-clause-made g c =
     makes_after g.D.Disk.made all (Sync ∷ []) true c.args.disk.now c.loop-state.disk c.sync.new.self
     (continues_end g.D.Disk.made _ _ c.args.disk.now c.loop-state.disk c.loop-state.invariant.4 (no_clears c.args.at c.args.words c.args.first states k long))
     (makes_one g.D.Disk.made Sync true _ _ c.in_ok-sync.ensures.made)
+
+pub returns-clause-calls : goal.returns-clause-calls
+returns-clause-calls g c =
+    let states = c.args.states.now in
+    let k = c.loop-state.state-index in
+    let all = ap commit_writes (take_all k states (let l = c.loop-state-test.false in omega arith)) in
+    let mid = g.D.Disk.facts c.loop-state.disk in
+    let new = g.D.Disk.facts c.sync.new.self in
+    goes_on (commit_writes (take k states)) 1 (commit_writes states + 1) _ mid new (omega (arith, all)) c.loop-state.invariant.1 (good_call mid new c.in_ok-sync.ensures.call)
+
+pub returns-clause-later : goal.returns-clause-later
+returns-clause-later g c =
+    let mid = g.D.Disk.facts c.loop-state.disk in
+    let new = g.D.Disk.facts c.sync.new.self in
+    later_trans _ mid new c.loop-state.invariant.2 (called_later mid new true c.in_ok-sync.ensures.call)
+
+pub loop-state-init : goal.loop-state-init
+loop-state-init g c =
+    let start = g.D.Disk.facts c.args.disk.now in
+    let from : c.args.first + 0 ≡ c.args.first = omega arith in (
+      sym from,
+      good_none start,
+      later_refl start,
+      λ honest fits. (touched_none (Behind c.args.at (AtCommits c.args.words c.args.first c.args.states.now)) start, λ place low sealed. absurd (omega (arith, low))),
+      λ well end makes. subst (λ (n : ℕ). Makes g.D.Disk.made (clear_calls c.args.at c.args.words n c.args.states.now) well c.args.disk.now end) from makes,
+    )
+
+pub returns-clause-shut : goal.returns-clause-shut
+returns-clause-shut g c honest fits place low sealed =
+    let start = g.D.Disk.facts c.args.disk.now in
+    let mid = g.D.Disk.facts c.loop-state.disk in
+    ap (λ bs. slice_index (drop c.args.at bs) (place_at Second c.args.words (c.args.first + place))) (c.in_ok-sync.ensures.same (still_honest start mid c.loop-state.invariant.2 honest))
+    ∙ (c.loop-state.invariant.3 honest fits).1 place (omega (arith, low, c.loop-state-test.false)) sealed

@@ -1,7 +1,7 @@
 -- Goals of `roll_forward` (src/roll.rt).
 use Rattle.std.proofs.Common.{◌+◌, [], ◌∷◌, ◌++◌, true, false, arith}
 use Rattle.mw_file.specs.PlaceStates.{home_writes, commit_writes, roll_calls}
-use Rattle.mw_disk.proofs.RunLaws.{still_honest}
+use Rattle.mw_disk.proofs.RunLaws.{still_honest, later_trans}
 use Rattle.mw_file.proofs.Rolled.{has_homes, are_below, homes_moments, homes_alone, homes_read, commits_fit, commits_moments, commits_alone, commits_read, rolled}
 use Rattle.mw_disk.specs.DeviceCalls.{Sync, Makes}
 use Rattle.mw_disk.proofs.Remembered.{on_err}
@@ -198,3 +198,10 @@ returns-clause-made g c =
     let homes = home_calls c.args.at c.args.states.now ++ Sync ∷ [] in
     let clears = clear_calls c.args.at c.args.words c.args.first c.args.states.now ++ Sync ∷ [] in
     makes_after g.D.Disk.made homes clears true _ _ _ c.in_ok-write_homes.ensures.made c.in_ok-clear_commits.ensures.made
+
+pub returns-clause-later : goal.returns-clause-later
+returns-clause-later g c =
+    let old = g.D.Disk.facts c.args.disk.now in
+    let mid = g.D.Disk.facts c.write_homes.new.disk in
+    let new = g.D.Disk.facts c.clear_commits.new.disk in
+    later_trans old mid new c.write_homes.ensures.later c.clear_commits.ensures.later

@@ -1,7 +1,7 @@
 -- Goals of `write_values` (src/roll.rt).
 use Rattle.std.proofs.Common.{◌≡◌, [], ◌∷◌, true, false, drop, ◌^◌, ℕ, ◌≤◌, ◌+◌, ◌<◌, length, take, map, get_or, ap, ◌∙◌, arith, subst}
 use Rattle.std.proofs.lemmas.List.{take_all}
-use Rattle.mw_disk.proofs.RunLaws.{good_call, called_later, later_trans, still_honest}
+use Rattle.mw_disk.proofs.RunLaws.{good_call, called_later, later_trans, still_honest, bad_call, good_none, later_refl}
 use Rattle.mw_record.specs.declared.layout.TheConstants.{WORD_SIZE}
 use Rattle.mw_record.specs.Records.{Pairs, over, home}
 use Rattle.mw_record.specs.Layout.{home_at, number_bytes}
@@ -9,9 +9,9 @@ use Rattle.mw_record.proofs.ReadBytes.{length-number_bytes}
 use Rattle.mw_disk.specs.DeviceCalls.{Makes}
 use Rattle.mw_disk.proofs.Remembered.{on_err}
 use Rattle.mw_file.specs.DeviceCalls.{home_call}
-use Rattle.mw_file.proofs.CallLoops.{continues_next, continues_fall, continues_end, values_from, no_values, one_value}
-use Rattle.mw_file.proofs.Ran.{goes_on}
-use Rattle.mw_file.proofs.OneWrite.{next_touched, next_put}
+use Rattle.mw_file.proofs.CallLoops.{continues_next, continues_fall, continues_end, values_from, no_values, one_value, continues_start}
+use Rattle.mw_file.proofs.Ran.{goes_on, stops}
+use Rattle.mw_file.proofs.OneWrite.{next_touched, next_put, put_none}
 use Rattle.mw_file.proofs.roll.write_values.Goals as goal
 
 pub returns-in_err-write_at-clause-touched : goal.returns-in_err-write_at-clause-touched
@@ -82,3 +82,25 @@ returns-clause-made g c =
     let k = c.loop-write.write-index in
     let long : length writes ≤ k = (let l = c.loop-write-test.false in let m = ap length c.as_slice-write-items.ensures.value in omega arith) in
     continues_end g.D.Disk.made _ _ c.args.disk.now c.loop-write.disk c.loop-write.invariant.3 (no_values c.args.at writes k long)
+
+pub returns-in_err-write_at-clause-calls : goal.returns-in_err-write_at-clause-calls
+returns-in_err-write_at-clause-calls g c =
+    let old = g.D.Disk.facts c.loop-write.disk in
+    let new = g.D.Disk.facts c.write_at.new.self in
+    let k = c.loop-write.write-index in
+    let count = length c.args.writes.now.items in
+    let within : k < count = (let l = c.loop-write-test.true in let m = ap length c.as_slice-write-items.ensures.value in omega arith) in
+    stops k 1 count _ old new _ (omega (arith, within)) c.loop-write.invariant.0
+    (bad_call old new c.in_err-write_at.ensures.call (λ honest. c.in_err-write_at.ensures.spared)) c.from_residual.ensures.0
+
+pub returns-clause-touched : goal.returns-clause-touched
+returns-clause-touched g c words has below = (c.loop-write.invariant.2 words has below).touched
+
+pub loop-write-init : goal.loop-write-init
+loop-write-init g c =
+    let start = g.D.Disk.facts c.args.disk.now in (
+      good_none start,
+      later_refl start,
+      λ words has below. put_none c.args.at words c.args.writes.now.items start,
+      continues_start g.D.Disk.made (map (home_call c.args.at) c.args.writes.now.items) c.args.disk.now,
+    )

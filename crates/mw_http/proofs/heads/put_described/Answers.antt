@@ -1,4 +1,4 @@
--- The two fields are put one after the other.
+-- Goals of `put_described` (src/heads.rt): the two fields are put one after the other.
 use Rattle.std.proofs.Common.{List, ℕ, ◌++◌, codes, decimal, ap, ◌∙◌, append_assoc}
 use Rattle.mw_http.specs.Heads.{described, field, type_text}
 use Rattle.mw_http.proofs.heads.put_described.Goals as goal

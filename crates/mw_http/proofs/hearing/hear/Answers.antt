@@ -1,4 +1,4 @@
--- What a fresh server of http1 reads or refuses is what is heard.
+-- Goals of `hear` (src/hearing.rt): what a fresh server of http1 reads or refuses is what is heard.
 use Rattle.std.proofs.Common.{ap, ◌∙◌, Some, map}
 use Rattle.std.specs.Prelude.{string_bytes}
 use Rattle.std.proofs.Common.{inr}

@@ -1,5 +1,5 @@
 -- At the few points where a worker's attempt is in a word, its new intent (that attempt, or a permission to hold the word)
--- has its precondition.
+-- has its precondition. Used by: ReadGuards, UpdateGuards.
 use Rattle.std.specs.Prelude.{ℕ, ◌≡◌, ◌≢◌, ◌<◌, ◌==◌, Bool, true, false, if◌then◌else◌}
 use Rattle.std.proofs.Common.{refl, sym, ap, subst, ◌∙◌, arith}
 use Rattle.std.proofs.lemmas.Bool.Decides.{nat_tests}

@@ -1,5 +1,5 @@
 -- If a request knows the facts of its point, each move (elementary change) of a door or a gate has its precondition
--- (`Guard`).
+-- (`Guard`). Used by: UpdateGuards.
 use Rattle.std.specs.Prelude.{ℕ, ◌≡◌, ◌<◌, ◌≤◌, ◌+◌, ◌-◌, Bool, true, false, cond, List}
 use Rattle.std.proofs.Common.{refl, sym, ap, subst, ◌∙◌, arith}
 use Rattle.std.proofs.lemmas.Bool.Decides.{nat_tests}

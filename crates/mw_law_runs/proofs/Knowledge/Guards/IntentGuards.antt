@@ -1,5 +1,5 @@
 -- After most steps a worker has no attempt in a word and no permission to hold one. So its new intent (either of the two) has
--- its precondition.
+-- its precondition. Used by: Attempts, ReadGuards, UpdateGuards.
 use Rattle.std.specs.Prelude.{ℕ, ◌≡◌, ◌≢◌, ◌+◌, ◌==◌, ◌&&◌, ◌||◌, Bool, false, nat_lt, nat_le, length, Option, Some, None}
 use Rattle.std.proofs.Common.{sym, ◌∙◌}
 use Rattle.mw_words.specs.declared.doors.Door.{Door}

@@ -1,5 +1,5 @@
 -- Moves (elementary changes) that write a change into its slot, decide it, or change a data word for it have their
--- preconditions (`Guard`).
+-- preconditions (`Guard`). Used by: UpdateGuards.
 use Rattle.std.specs.Prelude.{ℕ, ◌≡◌, ◌<◌, ◌≤◌, ◌^◌, true, List, length}
 use Rattle.std.proofs.Common.{sym, ap, subst, ◌∙◌, inl, inr, arith}
 use Rattle.mw_words.specs.declared.jobs.Entry.{Entry}

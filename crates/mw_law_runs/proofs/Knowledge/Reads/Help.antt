@@ -1,4 +1,4 @@
--- What a request knows while it reads the entries of another request's change, to help it.
+-- What a request knows while it reads the entries of another request's change, to help it. Used by: ByPoint.
 use Rattle.std.specs.Prelude.{ℕ, ◌≡◌, ◌<◌, ◌+◌, ◌&&◌, ◌++◌, Bool, true, false, cond, nat_lt, nat_le, List, [], ◌∷◌, length}
 use Rattle.std.proofs.Common.{refl, sym, ap, subst, ◌∙◌, arith, length-append}
 use Rattle.std.proofs.lemmas.Bool.Decides.{nat_tests}

@@ -1,4 +1,5 @@
 -- What a request knows after it has read its target's status or, if the target is open, one of its words.
+-- Used by: CallGuards, ByPoint, ReleasePhase, among others.
 use Rattle.std.specs.Prelude.{ℕ, ◌≡◌, ◌<◌, ◌≤◌, ◌+◌, ◌==◌, Bool, true, false, nat_lt, List, length}
 use Rattle.std.proofs.Common.{refl, sym, ap, subst, ◌∙◌, inl, arith}
 use Rattle.std.proofs.lemmas.Bool.Decides.{nat_tests}

@@ -1,4 +1,4 @@
--- What a read (a request that reads one word) knows after a step that changes no shared word.
+-- What a read (a request that reads one word) knows after a step that changes no shared word. Used by: ByPoint.
 use Rattle.std.specs.Prelude.{ℕ, ◌≡◌, ◌+◌, ◌-◌, ◌==◌, Bool, true, false, nat_lt, Option, Some, None}
 use Rattle.std.proofs.Common.{refl, subst, ◌∙◌, arith}
 use Rattle.std.proofs.lemmas.Bool.Decides.{nat_tests}

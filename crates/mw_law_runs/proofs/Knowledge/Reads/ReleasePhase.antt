@@ -1,4 +1,4 @@
--- What a request knows after it has read, or released, a word of a decided change.
+-- What a request knows after it has read, or released, a word of a decided change. Used by: ByPoint, Releases.
 use Rattle.std.specs.Prelude.{ℕ, ◌≡◌, ◌≢◌, ◌<◌, ◌+◌, ◌==◌, ◌&&◌, Bool, true, false, cond, nat_lt, List, length}
 use Rattle.std.proofs.Common.{refl, sym, ap, subst, ◌∙◌, inl, inr, arith}
 use Rattle.std.proofs.lemmas.Bool.Decides.{nat_tests}

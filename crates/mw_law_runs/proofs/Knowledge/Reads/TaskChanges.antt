@@ -1,4 +1,5 @@
 -- What a request knows when it starts to work on a change (its own or another's), finishes with one, or gives up.
+-- Used by: AfterCalls, Inspection, ReleasePhase, among others.
 use Rattle.std.specs.Prelude.{ℕ, ◌≡◌, Bool, true, cond}
 use Rattle.std.proofs.Common.{sym, ap, subst, ◌∙◌, arith}
 use Rattle.std.proofs.lemmas.Bool.Decides.{nat_tests}

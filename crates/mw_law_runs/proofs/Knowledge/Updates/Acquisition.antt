@@ -1,5 +1,5 @@
 -- What a request knows after a step by which it holds words: it announces, makes or resolves an attempt, pins another's
--- change, or decides.
+-- change, or decides. Used by: ByPoint, Releases, KnowledgeOverSteps.
 use Rattle.std.specs.Prelude.{ℕ, ◌≡◌, ◌<◌, ◌+◌, Bool, true, false}
 use Rattle.std.proofs.Common.{refl, ap, ◌∙◌, arith}
 use Rattle.std.proofs.lemmas.Bool.Decides.{nat_tests}

@@ -1,4 +1,4 @@
--- What a request knows while it claims a slot and writes its change into it.
+-- What a request knows while it claims a slot and writes its change into it. Used by: AfterCalls, ByPoint.
 use Rattle.std.specs.Prelude.{ℕ, ◌≡◌, ◌≢◌, ◌<◌, ◌≤◌, ◌+◌, Bool, true, false, nat_lt, List, length}
 use Rattle.std.proofs.Common.{refl, ap, subst, ◌∙◌, arith}
 use Rattle.std.proofs.lemmas.Bool.Decides.{nat_tests}

@@ -1,4 +1,5 @@
 -- What a request knows after it has released a word of a decided change, or resolved an attempt that it met there.
+-- Used by: ByPoint.
 use Rattle.std.specs.Prelude.{ℕ, ◌≡◌, ◌≢◌}
 use Rattle.std.proofs.Common.{refl, sym, ap, ◌∙◌}
 use Rattle.mw_look.specs.declared.observations.Observation.TheVariants.{Won}

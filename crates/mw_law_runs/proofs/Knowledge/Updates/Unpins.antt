@@ -1,4 +1,4 @@
--- What a request knows after it has taken a pin back, freed a slot, or counted the slot off its tenant's door.
+-- What a request knows after it has taken a pin back, freed a slot, or counted the slot off its tenant's door. Used by: ByPoint.
 use Rattle.std.specs.Prelude.{ℕ, ◌≡◌, ◌≢◌, ◌≤◌, ◌+◌, ◌==◌, Some}
 use Rattle.std.proofs.Common.{refl, ap, subst, ◌∙◌, arith}
 use Rattle.std.proofs.lemmas.Bool.Decides.{nat_tests}

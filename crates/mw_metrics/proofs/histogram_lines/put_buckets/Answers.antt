@@ -1,4 +1,5 @@
--- The next bucket's line is put, and its number is that of the durations up to its bound.
+-- Goals of `put_buckets` (src/histogram_lines.rt): the next bucket's line is put, and its number is that of the durations up to
+-- its bound.
 use Rattle.std.proofs.Common.{◌≡◌, ◌+◌, ◌-◌, ◌^◌, min, ℕ, arith, ap, sym, ◌∙◌, get_or}
 use Rattle.mw_metrics.specs.Figures.{before}
 use Rattle.mw_metrics.proofs.Buckets.{lines_step, lines_all, before_more}
@@ -12,7 +13,7 @@ loop-bucket-preserved c =
     ∙ sym (before_more c.args.counts.now c.loop-bucket.bucket (omega arith)) in
     record {
       lines = lines_step c.args.family _ _ c.args.counts.now c.args.bounds.now c.loop-bucket.bucket c.loop-bucket.text.bytes.items _ _ c.deref.result.now c.saturating_add-so_far.result
-          (omega arith) c.loop-bucket.invariant.lines (c.deref.ensures.0 ∙ c.seconds.ensures.seconds) so_far c.put_bucket.ensures.line;
+          (omega arith) c.loop-bucket.invariant.lines (c.deref.ensures.0 ∙ c.seconds-bound.ensures.seconds) so_far c.put_bucket.ensures.line;
       so_far = so_far;
       room = omega arith;
     }

@@ -3,7 +3,7 @@ use Rattle.std.proofs.Common.{Option, subst}
 use Rattle.mw_record.specs.Layout.{pairs_of}
 use Rattle.mw_file.specs.File.{states_of}
 use Rattle.mw_lone.specs.Store.{entries_of}
-use Rattle.mw_plain.specs.declared.book.LoadedFile.{LoadedFile}
+use Rattle.mw_plain.specs.declared.loaded_file.LoadedFile.{LoadedFile}
 use Rattle.mw_plain.specs.Refinement.{IsKept}
 use Rattle.mw_plain.proofs.RestartedStores.{found_doubt, found_change, goes_on}
 use Rattle.mw_plain.proofs.restarts.a_restart_goes_on.Goals as goal

@@ -1,4 +1,4 @@
--- Loop invariants of `are_formed` (src/formed.rt).
+-- The loop invariant of `are_formed` (src/formed.rt).
 use Rattle.std.proofs.Common.{◌≡◌, true}
 use Rattle.mw_record.specs.Records as spec
 use Rattle.mw_record.proofs.formed.are_formed.Given as goal

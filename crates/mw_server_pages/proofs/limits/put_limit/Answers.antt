@@ -1,4 +1,4 @@
--- The parts are put one after the other.
+-- Goals of `put_limit` (src/limits.rt): its parts are put one after the other.
 use Rattle.std.proofs.Common.{◌≡◌, ◌++◌, ◌∙◌, List, ℕ, ap, codes, rules}
 use Rattle.mw_server_pages.specs.Escapes.{escaped}
 use Rattle.mw_server_pages.specs.Limits.{kind, limit, nearness, remedy, used}

@@ -1,4 +1,4 @@
--- The parts are put one after the other.
+-- Goals of `put_used` (src/limits.rt): its parts are put one after the other.
 use Rattle.std.proofs.Common.{◌++◌, codes, decimal}
 use Rattle.mw_server_pages.specs.Limits.{used}
 use Rattle.mw_server_pages.proofs.Parts.{before}

@@ -1,4 +1,4 @@
--- The parts are put one after the other.
+-- Goals of `put_cell` (src/recents.rt): its parts are put one after the other.
 use Rattle.std.proofs.Common.{◌≡◌, ◌++◌, codes, decimal, flat_map, rules}
 use Rattle.mw_server_pages.specs.Recents.{cell, point}
 use Rattle.mw_server_pages.proofs.Parts.{before}

@@ -1,4 +1,4 @@
--- The parts are put one after the other.
+-- Goals of `put_recents` (src/recents.rt): its parts are put one after the other.
 use Rattle.std.proofs.Common.{◌++◌, codes, flat_map}
 use Rattle.mw_server_pages.specs.Recents.{recent, recents}
 use Rattle.mw_server_pages.proofs.Parts.{before}

@@ -1,4 +1,4 @@
--- The parts are put one after the other.
+-- Goals of `put_about` (src/status.rt): its parts are put one after the other.
 use Rattle.std.proofs.Common.{codes, ◌++◌}
 use Rattle.mw_server_pages.specs.Escapes.{escaped}
 use Rattle.mw_server_pages.specs.Spans.{span}

@@ -1,4 +1,4 @@
--- The parts are put one after the other.
+-- Goals of `put_end` (src/status.rt): its parts are put one after the other.
 use Rattle.std.proofs.Common.{codes, decimal, rules, ◌++◌, ◌≡◌}
 use Rattle.mw_server_pages.specs.StatusPage.{end}
 use Rattle.mw_server_pages.proofs.Parts.{before}

@@ -1,4 +1,4 @@
--- The parts are put one after the other.
+-- Goals of `put_lease_age` (src/status.rt): its parts are put one after the other.
 use Rattle.std.proofs.Common.{codes, decimal, ◌++◌}
 use Rattle.mw_server_pages.specs.StatusPage.{lease_line}
 use Rattle.mw_server_pages.proofs.Parts.{before}

@@ -1,4 +1,4 @@
--- The parts are put one after the other.
+-- Goals of `put_summary` (src/status.rt): its parts are put one after the other.
 use Rattle.std.proofs.Common.{◌≡◌, ◌++◌, ◌∙◌, List, ℕ, ap, sym, codes, flat_map}
 use Rattle.std.proofs.lemmas.Bool.{cond-false}
 use Rattle.std.specs.List.{list_all}

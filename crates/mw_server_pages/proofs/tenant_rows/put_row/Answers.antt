@@ -1,4 +1,4 @@
--- The parts are put one after the other.
+-- Goals of `put_row` (src/tenant_rows.rt): its parts are put one after the other.
 use Rattle.std.proofs.Common.{◌≡◌, ◌++◌, ◌∙◌, List, ℕ, ap, codes}
 use Rattle.mw_server_pages.specs.StatusPage.{cells, row, state_of}
 use Rattle.mw_server_pages.proofs.Parts.{before}

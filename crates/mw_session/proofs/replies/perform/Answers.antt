@@ -1,4 +1,4 @@
--- Proofs of goals in the contract of perform (src/replies.rt), which the prover can't close alone.
+-- Goals of `perform` (src/replies.rt) that the prover can't close alone.
 use Rattle.std.proofs.Common.{refl, sym, subst}
 use Rattle.mw_line.specs.declared.replies.ErrCode.TheVariants as fault
 use Rattle.mw_line.specs.declared.replies.Say.TheVariants as say

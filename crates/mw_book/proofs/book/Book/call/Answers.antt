@@ -1,4 +1,4 @@
--- Goals of `Book::call` (src/calls.rt).
+-- Goals of `Book::call` (src/book.rt).
 use Rattle.mw_look.specs.declared.steps.Call.TheVariants.{Prepare, Seal, Settle, Cancel}
 use Rattle.mw_book.proofs.FiledCalls.{filed_as}
 use Rattle.mw_book.proofs.book.Book.call.Goals as goal

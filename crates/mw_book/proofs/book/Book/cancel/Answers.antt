@@ -1,4 +1,4 @@
--- Proves a goal (proof obligation) of Book::cancel (src/calls.rt): its contract holds after a prepared change is cancelled.
+-- Goals of `Book::cancel` (src/book.rt): its contract holds after a prepared change is cancelled.
 use Rattle.std.proofs.Common.{refl, sym, ap, subst, arith}
 use Rattle.mw_disk.specs.Runs.{Later}
 use Rattle.mw_disk.proofs.RunLaws.{later_refl}

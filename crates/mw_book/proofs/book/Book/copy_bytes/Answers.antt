@@ -1,4 +1,4 @@
--- Goals of `Book::copy_bytes` (src/copies.rt).
+-- Goals of `Book::copy_bytes` (src/book.rt).
 use Rattle.std.proofs.Common.{refl}
 use Rattle.mw_book.proofs.CopiedFiles.{book_not_read, copy_ended, only_read, still_represent}
 use Rattle.mw_book.proofs.book.Book.copy_bytes.Goals as goal

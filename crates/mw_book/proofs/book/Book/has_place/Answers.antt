@@ -1,4 +1,4 @@
--- Goals of `Book::has_place` (src/queries.rt).
+-- Goals of `Book::has_place` (src/book.rt).
 use Rattle.std.proofs.Common.{nat_lt, ap, ◌∙◌}
 use Rattle.mw_file.specs.File.{states_of}
 use Rattle.mw_book.specs.Permits.{vacant_place}

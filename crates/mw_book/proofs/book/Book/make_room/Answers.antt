@@ -1,4 +1,4 @@
--- Goals of `Book::make_room` (src/calls.rt).
+-- Goals of `Book::make_room` (src/book.rt).
 use Rattle.std.proofs.Common.{◌≡◌, ◌<◌, true, refl, sym, ap, subst, ◌∙◌, arith}
 use Rattle.mw_file.specs.declared.place_states.Stage.TheVariants.{Free}
 use Rattle.mw_file.specs.File.{disk_of, states_of}

@@ -1,4 +1,4 @@
--- Goals of `Book::prepare` (src/calls.rt).
+-- Goals of `Book::prepare` (src/book.rt).
 use Rattle.std.proofs.Common.{◌≡◌, refl, ap, subst, ◌∙◌}
 use Rattle.mw_look.specs.declared.steps.Call.TheVariants.{Prepare as PrepareCall, Cancel as CancelCall}
 use Rattle.mw_book.specs.CallOutcome.{IsFiled}

@@ -1,4 +1,4 @@
--- Goals of `Book::seal` (src/calls.rt).
+-- Goals of `Book::seal` (src/book.rt).
 use Rattle.std.proofs.Common.{◌≡◌, length, refl, sym, subst, ◌∙◌, ◌+◌, arith}
 use Rattle.mw_look.specs.declared.steps.Call.TheVariants.{Seal as SealCall, Cancel as CancelCall}
 use Rattle.mw_file.specs.declared.place_states.Stage.TheVariants.{Prepared}

@@ -1,4 +1,4 @@
--- Goals of `Book::settle` (src/calls.rt).
+-- Goals of `Book::settle` (src/book.rt).
 use Rattle.std.proofs.Common.{◌≡◌, length, ◌+◌, ◌||◌, false, refl, slice_set, subst, sym, ap, ◌∙◌, arith}
 use Rattle.mw_look.specs.declared.steps.Call.TheVariants.{Settle as SettleCall, Cancel as CancelCall}
 use Rattle.mw_file.specs.declared.place_states.Stage.TheVariants.{Sealed}

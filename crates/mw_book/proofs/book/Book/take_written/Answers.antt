@@ -1,4 +1,4 @@
--- Goals of `Book::take_written` (src/calls.rt).
+-- Goals of `Book::take_written` (src/book.rt).
 use Rattle.std.proofs.Common.{◌<◌, refl, sym, ap, subst, ◌∙◌, arith}
 use Rattle.mw_book.specs.declared.place_table.PlaceTable.{PlaceTable}
 use Rattle.mw_book.specs.FilePlaces.{IsPermutation}

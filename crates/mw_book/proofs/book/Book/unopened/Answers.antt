@@ -1,4 +1,4 @@
--- Goals of `Book::unopened` (src/new_books.rt).
+-- Goals of `Book::unopened` (src/book.rt).
 use Rattle.std.proofs.Common.{replicate}
 use Rattle.std.proofs.lemmas.List.{get_or-replicate}
 use Rattle.mw_words.specs.declared.limits.TheConstants.{MAX_PLACES, MAX_POOL}

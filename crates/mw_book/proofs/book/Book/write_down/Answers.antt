@@ -1,4 +1,4 @@
--- Goals of `Book::write_down` (src/calls.rt).
+-- Goals of `Book::write_down` (src/book.rt).
 use Rattle.std.proofs.Common.{◌+◌, length, refl, sym, ap, subst, ◌∙◌, arith}
 use Rattle.mw_file.specs.File.{states_of, MetFault}
 use Rattle.mw_file.specs.NewChanges.{MayPrepare}

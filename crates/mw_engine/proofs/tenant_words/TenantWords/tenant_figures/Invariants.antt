@@ -1,5 +1,4 @@
--- The invariant of the loop of TenantWords::tenant_figures (src/figures.rt), which collects each tenant's figures for a
--- report.
+-- The loop invariant of `TenantWords::tenant_figures` (src/figures.rt), which collects each tenant's figures for a report.
 use Rattle.std.specs.Prelude.{◌≡◌, All, length, map, take}
 use Rattle.mw_report.specs.Table.{IsWithinLimits}
 use Rattle.mw_engine.specs.Figures.{HasLooked, TellTenants}

@@ -1,5 +1,5 @@
 -- Goals of `TenantFile::prepare_at` (src/calls.rt).
-use Rattle.std.proofs.Common.{List, ap, sym, ◌∙◌, subst}
+use Rattle.std.proofs.Common.{List, ap, sym, ◌∙◌, subst, ◌+◌, ℕ, length}
 use Rattle.mw_words.specs.Change.{is_change}
 use Rattle.mw_record.specs.Layout.{pairs_of}
 use Rattle.mw_record.specs.Records.{Pairs}
@@ -9,6 +9,7 @@ use Rattle.mw_file.specs.NewChanges.{ArePrepared, MayPrepare}
 use Rattle.mw_file.specs.PlaceStates.{IsStaged}
 use Rattle.mw_file.proofs.NewPlaces.{may_prepare_one, prepared_alone}
 use Rattle.mw_file.proofs.RollLoop.{on_ok}
+use Rattle.mw_file.specs.File.{Ends}
 use Rattle.mw_file.proofs.tenant_file.TenantFile.prepare_at.Goals as goal
 
 pub prepare_all-requires : goal.prepare_all-requires
@@ -26,3 +27,7 @@ returns-clause-staged g c =
     on_ok _ _ c.prepare_all.result (λ are.
     subst (λ (w : Pairs). IsStaged old new c.args.place.0 Prepared w) (ap (λ e. pairs_of e.items) c.copy_of.ensures)
     (prepared_alone old new change (subst (λ (l : List NewChange). ArePrepared old new l) c.from_ref.ensures.value are))) c.prepare_all.ensures.staged
+
+pub returns-clause-ends : goal.returns-clause-ends
+returns-clause-ends g c =
+    subst (λ (n : ℕ). Ends g.D.Disk.facts n c.args.self.now c.prepare_all.new.self c.prepare_all.result) (ap (λ changes. length changes + 1) c.from_ref.ensures.value) c.prepare_all.ensures.ends

@@ -1,5 +1,5 @@
 -- Goals of `TenantFile::seal_with` (src/calls.rt).
-use Rattle.std.proofs.Common.{◌≡◌, List, length, slice_set, sym, ◌∙◌, ap, refl, subst, arith}
+use Rattle.std.proofs.Common.{◌≡◌, List, length, slice_set, sym, ◌∙◌, ap, refl, subst, arith, ◌+◌, ◌≤◌}
 use Rattle.std.specs.Vec.{with_item, with_items}
 use Rattle.std.proofs.lemmas.List.{with_items_is, length-set}
 use Rattle.mw_record.specs.Records.{put_pairs}
@@ -12,7 +12,10 @@ use Rattle.mw_file.proofs.Ended.{went_well}
 use Rattle.mw_file.proofs.NewPlaces.{durable_with, sealed_with}
 use Rattle.mw_file.proofs.Places.{state_at, state_there, staged_as}
 use Rattle.mw_file.proofs.RecordWrites.{can_prepare}
-use Rattle.mw_file.proofs.Safety.{safe_failed, safe_well}
+use Rattle.mw_file.proofs.Safety.{safe_failed, safe_well, safe_untouched, first_untouched}
+use Rattle.mw_file.proofs.Ran.{ran_well, ran_badly}
+use Rattle.mw_file.proofs.OpeningCallLaws.{made_well, made_badly}
+use Rattle.mw_words.specs.declared.limits.TheConstants.{MAX_PLACES}
 use Rattle.mw_file.proofs.tenant_file.TenantFile.seal_with.Goals as goal
 
 pub index_mut-requires : goal.index_mut-requires
@@ -108,3 +111,54 @@ returns-clause-first g c honest contents doubt was =
     let writes = writes_of_place states place in
     let moments = c.sync_commit.ensures.moments contents states can c.requires.seal in
     c.sync_commit.ensures.touched contents states can c.requires.seal
+
+pub returns-then-self-clause-safe : goal.returns-then-self-clause-safe
+returns-then-self-clause-safe g c honest contents doubt was = safe_untouched g.D.Disk.facts c.args.self.now contents doubt was
+
+pub returns-then-self-clause-first : goal.returns-then-self-clause-first
+returns-then-self-clause-first g c = first_untouched g.D.Disk.facts c.args.self.now
+
+pub returns-then-is_err-clause-ends : goal.returns-then-is_err-clause-ends
+returns-then-is_err-clause-ends g c =
+    let calls = length c.args.ahead.now + 2 in
+    record {
+      before = c.if-self.false;
+      after = refl;
+      at = refl;
+      words = refl;
+      states = refl;
+      made = ran_badly calls calls _ _ _ refl (sym c.is_err.ensures.value ∙ c.if-is_err.true) c.sync_commit.ensures.calls;
+    }
+
+pub returns-clause-ends : goal.returns-clause-ends
+returns-clause-ends g c =
+    let calls = length c.args.ahead.now + 2 in
+    record {
+      before = c.if-self.false;
+      after = c.if-self.false;
+      at = refl;
+      words = refl;
+      made = ran_well calls calls _ _ _ refl (sym c.is_err.ensures.value ∙ c.if-is_err.false) c.sync_commit.ensures.calls;
+    }
+
+pub set_prepared-requires-clause-apart : goal.set_prepared-requires-clause-apart
+set_prepared-requires-clause-apart g c = c.requires.ahead.apart
+
+pub returns-then-is_err-clause-made : goal.returns-then-is_err-clause-made
+returns-then-is_err-clause-made g c =
+    made_badly g.D.Disk.made _ c.args.self.now.disk c.sync_commit.new.disk c.sync_commit.result (sym c.is_err.ensures.value ∙ c.if-is_err.true) c.sync_commit.ensures.made
+
+pub returns-clause-made : goal.returns-clause-made
+returns-clause-made g c =
+    made_well g.D.Disk.made _ c.args.self.now.disk c.sync_commit.new.disk c.sync_commit.result (sym c.is_err.ensures.value ∙ c.if-is_err.false) c.sync_commit.ensures.made
+
+pub invariant_of-self-2 : goal.invariant_of-self-2
+invariant_of-self-2 g c =
+    let file = c.args.self.now in
+    let s : PlaceState = record { stage = Sealed; writes = c.index_mut.result.now.writes } in
+    let long = c.set_prepared.ensures.count ∙ ap length c.deref_mut.ensures.value in
+    let is = with_items_is (with_item file.states c.args.place.0 s) c.set_prepared.new.states (c.set_prepared.ensures.count ∙ c.deref_mut.ensures.len) in
+    record {
+      few = subst (λ (ss : List PlaceState). length ss ≤ MAX_PLACES) (sym is) (omega (arith, long, length-set file.states.items c.args.place.0 s, file.few));
+      near = file.near;
+    }

@@ -2,16 +2,17 @@
 use Rattle.std.proofs.Common.{List, Bool, true, false, [], inl, subst, arith, ◌+◌, ap, length, refl, ◌∙◌, sym}
 use Rattle.mw_disk.proofs.RunLaws.{leaves_wider}
 use Rattle.mw_file.specs.declared.place_states.PlaceState.{PlaceState}
-use Rattle.mw_file.specs.declared.place_states.Stage.TheVariants.{Sealed}
+use Rattle.mw_file.specs.declared.place_states.Stage.TheVariants.{Sealed, Free}
 use Rattle.mw_file.specs.PlaceStates.{roll_calls, writes_of_place}
 use Rattle.mw_file.specs.RollForward.{CanRoll, IsRolled}
 use Rattle.mw_disk.specs.DeviceCalls.{DeviceCall, Makes}
 use Rattle.mw_file.specs.DeviceCalls.{roll_device_calls}
 use Rattle.mw_file.proofs.CallLoops.{alone_device_calls, ok_or_err}
 use Rattle.mw_file.proofs.Ended.{went_well}
-use Rattle.mw_file.proofs.Safety.{safe_failed, safe_well, safe_same, settle_can, settle_moments, settle_durable}
+use Rattle.mw_file.proofs.Safety.{safe_failed, safe_well, safe_same, settle_can, settle_moments, settle_durable, safe_untouched, first_untouched}
 use Rattle.mw_file.proofs.Places.{state_at, state_there, alone_calls, staged_as}
 use Rattle.mw_file.proofs.Ran.{ran_well, ran_badly}
+use Rattle.std.proofs.lemmas.List.{length-set}
 use Rattle.mw_file.proofs.tenant_file.TenantFile.settle.Goals as goal
 
 pub returns-then-is_err-clause-ends : goal.returns-then-is_err-clause-ends
@@ -149,3 +150,28 @@ returns-clause-made g c =
     let went = ok_or_err c.roll_forward.result false (sym c.is_err.ensures.value ∙ c.if-is_err.false) in
     subst (λ (l : List DeviceCall). Makes g.D.Disk.made l true file.disk c.roll_forward.new.disk) calls
     (subst (λ (b : Bool). Makes g.D.Disk.made (roll_device_calls file.at file.words place c.from_ref-alone.result.now) b file.disk c.roll_forward.new.disk) went c.roll_forward.ensures.made)
+
+pub returns-then-self-clause-safe : goal.returns-then-self-clause-safe
+returns-then-self-clause-safe g c honest contents doubt was = safe_untouched g.D.Disk.facts c.args.self.now contents doubt was
+
+pub returns-then-self-clause-first : goal.returns-then-self-clause-first
+returns-then-self-clause-first g c = first_untouched g.D.Disk.facts c.args.self.now
+
+pub roll_forward-requires-clause-few : goal.roll_forward-requires-clause-few
+roll_forward-requires-clause-few g c =
+    let file = c.args.self.now in
+    let there = state_there file.states.items c.args.place.0 Sealed c.requires (λ e. cc) in
+    omega (arith, there, file.few, ap length c.from_ref-alone.ensures.value)
+
+pub index-requires : goal.index-requires
+index-requires g c =
+    let there = state_there c.args.self.now.states.items c.args.place.0 Sealed c.requires (λ e. cc) in
+    omega (arith, there)
+
+pub invariant_of-self-2 : goal.invariant_of-self-2
+invariant_of-self-2 g c =
+    let file = c.args.self.now in
+    record {
+      few = omega (arith, length-set file.states.items c.args.place.0 (record { stage = Free; writes = c.index_mut.result.now.writes }), file.few);
+      near = file.near;
+    }

@@ -1,5 +1,5 @@
--- Proves goals (proof obligations) of Lone::fail_seal (src/store.rt), a step of the reference model: a precondition in it,
--- and the model's invariant after it.
+-- Goals of `Lone::fail_seal` (src/store.rt), a step of the reference model: a precondition in it, and the model's invariant after
+-- it.
 use Rattle.std.proofs.Common.{sym, length}
 use Rattle.mw_lone.proofs.Steps.{at_some}
 use Rattle.mw_lone.proofs.SoundStores.{sound-insert, sound-in_doubt, entries-fit}

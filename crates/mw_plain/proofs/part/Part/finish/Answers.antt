@@ -1,6 +1,6 @@
--- Goals of `Part::finish` (src/serving.rt).
+-- Goals of `Part::finish` (src/part.rt).
 use Rattle.std.proofs.Common.{Option, Some, sym, ap, subst, ◌∙◌, arith}
-use Rattle.mw_plain.specs.declared.book.LoadedFile.{LoadedFile}
+use Rattle.mw_plain.specs.declared.loaded_file.LoadedFile.{LoadedFile}
 use Rattle.mw_plain.specs.Books.{used_in, words_in, places_in}
 use Rattle.mw_plain.specs.CallEnds.{FinishEnds}
 use Rattle.mw_plain.proofs.part.Part.finish.Goals as goal

@@ -1,4 +1,4 @@
--- Goals of `Plain::ask` (src/tenants.rt).
+-- Goals of `Plain::ask` (src/plain.rt).
 use Rattle.mw_plain.specs.Cases.{AtStart, AtFinish}
 use Rattle.mw_plain.proofs.Asks.{asks_done, asks_on}
 use Rattle.mw_plain.proofs.plain.Plain.ask.Goals as goal

@@ -1,4 +1,4 @@
--- Loop invariants of `Plain::each_figures` (src/tenants.rt).
+-- Loop invariants of `Plain::each_figures` (src/plain.rt).
 use Rattle.std.proofs.Common.{◌≡◌, take, map}
 use Rattle.mw_plain.specs.Report.{figures_of}
 use Rattle.mw_plain.proofs.plain.Plain.each_figures.Given as goal

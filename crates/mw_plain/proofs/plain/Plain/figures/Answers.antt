@@ -1,4 +1,4 @@
--- Goals of `Plain::figures` (src/tenants.rt).
+-- Goals of `Plain::figures` (src/plain.rt).
 use Rattle.mw_plain.proofs.UsedSlots.{within_limits}
 use Rattle.mw_plain.proofs.plain.Plain.figures.Goals as goal
 

@@ -1,4 +1,4 @@
--- Goals of `Plain::find` (src/tenants.rt).
+-- Goals of `Plain::find` (src/plain.rt).
 use Rattle.std.specs.Prelude.{length}
 use Rattle.std.proofs.Common.{get_or, sym, ap, ◌∙◌, arith}
 use Rattle.std.specs.Cmp.Lexicographic.{same_text, other_text}

@@ -1,4 +1,4 @@
--- Loop invariants of `Plain::find` (src/tenants.rt).
+-- Loop invariants of `Plain::find` (src/plain.rt).
 use Rattle.mw_plain.specs.Search.{HasNone}
 use Rattle.mw_plain.proofs.plain.Plain.find.Given as goal
 

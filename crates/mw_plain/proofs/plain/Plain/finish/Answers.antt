@@ -1,4 +1,4 @@
--- Goals of `Plain::finish` (src/tenants.rt).
+-- Goals of `Plain::finish` (src/plain.rt).
 use Rattle.std.proofs.Common.{refl}
 use Rattle.mw_plain.proofs.Serves.{serves_one, part_here, finishes_as}
 use Rattle.mw_plain.proofs.plain.Plain.finish.Goals as goal

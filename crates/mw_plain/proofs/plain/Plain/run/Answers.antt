@@ -1,7 +1,6 @@
--- Goals of `Plain::run` (src/tenants.rt).
-use Rattle.std.proofs.Common.{◌≡◌, ◌+◌, ◌++◌, ◌∷◌, [], length, ap, subst, ◌∙◌, arith}
-use Rattle.std.specs.Prelude.{if◌then◌else◌, is_ok}
-use Rattle.std.proofs.lemmas.List.{drop_all, length-append}
+-- Goals of `Plain::run` (src/plain.rt).
+use Rattle.std.proofs.Common.{subst, arith}
+use Rattle.std.proofs.lemmas.List.{drop_all}
 use Rattle.mw_plain.specs.Tasks.{AreTasks, Asked}
 use Rattle.mw_plain.proofs.TaskLaws.{next_task, tasks_stay, asked_more, asked_all, serves_all}
 use Rattle.mw_plain.proofs.plain.Plain.run.Goals as goal
@@ -15,13 +14,12 @@ loop-task-preserved g c =
     let formed = subst (AreTasks c.loop-task.self) left c.loop-task.invariant.formed in
     let answers = c.ask-reply.ensures.answers in
     let asked : Asked g.D.Disk.facts c.loop-task.self c.ask-reply.new.self task c.ask-reply.result = record { one = c.ask-reply.ensures.one; case = answers.0; answers = answers.1 } in
-    let pushed = c.push.ensures.items ∙ ap (λ r. if is_ok r then c.loop-task.replies.items ++ c.ask-reply.result ∷ [] else c.loop-task.replies.items) c.unwrap.ensures in
-    let count : length c.push.new.self.items ≡ length c.loop-task.replies.items + 1 = ap length pushed ∙ length-append c.loop-task.replies.items (c.ask-reply.result ∷ []) in
+    let pushed = c.push_reserved.ensures.items in
     record {
       formed = tasks_stay c.loop-task.self c.ask-reply.new.self task.tenant _ c.ask-reply.ensures.one formed.1;
-      asked = asked_more g.D.Disk.facts c.args.self.now c.loop-task.self c.ask-reply.new.self tasks i task c.loop-task.replies.items c.push.new.self.items c.ask-reply.result left pushed asked c.loop-task.invariant.asked;
-      count = omega (arith, count, c.loop-task.invariant.count, c.loop-task.replies.ok.0, c.push.new.self.ok.0);
-      room = omega (arith, c.loop-task.invariant.room, c.push.ensures.capacity);
+      asked = asked_more g.D.Disk.facts c.args.self.now c.loop-task.self c.ask-reply.new.self tasks i task c.loop-task.replies.items c.push_reserved.new.self.items c.ask-reply.result left pushed asked c.loop-task.invariant.asked;
+      count = omega (arith, c.push_reserved.ensures.len, c.loop-task.invariant.count);
+      room = omega (arith, c.loop-task.invariant.room, c.push_reserved.ensures.capacity);
     }
 
 pub returns-clause-done : goal.returns-clause-done

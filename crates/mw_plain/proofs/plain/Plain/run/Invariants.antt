@@ -1,4 +1,4 @@
--- Loop invariants of `Plain::run` (src/tenants.rt).
+-- Loop invariants of `Plain::run` (src/plain.rt).
 use Rattle.std.proofs.Common.{◌≡◌, ◌≤◌, ◌++◌, List, length, drop, vec_len}
 use Rattle.std.specs.Prelude.{vec_capacity}
 use Rattle.mw_words.specs.declared.replies.Reply.{Reply}

@@ -1,4 +1,4 @@
--- Goals of `Plain::start` (src/tenants.rt).
+-- Goals of `Plain::start` (src/plain.rt).
 use Rattle.std.proofs.Common.{refl, ap}
 use Rattle.mw_plain.proofs.Serves.{start_of, serves_one, part_here, starts_here}
 use Rattle.mw_plain.proofs.plain.Plain.start.Goals as goal

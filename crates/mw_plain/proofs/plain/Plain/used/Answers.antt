@@ -1,4 +1,4 @@
--- Goals of `Plain::used` (src/tenants.rt).
+-- Goals of `Plain::used` (src/plain.rt).
 use Rattle.std.proofs.Common.{arith}
 use Rattle.mw_plain.proofs.UsedSlots.{used_first}
 use Rattle.mw_plain.proofs.plain.Plain.used.Goals as goal

@@ -1,4 +1,4 @@
--- Loop invariants of `Plain::used` (src/tenants.rt).
+-- Loop invariants of `Plain::used` (src/plain.rt).
 use Rattle.std.proofs.Common.{◌≡◌, take}
 use Rattle.mw_plain.specs.Quotas.{used_by}
 use Rattle.mw_plain.proofs.plain.Plain.used.Given as goal

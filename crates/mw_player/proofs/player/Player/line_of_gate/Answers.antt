@@ -1,5 +1,5 @@
--- Answers to goals of Player::line_of_gate (src/player.rt): its text is the line of the slot's claim (allocation) if the
--- claim is won, else it is empty.
+-- Goals of `Player::line_of_gate` (src/player.rt): its text is the line of the slot's claim (allocation) if the claim is won,
+-- else it is empty.
 use Rattle.std.proofs.Common.{◌<◌, sym, subst, ◌∙◌}
 use Rattle.mw_world.specs.declared.config.Config.{Config}
 use Rattle.mw_player.proofs.ToldLines.{claim_told, no_gate}

@@ -1,5 +1,4 @@
--- Answers to goals of Session::run (src/session.rt): its loop keeps its invariant, and its contract holds however the session
--- ends.
+-- Goals of `Session::run` (src/session.rt): its loop keeps its invariant, and its contract holds however the session ends.
 use Rattle.std.proofs.Common.{◌≡◌, ◌==◌, false, rules, sym, subst, ◌∙◌, take}
 use Rattle.mw_frame.specs.Stream.{fed}
 use Rattle.mw_session.specs.KnownStreams.{inner_of, reads_of, writes_of}

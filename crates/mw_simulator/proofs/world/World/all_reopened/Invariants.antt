@@ -1,4 +1,4 @@
--- The invariant of the loop of World::all_reopened (src/world/restarts.rt), which opens each tenant's file at a restart.
+-- The loop invariant of `World::all_reopened` (src/world/restarts.rt), which opens each tenant's file at a restart.
 use Rattle.std.proofs.Common.{◌≡◌, length}
 use Rattle.mw_simulator.specs.Stops.{AreReopening, EachHasRoom}
 use Rattle.mw_world_memory.specs.TenantBooks.{AreSound}

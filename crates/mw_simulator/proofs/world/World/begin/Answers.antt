@@ -1,4 +1,4 @@
--- The request adds a mark and a number, and the worker is at its first step.
+-- Goals of `World::begin` (src/world/turns.rt): the request adds a mark and a number, and the worker is at its first step.
 use Rattle.std.proofs.Common.{refl, ◌∙◌, ◌<◌, ◌+◌, ap, arith, length, Some}
 use Rattle.std.proofs.lemmas.List.{length-set}
 use Rattle.mw_lone.specs.declared.marks.Mark.TheVariants.{Ask}

@@ -1,4 +1,4 @@
--- The request learns how its call ended.
+-- Goals of `World::call` (src/world/calls.rt): the request learns how its call ended.
 use Rattle.std.proofs.Common.{◌≡◌, ap, sym, subst, ◌∙◌, Some}
 use Rattle.mw_world.specs.Definition.Calls.{called_at, calling}
 use Rattle.mw_world.specs.Definition.Extent.{has_slot}

@@ -1,5 +1,5 @@
--- Answers to a goal of World::close (src/world/calls.rt): after a call on a tenant's file that went well, the status word of
--- the change has its next status.
+-- A goal of `World::close` (src/world/calls.rt): after a call on a tenant's file that went well, the status word of the change
+-- has its next status.
 use Rattle.std.proofs.Common.{refl}
 use Rattle.mw_simulator.proofs.CallEndLaws.{closes_well}
 use Rattle.mw_simulator.proofs.world.World.close.Goals as goal

@@ -1,4 +1,4 @@
--- Making room leaves the tenants' files unchanged.
+-- Goals of `World::come` (src/world/turns.rt): making room leaves the tenants' files unchanged.
 use Rattle.std.proofs.Common.{sym, ◌∙◌}
 use Rattle.mw_simulator.proofs.CallEndLaws.{room_if}
 use Rattle.mw_simulator.proofs.Unchanged.{unchanged_books}

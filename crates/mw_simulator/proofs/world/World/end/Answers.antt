@@ -1,4 +1,4 @@
--- A call does nothing, or fails on a file that failed before, or is made.
+-- Goals of `World::end` (src/world/calls.rt): a call does nothing, or fails on a file that failed before, or is made.
 use Rattle.std.proofs.Common.{ap, inl, inr, refl, sym, subst, true, false, ◌∙◌}
 use Rattle.mw_actor.specs.ActorState.{own_entries}
 use Rattle.mw_world.specs.Definition.Calls.{starts_from}

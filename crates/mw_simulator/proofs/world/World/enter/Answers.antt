@@ -1,4 +1,4 @@
--- The tenant's marks, the worker and the claims take in the label of the step.
+-- Goals of `World::enter` (src/world/turns.rt): the tenant's marks, the worker and the claims take in the label of the step.
 use Rattle.std.proofs.Common.{arith, length, refl, ◌<◌, ◌∙◌}
 use Rattle.std.proofs.lemmas.List.{length-set}
 use Rattle.mw_simulator.proofs.WorldAfterStep.{enters}

@@ -1,4 +1,4 @@
--- The door of an existing tenant gets the fault.
+-- Goals of `World::fault` (src/world/calls.rt): the door of an existing tenant gets the fault.
 use Rattle.std.proofs.Common.{refl, ◌<◌, arith}
 use Rattle.mw_world.specs.Definition.State.{tenants_of}
 use Rattle.mw_simulator.proofs.CallEndLaws.{faults}

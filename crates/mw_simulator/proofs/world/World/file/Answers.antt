@@ -1,4 +1,4 @@
--- The tenant has the file of this book.
+-- Goals of `World::file` (src/world/calls.rt): the tenant has the file of this book.
 use Rattle.std.proofs.Common.{arith, length, refl, subst, sym, ◌<◌, ◌∙◌}
 use Rattle.std.proofs.lemmas.List.{length-set}
 use Rattle.mw_world_file.specs.SoundBooks.{HasSound}

@@ -1,4 +1,4 @@
--- The reply adds a mark, and the worker has no request.
+-- Goals of `World::give` (src/world/turns.rt): the reply adds a mark, and the worker has no request.
 use Rattle.std.proofs.Common.{arith, length, refl, ◌<◌, ◌∙◌}
 use Rattle.std.proofs.lemmas.List.{length-set}
 use Rattle.mw_simulator.proofs.WorldAfterStep.{gives}

@@ -1,4 +1,5 @@
--- The request learns what its step found. The step has the label for the point that the request is then at.
+-- Goals of `World::go_on` (src/world/turns.rt): the request learns what its step found. The step has the label for the point that
+-- the request is then at.
 use Rattle.std.proofs.Common.{◌∙◌, ap}
 use Rattle.mw_look.specs.Observations.{observation_of}
 use Rattle.mw_world.specs.Definition.Turns.{next_attempt}

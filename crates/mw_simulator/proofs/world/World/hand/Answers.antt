@@ -1,4 +1,4 @@
--- Making room leaves the tenants' files unchanged.
+-- Goals of `World::hand` (src/world/turns.rt): making room leaves the tenants' files unchanged.
 use Rattle.std.proofs.Common.{◌∙◌}
 use Rattle.mw_simulator.proofs.Unchanged.{unchanged_books}
 use Rattle.mw_simulator.proofs.world.World.hand.Goals as goal

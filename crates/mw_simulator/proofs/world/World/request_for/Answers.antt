@@ -1,4 +1,4 @@
--- The next request gets a number if, and only if, the tenant may ask.
+-- Goals of `World::request_for` (src/world/turns.rt): the next request gets a number if, and only if, the tenant may ask.
 use Rattle.std.proofs.Common.{◌∙◌, ◌<◌, ap, sym, length, arith}
 use Rattle.mw_actor.proofs.JobLaws.{well_formed_is_formed}
 use Rattle.mw_world.specs.declared.config.Tenant.{Tenant}

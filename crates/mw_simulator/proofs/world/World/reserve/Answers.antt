@@ -1,4 +1,4 @@
--- Room is made, and the world in memory represents the same world.
+-- Goals of `World::reserve` (src/world/turns.rt): room is made, and the world in memory represents the same world.
 use Rattle.std.proofs.Common.{refl, ◌<◌, ◌∙◌, length, arith}
 use Rattle.std.proofs.lemmas.List.{length-set}
 use Rattle.mw_simulator.proofs.WorldAfterStep.{reserved, room_made}

@@ -1,4 +1,4 @@
--- The bits of a slot's status are those of the status that the slot has.
+-- Goals of `World::status` (src/world/calls.rt): the bits of a slot's status are those of the status that the slot has.
 use Rattle.std.proofs.Common.{ap, ◌∙◌}
 use Rattle.std.specs.Option.{option_and_then}
 use Rattle.mw_words.specs.Patterns.{unpacked_status}

@@ -1,4 +1,4 @@
--- The run so far, and this event after it, have happened.
+-- Goals of `World::step` (src/world/events.rt): the run so far, and this event after it, have happened.
 use Rattle.mw_simulator.proofs.OneMoreEvent.{stands_after}
 use Rattle.mw_simulator.proofs.InvariantLaws.{holds}
 use Rattle.mw_simulator.proofs.ServiceAloneLaws.{serves}

@@ -1,4 +1,4 @@
--- A step changes the shared words, and then the request goes on.
+-- Goals of `World::turn` (src/world/turns.rt): a step changes the shared words, and then the request goes on.
 use Rattle.std.proofs.Common.{refl, ◌≡◌, ◌∙◌, ap, sym, subst, true, false, is_some}
 use Rattle.mw_look.specs.Observations.{observation_of}
 use Rattle.mw_look.specs.Steps.{place_of}

@@ -1,4 +1,5 @@
--- A call that can be made leaves its tenant the file after it, and ends by what the device did.
+-- Goals of `World::work` (src/world/calls.rt): a call that can be made leaves its tenant the file after it, and ends by what the
+-- device did.
 use Rattle.std.specs.Prelude.{◌≡◌, Some}
 use Rattle.std.specs.Option.{option_map}
 use Rattle.std.proofs.Common.{refl, ap, subst, sym, ◌∙◌, true, false, Ok, Err}

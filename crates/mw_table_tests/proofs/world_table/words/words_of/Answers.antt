@@ -1,4 +1,4 @@
--- The words are those of the world, by index.
+-- Goals of `words_of` (src/world_table/words.rt): the words are those of the world, by index.
 use Rattle.std.proofs.Common.{arith, slice_index, subst, sym}
 use Rattle.mw_world.specs.declared.config.Config.{Config}
 use Rattle.mw_world.specs.Definition.State.{IsConfig}

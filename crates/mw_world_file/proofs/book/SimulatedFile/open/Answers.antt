@@ -1,5 +1,5 @@
 -- Goals of `SimulatedFile::open` (src/opening.rt).
-use Rattle.std.proofs.Common.{◌∙◌, ℕ, List, ap, arith}
+use Rattle.std.proofs.Common.{◌∙◌, ℕ, List, ap, arith, refl}
 use Rattle.mw_words.specs.declared.limits.TheConstants.{MAX_POOL}
 use Rattle.mw_disk.specs.Memory.{Memory, memory_facts, scripted}
 use Rattle.mw_record.specs.Damages.{words_in, places_of}
@@ -26,3 +26,6 @@ returns-in-Disk c words is room =
     (λ k. c.in_ok-disk.ensures.plan k ∙ ap (λ (script : List ℕ). scripted script k) c.in_ok-script_of.ensures)
     c.in-Err.failed.1 c.in-Err.failed.0 c.in-Disk.is c.in-Err.ensures.opens (ap (λ (m : Memory). m.refused) c.in_ok-disk.ensures.made) c.in_ok-found.found.items _ MAX_POOL
     (c.in_ok-found.ensures ∙ ap words_in image ∙ words_found c.args.bytes.items words is) (c.places_once_open-file_places.ensures ∙ ap places_of image) c.shut.result c.shut.ensures
+
+pub opened-requires-clause-keeps : goal.opened-requires-clause-keeps
+opened-requires-clause-keeps c = c.in-Ok-open.ensures.opens.keeps refl c.in_ok-disk.ensures.at_rest

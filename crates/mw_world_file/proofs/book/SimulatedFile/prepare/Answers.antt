@@ -6,12 +6,13 @@ use Rattle.mw_record.specs.Layout.{pairs_of}
 use Rattle.mw_file.specs.declared.place_states.Stage.TheVariants.{Prepared as PreparedStage}
 use Rattle.mw_world_file.specs.declared.places.Place.TheVariants.{Prepared as KeptPrepared}
 use Rattle.mw_world_file.specs.CallEffects.{may_end}
-use Rattle.mw_world_file.proofs.WorkedFiles.{none_empty, found, is_found, place_within, kept_after, prepare_done, prepare_broken, refused, unfailed_open}
-use Rattle.mw_world_file.proofs.CalledDisks.{came_to_fault}
+use Rattle.mw_world_file.proofs.WorkedFiles.{none_empty, found, is_found, place_within, kept_after, prepare_done, prepare_broken, refused, unfailed_open, places_open, sized_open}
+use Rattle.mw_world_file.proofs.CalledDisks.{came_to_fault, came_well}
 use Rattle.mw_world_file.proofs.CrashedFiles.{stays_safe}
 use Rattle.mw_file.specs.File.{at_of, words_of, states_of}
 use Rattle.mw_world_file.specs.DeviceCalls.{call_list_at}
 use Rattle.mw_world_file.proofs.ExactDisks.{exactly_well, exactly_badly, prepare_listed, made_badly}
+use Rattle.mw_world_file.proofs.FaultedFiles.{faulted}
 use Rattle.mw_world_file.proofs.book.SimulatedFile.prepare.Goals as goal
 
 pub returns-then-not-has_empty-clause-works : goal.returns-then-not-has_empty-clause-works
@@ -95,3 +96,22 @@ returns-in_ok-broken-in-Fail-clause-exact c =
     (made_badly (call_list_at (at_of c.in_ok-file.file) (words_of c.in_ok-file.file) (states_of c.in_ok-file.file) Prepare (get_or c.args.self.now.place_of c.args.slot 0) c.args.entries.now.items) c.in_ok-file.file c.prepare-made.new.self _ c.prepare-made.result (c.in_ok-file.ensures.failed ∙ unfailed_open c.args.self.now c.in-Open.held c.in-Open.is c.requires.sound) (sym c.is_ok.ensures.value ∙ c.if-is_ok.false)
     c.prepare-made.ensures.ends (prepare_listed c.in_ok-file.file c.prepare-made.new.self (get_or c.args.self.now.place_of c.args.slot 0) c.args.entries.now.items c.prepare-made.result (is_found c.args.self.now c.in-Open.held c.args.slot c.args.entries.now c.in-Open.is
     (found c.args.self.now c.deref.result.now c.has_empty.result true c.deref.ensures.value c.has_empty.ensures c.if-not-has_empty.false) c.in_ok-file.file c.in_ok-file.ensures.states) c.prepare-made.ensures.made))
+
+pub broken-requires : goal.broken-requires
+broken-requires c =
+    let old = c.args.self.now in
+    let unfailed = c.in_ok-file.ensures.failed ∙ unfailed_open old c.in-Open.held c.in-Open.is c.requires.sound in
+    let met = faulted old c.in-Open.held c.in_ok-file.file c.prepare-made.new.self 2 c.prepare-made.result c.in-Open.is c.in_ok-file.ensures.states c.in_ok-file.ensures.words unfailed
+    (sym c.is_ok.ensures.value ∙ c.if-is_ok.false) c.prepare-made.ensures.ends in
+    record { sized = met.sized; has = met.has; kept = met.kept; failed = met.failed }
+
+pub prepared-requires-clause-has : goal.prepared-requires-clause-has
+prepared-requires-clause-has c = c.in-Ok.ensures.staged.count ∙ ap (λ ss. length ss) c.in_ok-file.ensures.states ∙ places_open c.args.self.now c.in-Open.held c.in-Open.is
+
+pub prepared-requires-clause-sized : goal.prepared-requires-clause-sized
+prepared-requires-clause-sized c = c.in-Ok.ensures.ends.words ∙ c.in_ok-file.ensures.words ∙ sized_open c.args.self.now c.in-Open.held c.in-Open.is
+
+pub returns-in_ok-prepared-in-Ok-clause-disk : goal.returns-in_ok-prepared-in-Ok-clause-disk
+returns-in_ok-prepared-in-Ok-clause-disk c =
+    came_well c.args.self.now c.in_ok-prepared-in-Ok.field-0 c.in-Open.held c.in_ok-file.file c.prepare-made.new.self Prepare c.args.slot 2 c.args.outcome c.in-Open.is c.in_ok-prepared-in-Ok.ensures.is_device c.in-Good.is
+    (c.in_ok-file.ensures.disk c.in-Good.is) refl c.in-Ok.ensures.ends.made c.prepare-made.ensures.later

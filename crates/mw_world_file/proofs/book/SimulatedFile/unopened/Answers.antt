@@ -1,5 +1,5 @@
 -- Goals of `SimulatedFile::unopened` (src/unopened.rt).
-use Rattle.std.proofs.Common.{◌≡◌, ◌∙◌, ◌*◌, ℕ, List, length, replicate, sym, ap, subst, arith}
+use Rattle.std.proofs.Common.{refl, ◌≡◌, ◌∙◌, ◌*◌, ℕ, List, length, replicate, sym, ap, subst, arith, [], true, false}
 use Rattle.std.proofs.lemmas.List.{length-replicate}
 use Rattle.mw_words.specs.declared.jobs.Entry.{Entry}
 use Rattle.mw_words.specs.declared.limits.TheConstants.{MAX_POOL}
@@ -11,6 +11,7 @@ use Rattle.mw_record.specs.declared.layout.TheConstants.{PLACES_GROW}
 use Rattle.mw_world_file.specs.declared.places.Place.{Place}
 use Rattle.mw_world_file.specs.declared.places.Place.TheVariants.{Empty}
 use Rattle.mw_world_file.proofs.OldFiles.{tells_unopened}
+use Rattle.mw_world_file.proofs.OpenedFiles.{free_kept}
 use Rattle.mw_world_file.proofs.book.SimulatedFile.unopened.Goals as goal
 
 -- the file has more places than are used
@@ -36,3 +37,16 @@ returns-clause-words c =
     c.in_ok-contents.ensures ∙ ap (λ (entries : List Entry). put c.deref.result.now entries) c.deref-2.ensures.0
     ∙ ap (λ (words : List ℕ). put words c.args.change.now.items) (c.deref.ensures.value ∙ c.in_ok-zeros.ensures) in
     ap (λ (ws : List ℕ). length ws) are ∙ length-put (replicate {A = ℕ} c.args.words 0) c.args.change.now.items ∙ length-replicate {A = ℕ} c.args.words 0
+
+pub invariant_of-result-clause-kept : goal.invariant_of-result-clause-kept
+invariant_of-result-clause-kept c = free_kept [] _ _ refl c.in_ok-empty_places.ensures
+
+pub invariant_of-result-clause-sized : goal.invariant_of-result-clause-sized
+invariant_of-result-clause-sized c open_now = absurd (let e : false ≡ true = open_now in cc)
+
+pub invariant_of-result-clause-has : goal.invariant_of-result-clause-has
+invariant_of-result-clause-has c open_now = absurd (let e : false ≡ true = open_now in cc)
+
+pub returns-clause-places : goal.returns-clause-places
+returns-clause-places c =
+    ap (λ (places : List Place). length places) c.in_ok-empty_places.ensures ∙ length-replicate c.from-2.result Empty ∙ c.from-2.ensures
