@@ -8,8 +8,8 @@ use Rattle.mw_disk.specs.Facts.{Facts}
 use Rattle.mw_disk.specs.Runs.{Good, Bad}
 use Rattle.mw_disk.proofs.RunLaws.{was_honest}
 use Rattle.mw_record.specs.Layout.{pairs_of}
-use Rattle.mw_file.specs.declared.copies.CopyFault.{CopyFault}
-use Rattle.mw_file.specs.declared.copies.CopyFault.TheVariants.{Failed, Disk, Memory}
+use Rattle.mw_file.specs.declared.tenant_file.CopyFault.{CopyFault}
+use Rattle.mw_file.specs.declared.tenant_file.CopyFault.TheVariants.{Failed, Disk, Memory}
 use Rattle.mw_file.specs.declared.place_states.PlaceState.{PlaceState}
 use Rattle.mw_file.specs.declared.tenant_file.TenantFile.{TenantFile}
 use Rattle.mw_file.specs.Copies.{CopyEnds as FileCopyEnds, IsOnlyRead as FileIsOnlyRead}

@@ -4,8 +4,8 @@ use Rattle.std.specs.Prelude.{◌≡◌, ℕ, true, false, List, length, Option,
 use Rattle.std.specs.declared.alloc.Global.{Global}
 use Rattle.mw_disk.specs.Facts.{Facts}
 use Rattle.mw_disk.specs.Runs.{Good, Bad}
-use Rattle.mw_file.specs.declared.copies.CopyFault.{CopyFault}
-use Rattle.mw_file.specs.declared.copies.CopyFault.TheVariants.{Failed, Disk, Memory}
+use Rattle.mw_file.specs.declared.tenant_file.CopyFault.{CopyFault}
+use Rattle.mw_file.specs.declared.tenant_file.CopyFault.TheVariants.{Failed, Disk, Memory}
 use Rattle.mw_file.specs.declared.tenant_file.TenantFile.{TenantFile}
 use Rattle.mw_file.specs.Copies.{IsOnlyRead as FileIsOnlyRead}
 use Rattle.mw_file.specs.File.{disk_of, states_of}

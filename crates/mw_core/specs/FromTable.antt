@@ -14,7 +14,7 @@ pub use Rattle.mw_table.specs.Numbers.{number_of, numbers}
 pub use Rattle.mw_table.specs.NewFilePasses.{AreOpened}
 pub use Rattle.mw_table.specs.Origins.{basis_of, config_of, openings_of}
 pub use Rattle.mw_table.specs.SeenFiles.{SeesFile}
-pub use Rattle.mw_table.specs.Passes.{IsOf, IsOfSameWorker, IsIdleAfter}
+pub use Rattle.mw_table.specs.Passes.{IsOf, IsOfSameWorker, IsIdleAfter, known}
 pub use Rattle.mw_table.specs.declared.origin.FileOpening.{FileOpening}
 pub use Rattle.mw_table.specs.declared.origin.Origin.{Origin}
 pub use Rattle.mw_table.specs.declared.file_pass.FilePass.{FilePass}

@@ -4,7 +4,7 @@
 ghost use Rattle.std.specs.Prelude.{◌≡◌, false, None};
 ghost use Rattle.mw_table.specs.FromRule.{MayCome};
 ghost use Rattle.mw_table.specs.CarriedRequest.{IsCarried};
-ghost use Rattle.mw_table.specs.Passes.{IsOf, IsOfSameWorker};
+ghost use Rattle.mw_table.specs.Passes.{IsOf, IsOfSameWorker, known};
 ghost use Rattle.mw_actor.specs.Program.{replied};
 ghost use Rattle.mw_core.specs.Steps.{Advances, Begins, Steps, answer_of};
 
@@ -49,7 +49,7 @@ impl Core {
     /// which it tells the machine. From then on the pass carries the request, and isn't idle.
     pub fn begin(&self, pass: &mut Pass, actor: &mut Actor)
         requires own { IsOf self.now.shared pass.old }
-        requires may { MayCome pass.old.seat.me.0 pass.old.worker actor.old }
+        requires may { MayCome (known pass.old) pass.old.worker actor.old }
         ensures own { IsOf self.now.shared pass.new }
         ensures worker { IsOfSameWorker pass.old pass.new }
         ensures busy { pass.new.idle ≡ false }

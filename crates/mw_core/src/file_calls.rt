@@ -13,7 +13,7 @@ ghost use Rattle.mw_table.specs.FromRule.{ExtendsKnownRun};
 ghost use Rattle.mw_table.specs.FileCalls.{IsFree, IsFilePassOf, file_kept};
 ghost use Rattle.mw_table.specs.HeldFiles.{HasFile};
 ghost use Rattle.mw_table.specs.Meet.{IsSamePass};
-ghost use Rattle.mw_table.specs.Passes.{IsOf};
+ghost use Rattle.mw_table.specs.Passes.{IsOf, known};
 ghost use Rattle.mw_core.specs.Books.{AgreesHeld, AgreesThere};
 ghost use Rattle.mw_core.specs.FileCalls.{AreTaken, FilesOnce, MakesCall, prepares, slot_and_entries};
 
@@ -64,7 +64,7 @@ impl Core {
         ensures file_pass { IsFilePassOf self.now.shared result }
         ensures whose { result.tenant ≡ file_pass.tenant }
         ensures follows { ExtendsKnownRun file_pass.seat.me.0.known_run result.seat.me.0.known_run }
-        ensures known { result.seat.me.0.known_run ≡ pass.new.seat.me.0.known_run }
+        ensures known { result.seat.me.0.known_run ≡ (known pass.new).known_run }
         ensures agrees { AgreesThere D.facts self.now.shared book.new result }
     {
         let tenant = file_pass.tenant();

@@ -10,7 +10,7 @@ ghost use Rattle.mw_actor.specs.declared.points.Point.TheVariants.{Read};
 ghost use Rattle.mw_actor.specs.Program.{replied};
 ghost use Rattle.mw_table.specs.FromRule.{MayCome};
 ghost use Rattle.mw_table.specs.CarriedRequest.{IsCarried};
-ghost use Rattle.mw_table.specs.Passes.{IsOf, IsOfSameWorker};
+ghost use Rattle.mw_table.specs.Passes.{IsOf, IsOfSameWorker, known};
 ghost use Rattle.mw_core.specs.ReadRounds.{EndsAs, IsLook, Looks, MakesFirst, MakesNext};
 ghost use Rattle.mw_core.specs.ReadRounds as looking;
 ghost use Rattle.mw_core.specs.Reasons as reasons;
@@ -47,7 +47,7 @@ impl Core {
     pub fn try_look(&self, pass: &mut Pass, actor: &mut Actor) -> Result<Reply, WhyAgain>
         requires own { IsOf self.now.shared pass.old }
         requires look { IsLook actor.old }
-        requires comes { pass.old.idle ≡ true → MayCome pass.old.seat.me.0 pass.old.worker actor.old }
+        requires comes { pass.old.idle ≡ true → MayCome (known pass.old) pass.old.worker actor.old }
         requires goes_on { pass.old.idle ≡ false → IsCarried pass.old actor.old }
         ensures own { IsOf self.now.shared pass.new }
         ensures worker { IsOfSameWorker pass.old pass.new }

@@ -1,7 +1,7 @@
 //! A disk in memory for tests: its calls fail when a test says so, and a crash leaves the bytes that the test
 //! chooses.
 //!
-//! Used by: tests; mw_file, for calls that only tests make (`memory.rt`); mw_world_file. A change of a contract here
+//! Used by: tests; mw_file, for calls that only tests make (`tenant_file.rt`); mw_world_file. A change of a contract here
 //! is no change of the disk model (`device.rt`).
 ghost use Rattle.std.specs.Prelude.{◌≡◌, ◌+◌, ◌≤◌, ℕ, min, [], length, slice_range, nat_le, nat_lt, true, false, Some, None, is_ok, IsOk, IfOk, OnOk, OnErr};
 ghost use Rattle.mw_disk.specs.Crash.{Tears, unsynced as unsynced_spans};

@@ -13,7 +13,7 @@ use Rattle.mw_words.specs.Patterns.{unpacked_door, unpacked_gate}
 use Rattle.mw_report.specs.declared.figures.TenantFigures.{TenantFigures}
 use Rattle.mw_core.specs.FromTable.{Pass, View, index_of}
 use Rattle.mw_core.proofs.FromTable.{keeps_all, keeps_on}
-use Rattle.mw_engine.specs.declared.listed.Listed.{Listed}
+use Rattle.mw_engine.specs.declared.tenant_line.Listed.{Listed}
 use Rattle.mw_engine.specs.Figures.{FoundDoor, FoundGate, HasLooked, IsLoaded, Loads, TellsFree, TellTenants, door_shown, door_told, each_at, gate_told, is_free, line_shown, places_shown}
 use Rattle.mw_engine.specs.Lines.{line_of, places_of}
 

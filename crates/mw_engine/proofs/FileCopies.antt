@@ -4,7 +4,7 @@ use Rattle.std.specs.Prelude.{◌≡◌, ℕ, true, is_some, Option, Some, None,
 use Rattle.std.specs.declared.alloc.Global.{Global}
 use Rattle.std.proofs.Common.{refl, subst, ◌∙◌}
 use Rattle.mw_disk.specs.Facts.{Facts}
-use Rattle.mw_file.specs.declared.copies.CopyFault.{CopyFault}
+use Rattle.mw_file.specs.declared.tenant_file.CopyFault.{CopyFault}
 use Rattle.mw_world_file.specs.Files.{File}
 use Rattle.mw_book.specs.declared.book.Book.{Book}
 use Rattle.mw_book.specs.Copies.{CopyEnds, IsOnlyRead}

@@ -13,7 +13,7 @@ use Rattle.mw_world.specs.Definition.State.{TenantStart, tenants_of}
 use Rattle.mw_book.specs.declared.book.Book.{Book}
 use Rattle.mw_core.specs.FromTable.{AreOpened, Basis, FileOpening, FilePass, FileToken, IsDealt, Pass, Shared, View, basis_of, basis_of_start, config_of, known_run_of, file_among, file_kept, numbers, opening_at, openings_given, openings_of, file_token_opened}
 use Rattle.mw_core.specs.Books.{Agrees}
-use Rattle.mw_engine.specs.declared.listed.Listed.{Listed}
+use Rattle.mw_engine.specs.declared.tenant_line.Listed.{Listed}
 use Rattle.mw_engine.specs.LinesOfWorld.{Agrees as AgreesWithWorld, line_given, places_told}
 use Rattle.mw_engine.specs.Brand.{identity_on}
 use Rattle.mw_engine.specs.DisksAtStart.{IsOnItsDisk, disks_in}

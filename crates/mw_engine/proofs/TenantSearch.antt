@@ -4,7 +4,7 @@ use Rattle.std.proofs.Common.{◌≡◌, ℕ, ◌+◌, ◌<◌, ◌≤◌, List,
 use Rattle.std.proofs.lemmas.Bool.{cases_eq}
 use Rattle.std.specs.Option.{option_map, option_map_or}
 use Rattle.std.proofs.lemmas.Option.{same_Some, slice_get-map, slice_get-get_or, slice_get_within}
-use Rattle.mw_engine.specs.declared.listed.Listed.{Listed}
+use Rattle.mw_engine.specs.declared.tenant_line.Listed.{Listed}
 use Rattle.mw_engine.specs.Identity.{Line, name_told, quota_told, HasWords, HasNone, IsFirst}
 use Rattle.mw_engine.specs.Lines.{line_of}
 

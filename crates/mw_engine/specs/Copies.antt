@@ -3,7 +3,7 @@
 use Rattle.std.specs.Prelude.{◌≡◌, ℕ, List, length, Some, Vec, Result, Ok, IsTrue}
 use Rattle.std.specs.declared.alloc.Global.{Global}
 use Rattle.mw_disk.specs.Facts.{Facts}
-use Rattle.mw_file.specs.declared.copies.CopyFault.{CopyFault}
+use Rattle.mw_file.specs.declared.tenant_file.CopyFault.{CopyFault}
 use Rattle.mw_file.specs.declared.tenant_file.TenantFile.{TenantFile}
 use Rattle.mw_file.specs.File.{disk_of, states_of}
 use Rattle.mw_file.specs.RecoveryInvariant.{IsFile}

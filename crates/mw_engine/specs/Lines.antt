@@ -2,7 +2,7 @@
 -- Used by: src/new_parts.rt, src/tenant_words.rt.
 use Rattle.std.specs.Prelude.{◌≤◌, ℕ, All, List}
 use Rattle.mw_words.specs.declared.limits.TheConstants.{MAX_PLACES}
-use Rattle.mw_engine.specs.declared.listed.Listed.{Listed}
+use Rattle.mw_engine.specs.declared.tenant_line.Listed.{Listed}
 use Rattle.mw_engine.specs.Identity.{Line}
 
 -- what is kept of a tenant's line

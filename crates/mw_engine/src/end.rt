@@ -4,7 +4,7 @@
 //! `specs/Brand`, `specs/DisksAtEnd` and `specs/Passes`.
 ghost use Rattle.std.specs.Prelude.{◌≡◌, IfOk};
 ghost use Rattle.mw_engine.specs.Brand.{identity_on};
-ghost use Rattle.mw_core.specs.FromTable.{IsSamePass};
+ghost use Rattle.mw_core.specs.FromTable.{IsSamePass, known};
 ghost use Rattle.mw_engine.specs.DisksAtEnd.{AreGiven, AreGivenSeen, GivenAs, GivenSeenAs, SeesMore};
 ghost use Rattle.mw_engine.specs.Passes.{IsPassOf};
 
@@ -71,8 +71,8 @@ impl<J: EngineBrand, D: Disk + Drop, H: Drop> Engine<J, D, H> {
         requires own { IsPassOf J.identity pass.old }
         ensures own { IsPassOf J.identity pass.new }
         ensures stays { IsSamePass pass.old pass.new }
-        ensures sees { SeesMore pass.old.seat.me.0 pass.new.seat.me.0 }
-        ensures given { IfOk result (λ disks. AreGivenSeen D.facts J.identity pass.old.seat.me.0 pass.new.seat.me.0 disks.items) }
+        ensures sees { SeesMore (known pass.old) (known pass.new) }
+        ensures given { IfOk result (λ disks. AreGivenSeen D.facts J.identity (known pass.old) (known pass.new) disks.items) }
     {
         let Engine {
             words,

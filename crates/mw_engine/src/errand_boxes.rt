@@ -1,6 +1,6 @@
 //! A box for each worker, in which it leaves its request while it waits for a file.
 //!
-//! Used by: `one_call`, `engine`, `start`, `combiner`, `waiting_room`, `end`.
+//! Used by: `one_call`, `engine`, `start`, `combiner`, `waiting_room`.
 use crate::brand::EngineBrand;
 use crate::errand::{Errand, ErrandLasts};
 use mw_disk::Disk;

@@ -5,6 +5,7 @@
 ghost use Rattle.std.specs.Prelude.{◌≡◌, ◌≤◌, ◌<◌, All, true, length, map};
 ghost use Rattle.mw_report.specs.Table.{AreWithinLimits, IsWithinLimits};
 ghost use Rattle.mw_words.specs.declared.limits.TheConstants.{MAX_QUOTA};
+ghost use Rattle.mw_core.specs.FromTable.{known};
 ghost use Rattle.mw_engine.specs.Figures.{FoundDoor, FoundGate, HasLooked, TellAll, TellTenants, TellsFree};
 ghost use Rattle.mw_engine.specs.Figures as figures;
 ghost use Rattle.mw_engine.specs.Identity.{quota_told};
@@ -32,7 +33,7 @@ impl<J: EngineBrand, D: Disk, H> Engine<J, D, H> {
         ensures own { IsPassOf J.identity pass.new }
         ensures looked { HasLooked pass.old pass.new }
         ensures limits { AreWithinLimits result.tenants.items result.pool_free }
-        ensures tells { TellAll J.identity.config.pool J.identity.config.pool J.identity.lines (map places_told J.identity.openings) result.tenants.items result.pool_free pass.old.seat.me.0 pass.new.seat.me.0 }
+        ensures tells { TellAll J.identity.config.pool J.identity.config.pool J.identity.lines (map places_told J.identity.openings) result.tenants.items result.pool_free (known pass.old) (known pass.new) }
     {
         let tenants = self.words.tenant_figures(pass);
         let pool_free = self.words.free_slots(pass);

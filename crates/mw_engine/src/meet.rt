@@ -1,7 +1,7 @@
 //! Lets two passes meet: afterwards each has seen the sealed changes that either had seen.
 //!
 //! Only tests use it: sessions of `mwserve` use `notes`. Change it with `specs/Passes`.
-ghost use Rattle.mw_core.specs.FromTable.{HaveMet, IsSamePass, LearnsMeeting, MetByNone};
+ghost use Rattle.mw_core.specs.FromTable.{HaveMet, IsSamePass, LearnsMeeting, MetByNone, known};
 ghost use Rattle.mw_engine.specs.Passes.{IsPassOf};
 
 use crate::brand::EngineBrand;
@@ -20,10 +20,10 @@ impl<J: EngineBrand, D: Disk, H> Engine<J, D, H> {
         ensures other { IsPassOf J.identity other.new }
         ensures one_stays { IsSamePass one.old one.new }
         ensures other_stays { IsSamePass other.old other.new }
-        ensures one_met { LearnsMeeting one.old.seat.me.0 one.new.seat.me.0 }
-        ensures other_met { LearnsMeeting other.old.seat.me.0 other.new.seat.me.0 }
-        ensures both { HaveMet one.new.seat.me.0 other.new.seat.me.0 }
-        ensures event { MetByNone one.old.seat.me.0 other.old.seat.me.0 one.new.seat.me.0 other.new.seat.me.0 }
+        ensures one_met { LearnsMeeting (known one.old) (known one.new) }
+        ensures other_met { LearnsMeeting (known other.old) (known other.new) }
+        ensures both { HaveMet (known one.new) (known other.new) }
+        ensures event { MetByNone (known one.old) (known other.old) (known one.new) (known other.new) }
     {
         self.words.core.shared().meet(one, other);
     }

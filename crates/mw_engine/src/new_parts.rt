@@ -12,8 +12,8 @@ ghost use Rattle.mw_engine.specs.OpenedFiles.{AreMadeOf, FitLines, FitsLine, Hav
 ghost use Rattle.mw_engine.specs.Passes.{IsNew};
 ghost use Rattle.mw_engine.specs.Parts.{identity_of, world_read};
 
-use crate::listed::Listed;
 use crate::parts::EngineParts;
+use crate::tenant_line::Listed;
 use crate::tenant_words::TenantWords;
 use arrayvec::ArrayVec;
 use mw_book::Book;

@@ -2,7 +2,7 @@
 //!
 //! mw_service does so for a session that borrows passes. Change it with `specs/Notes` and `specs/Passes`.
 ghost use Rattle.std.specs.Prelude.{◌≡◌};
-ghost use Rattle.mw_core.specs.FromTable.{HasLearned, IsSamePass, note as said_by, said_in};
+ghost use Rattle.mw_core.specs.FromTable.{HasLearned, IsSamePass, known, note as said_by, said_in};
 ghost use Rattle.mw_engine.specs.Notes.{IsNoteOf};
 ghost use Rattle.mw_engine.specs.Passes.{IsPassOf};
 
@@ -19,7 +19,7 @@ impl<J: EngineBrand, D: Disk, H> Engine<J, D, H> {
         ensures stays { IsSamePass pass.old pass.new }
         ensures knows { pass.new.seat.me ≡ pass.old.seat.me }
         ensures its { IsNoteOf J.identity result }
-        ensures says { said_in result ≡ said_by pass.old.seat.me.0 }
+        ensures says { said_in result ≡ said_by (known pass.old) }
     {
         self.words.core.shared().note(pass)
     }
@@ -32,7 +32,7 @@ impl<J: EngineBrand, D: Disk, H> Engine<J, D, H> {
         requires its { IsNoteOf J.identity note }
         ensures own { IsPassOf J.identity pass.new }
         ensures stays { IsSamePass pass.old pass.new }
-        ensures learned { HasLearned (said_in note) pass.old.seat.me.0 pass.new.seat.me.0 }
+        ensures learned { HasLearned (said_in note) (known pass.old) (known pass.new) }
     {
         self.words.core.shared().learn(pass, note);
     }

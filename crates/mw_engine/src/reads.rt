@@ -6,7 +6,7 @@ ghost use Rattle.std.specs.Prelude.{◌≡◌, true, false, IfOk};
 ghost use Rattle.mw_words.specs.declared.jobs.Job.TheVariants.{Get};
 ghost use Rattle.mw_actor.specs.ActorState.{ActorState};
 ghost use Rattle.mw_core.specs.ReadRounds.{Looks, is_over};
-ghost use Rattle.mw_core.specs.FromTable.{IsCarried, IsOfSameWorker, View as Knowledge};
+ghost use Rattle.mw_core.specs.FromTable.{IsCarried, IsOfSameWorker, View as Knowledge, known};
 ghost use Rattle.mw_engine.specs.History.{IsAnswered, IsSince, ReadOutcome};
 ghost use Rattle.mw_engine.specs.Identity.{IsFor};
 ghost use Rattle.mw_engine.specs.Passes.{IsPassOf};
@@ -35,8 +35,8 @@ impl<J: EngineBrand, D: Disk, H> Engine<J, D, H> {
         ensures own { IsPassOf J.identity pass.new }
         ensures worker { IsOfSameWorker pass.old pass.new }
         ensures looks { (next : ActorState) × Looks pass.old pass.new (read_of J.identity pass.old tenant address) next result }
-        ensures call { (first : Knowledge) → IsSince pass.old.idle first pass.old.seat.me.0 (read_of J.identity pass.old tenant address)
-            → ReadOutcome result first pass.new.seat.me.0 (read_of J.identity pass.old tenant address) }
+        ensures call { (first : Knowledge) → IsSince pass.old.idle first (known pass.old) (read_of J.identity pass.old tenant address)
+            → ReadOutcome result first (known pass.new) (read_of J.identity pass.old tenant address) }
         ensures goes_on { pass.new.idle ≡ false → IsCarried pass.new (read_of J.identity pass.new tenant address) }
         ensures answers { IfOk result (IsReplyTo (Get address)) }
         ensures idle { pass.new.idle ≡ is_over result }
@@ -53,8 +53,8 @@ impl<J: EngineBrand, D: Disk, H> Engine<J, D, H> {
         requires goes_on { pass.old.idle ≡ false → IsCarried pass.old (read_of J.identity pass.old tenant address) }
         ensures own { IsPassOf J.identity pass.new }
         ensures worker { IsOfSameWorker pass.old pass.new }
-        ensures call { (first : Knowledge) → IsSince pass.old.idle first pass.old.seat.me.0 (read_of J.identity pass.old tenant address)
-            → IsAnswered first pass.new.seat.me.0 tenant (Get address) result }
+        ensures call { (first : Knowledge) → IsSince pass.old.idle first (known pass.old) (read_of J.identity pass.old tenant address)
+            → IsAnswered first (known pass.new) tenant (Get address) result }
         ensures answers { IsReplyTo (Get address) result }
         ensures idle { pass.new.idle ≡ true }
     {

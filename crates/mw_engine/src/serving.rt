@@ -4,7 +4,7 @@
 //! it, of `specs/History` or `specs/Replies` changes what clients are promised.
 ghost use Rattle.std.specs.Prelude.{◌≡◌, true, false, None};
 ghost use Rattle.mw_actor.specs.Program.{replied};
-ghost use Rattle.mw_core.specs.FromTable.{IsCarried, IsOfSameWorker, View as Knowledge};
+ghost use Rattle.mw_core.specs.FromTable.{IsCarried, IsOfSameWorker, View as Knowledge, known};
 ghost use Rattle.mw_engine.specs.History.{IsAnswered, IsInProgress};
 ghost use Rattle.mw_engine.specs.Identity.{IsFor};
 ghost use Rattle.mw_engine.specs.Passes.{IsPassOf};
@@ -35,7 +35,7 @@ impl<J: EngineBrand, D: Disk + Drop, H: Hold + Drop> Engine<J, D, H> {
         requires idle { pass.old.idle ≡ true }
         ensures own { IsPassOf J.identity pass.new }
         ensures worker { IsOfSameWorker pass.old pass.new }
-        ensures answered { IsAnswered pass.old.seat.me.0 pass.new.seat.me.0 tenant job.now result }
+        ensures answered { IsAnswered (known pass.old) (known pass.new) tenant job.now result }
         ensures answers { IsReplyTo job.now result }
         ensures idle { pass.new.idle ≡ true }
     {

@@ -6,7 +6,7 @@ ghost use Rattle.std.specs.Prelude.{◌≡◌, true, false, is_some, IfSome, Non
 ghost use Rattle.mw_actor.specs.Program.{replied};
 ghost use Rattle.mw_core.specs.declared.calls.Advance.TheVariants.{NeedsFile};
 ghost use Rattle.mw_core.specs.Steps.{answer_of};
-ghost use Rattle.mw_core.specs.FromTable.{IsCarried, IsOfSameWorker, View as Knowledge};
+ghost use Rattle.mw_core.specs.FromTable.{IsCarried, IsOfSameWorker, View as Knowledge, known};
 ghost use Rattle.mw_engine.specs.History.{IsInProgress, IsSince, RequestOutcome};
 ghost use Rattle.mw_engine.specs.Passes.{IsPassOf};
 ghost use Rattle.mw_engine.specs.Replies.{IsOnItsWay, IsReplyTo};
@@ -33,7 +33,7 @@ impl<J: EngineBrand, D: Disk, H> Engine<J, D, H> {
         ensures step { MakesStep pass.old pass.new actor.old actor.new result }
         ensures request { IsSameRequest actor.old actor.new }
         ensures file { result ≡ NeedsFile → IsAtCall actor.new }
-        ensures call { (first : Knowledge) → IsSince pass.old.idle first pass.old.seat.me.0 actor.old → RequestOutcome first pass.new.seat.me.0 actor.new }
+        ensures call { (first : Knowledge) → IsSince pass.old.idle first (known pass.old) actor.old → RequestOutcome first (known pass.new) actor.new }
         ensures way { IsOnItsWay actor.old.job actor.old.point → IsOnItsWay actor.new.job actor.new.point }
         ensures answers { IsOnItsWay actor.old.job actor.old.point → IfSome (replied actor.new) (IsReplyTo actor.new.job) }
         ensures goes_on { pass.new.idle ≡ false → IsCarried pass.new actor.new }

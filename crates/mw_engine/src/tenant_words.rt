@@ -6,7 +6,7 @@ ghost use Rattle.mw_core.specs.FromTable.{openings_of};
 ghost use Rattle.mw_engine.specs.LinesOfWorld.{Agrees, places_told};
 ghost use Rattle.mw_engine.specs.Lines.{HasFewPlaces, line_of, places_of};
 
-use crate::listed::Listed;
+use crate::tenant_line::Listed;
 use arrayvec::ArrayVec;
 use mw_core::Core;
 use mw_words::MAX_TENANTS;

@@ -113,7 +113,7 @@ impl WaitingRoom {
     }
 
     /// Takes the worker out of the room whose call is made next, if one may be made, and adds the changes that wait
-    /// here to a list. If the call syncs, the first worker that was served is to be woken meanwhile, and is added to
+    /// here to a list. If the call syncs, the first worker that was served is woken meanwhile, and is added to
     /// `woken`. The caller has the file's lock.
     pub(crate) fn choose(
         &self,

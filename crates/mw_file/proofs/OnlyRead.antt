@@ -12,8 +12,8 @@ use Rattle.mw_record.specs.Damages.{damage_of, words_in}
 use Rattle.mw_record.proofs.FirstBytes.{file_words_first, places_of_first}
 use Rattle.mw_file.specs.declared.place_states.PlaceState.{PlaceState}
 use Rattle.mw_file.specs.declared.tenant_file.TenantFile.{TenantFile}
-use Rattle.mw_file.specs.declared.copies.CopyFault.{CopyFault}
-use Rattle.mw_file.specs.declared.copies.CopyFault.TheVariants.{Failed, Disk, Memory}
+use Rattle.mw_file.specs.declared.tenant_file.CopyFault.{CopyFault}
+use Rattle.mw_file.specs.declared.tenant_file.CopyFault.TheVariants.{Failed, Disk, Memory}
 use Rattle.mw_file.specs.Copies.{FrontEnds, CopyEnds, IsOnlyRead}
 use Rattle.mw_file.specs.File.{disk_of, at_of, words_of as number_of, states_of, has_failed}
 use Rattle.mw_file.specs.OpeningEnds.{front}

@@ -1,4 +1,4 @@
--- A file has a free place exactly if fewer places have a change than there are. A call changes this count by one place.
+-- A file has a free place exactly if fewer places have a change than there are.
 -- Used by: places_are_counted, mw_plain.
 use Rattle.std.proofs.Common.{◌≡◌, ◌≢◌, ℕ, zero, suc, ◌+◌, ◌<◌, ◌≤◌, List, [], ◌∷◌, length, Some, is_some, nat_lt, if◌then◌else◌, refl, sym, ap, ◌∙◌, inl, inr, arith}
 use Rattle.std.proofs.lemmas.Bool.{cases_lt, lt-ltb, le-ltb}

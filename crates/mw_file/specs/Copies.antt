@@ -1,13 +1,13 @@
 -- Defines how a copy of a file's bytes ends, and that it leaves the file as it was.
--- Used by: mw_book, copies.rt. A change here changes what a backup of a served file is.
+-- Used by: mw_book, opening.rt, tenant_file.rt. A change here changes what a backup of a served file is.
 use Rattle.std.specs.Prelude.{◌≡◌, ℕ, false, List, length, Vec, Result, Ok, Err, IsTrue}
 use Rattle.std.specs.declared.alloc.Global.{Global}
 use Rattle.mw_disk.specs.Facts.{Facts}
 use Rattle.mw_disk.specs.Runs.{Good, Bad, Later, Touched}
 use Rattle.mw_record.specs.Records.{Pairs}
 use Rattle.mw_file.specs.declared.tenant_file.TenantFile.{TenantFile}
-use Rattle.mw_file.specs.declared.copies.CopyFault.{CopyFault}
-use Rattle.mw_file.specs.declared.copies.CopyFault.TheVariants.{Failed, Disk, Memory}
+use Rattle.mw_file.specs.declared.tenant_file.CopyFault.{CopyFault}
+use Rattle.mw_file.specs.declared.tenant_file.CopyFault.TheVariants.{Failed, Disk, Memory}
 use Rattle.mw_file.specs.File.{disk_of, at_of, words_of, states_of, has_failed, HadFailed}
 use Rattle.mw_file.specs.OpeningEnds.{front, read_calls}
 use Rattle.mw_file.specs.RecoveryInvariant.{IsFile, RecoversTo}

@@ -1,7 +1,7 @@
 -- Defines which device calls prepare, seal, settle and a roll forward make, in order, and with which bytes, also with
 -- changes prepared ahead.
--- Used by: mw_world_file, calls.rt, laws.rt, new_changes.rt, opening.rt, roll.rt. Change it with docs/FILES ("How a change
--- goes in", and "Opening" for the roll forward).
+-- Used by: mw_world_file, laws.rt, new_changes.rt, opening.rt, roll.rt, tenant_file.rt. Change it with docs/FILES ("How a
+-- change goes in", and "Opening" for the roll forward).
 use Rattle.std.specs.Prelude.{ℕ, ◌+◌, true, false, List, [], ◌∷◌, ◌++◌, map, flat_map, Result, Ok, Err, ◌≡◌, Bool}
 use Rattle.mw_words.specs.declared.jobs.Entry.{Entry}
 use Rattle.mw_disk.specs.DeviceCalls.{DeviceCall, WriteAt, Sync, Makes}

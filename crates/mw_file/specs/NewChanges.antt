@@ -1,6 +1,6 @@
 -- Defines the changes that one call prepares together: when it may, and what it leaves of the places and of the bytes.
--- Used by: mw_book, mw_file_tests, calls.rt, laws.rt, new_changes.rt. Of MayPrepare depends which calls may be made, of
--- ArePreparedBeside what they promise.
+-- Used by: mw_book, mw_file_tests, laws.rt, new_changes.rt, tenant_file.rt. Of MayPrepare depends which calls may be made,
+-- of ArePreparedBeside what they promise.
 use Rattle.std.specs.Prelude.{◌≡◌, ◌≢◌, ◌<◌, ◌≤◌, ◌==◌, ℕ, List, length, drop, All, if◌then◌else◌, IsTrue}
 use Rattle.std.specs.List.{AllPairs}
 use Rattle.mw_words.specs.Change.{is_change}

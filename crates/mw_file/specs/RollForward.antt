@@ -1,6 +1,6 @@
 -- Defines which bytes a roll forward (redo) of sealed changes writes, and what it leaves.
--- Used by: calls.rt, copies.rt, migration.rt, opening.rt, roll.rt. Callers do not see it: it may change with roll.rt and
--- the writes of calls.rt.
+-- Used by: migration.rt, opening.rt, roll.rt, tenant_file.rt. Callers do not see it: it may change with roll.rt and the
+-- writes of tenant_file.rt.
 use Rattle.std.specs.Prelude.{◌≡◌, ◌⊎◌, ◌<◌, ◌≤◌, ℕ, ◌+◌, ◌-◌, true, Option, Some, None, List, length, drop, slice_index, IsTrue}
 use Rattle.mw_disk.specs.Facts.{Facts, MayLeave, IsSynced}
 use Rattle.mw_disk.specs.Runs.{Fits, SameBut}

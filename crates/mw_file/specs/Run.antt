@@ -1,6 +1,6 @@
 -- Defines how a run of device calls ends, and what it means that a disk is known to fail at one call.
--- Used by: calls.rt, laws.rt, migration.rt, new_changes.rt, opening.rt, roll.rt. A change here changes what is promised of
--- that call.
+-- Used by: laws.rt, migration.rt, new_changes.rt, opening.rt, roll.rt, tenant_file.rt. A change here changes what is
+-- promised of that call.
 use Rattle.std.specs.Prelude.{◌≡◌, ◌<◌, ℕ, Some, true, false, Result, Ok, Err, IsTrue}
 use Rattle.mw_disk.specs.Facts.{Facts, NothingNew}
 use Rattle.mw_disk.specs.Runs.{Good, Bad}

@@ -30,10 +30,7 @@
 //! Used by: many crates from mw_plain on. A change of a contract changes what these promise.
 #![tactic(auto)]
 
-mod calls;
-mod copies;
 mod laws;
-mod memory;
 mod migration;
 mod new_changes;
 mod opening;
@@ -41,7 +38,6 @@ mod place_states;
 mod roll;
 mod tenant_file;
 
-pub use copies::CopyFault;
 pub use laws::{
     crash_in_an_opening, crash_of_a_file, one_sealed_place_settles_alone, places_are_counted,
     the_device_fails_where_it_is_told,
@@ -49,4 +45,4 @@ pub use laws::{
 pub use new_changes::NewChange;
 pub use opening::OpenFault;
 pub use place_states::{PlaceState, Stage, Writes};
-pub use tenant_file::{FileFault, Place, TenantFile};
+pub use tenant_file::{CopyFault, FileFault, Place, TenantFile};

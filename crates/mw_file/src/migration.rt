@@ -14,7 +14,7 @@ ghost use Rattle.mw_file.specs.OpeningCalls.{lay_list, migration_list};
 ghost use Rattle.mw_file.specs.RollForward.{InRange};
 ghost use Rattle.mw_file.specs.Run.{Ran};
 
-use crate::calls::write_and_sync;
+use crate::tenant_file::write_and_sync;
 use mw_disk::{Disk, DiskFault};
 use mw_record::{COMMITTED, SECOND_AT, SWITCH_AT, home_word};
 

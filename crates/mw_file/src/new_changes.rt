@@ -1,6 +1,6 @@
 //! Prepares several changes by the sync of one call: writes their records, and sets the states of their places.
 //!
-//! `prepare_all`, `seal_with` and `settle_all` of `calls.rt` use it; mw_book makes the [`NewChange`]s.
+//! `prepare_all`, `seal_with` and `settle_all` of `tenant_file.rt` use it; mw_book makes the [`NewChange`]s.
 //! `specs/NewChanges`, `specs/DeviceCalls` and docs/FILES tell the device calls and their order: change them together.
 ghost use Rattle.std.specs.Prelude.{◌≢◌, ◌+◌, ◌≤◌, ◌<◌, ◌^◌, ℕ, List, length, drop, is_ok, [], ◌∷◌, ◌++◌, OnOk, All};
 ghost use Rattle.std.specs.List.{AllPairs};
@@ -16,10 +16,9 @@ ghost use Rattle.mw_file.specs.declared.place_states.Stage.TheVariants.{Sealed};
 ghost use Rattle.mw_file.specs.NewChanges.{AreWritten, CanPrepare, AreRecorded, IsDurableWith, ArePrepared};
 ghost use Rattle.mw_file.specs.RecoveryInvariant.{IsBeforeOrAfter};
 
-use crate::calls::write_and_sync;
 use crate::place_states::{PlaceState, Stage, writes_to};
 use crate::roll::roll_forward;
-use crate::tenant_file::Place;
+use crate::tenant_file::{Place, write_and_sync};
 use mw_disk::{Disk, DiskFault};
 use mw_record::{COMMITTED, body, place_at};
 use mw_words::Entries;

@@ -4,6 +4,7 @@
 //! mw_opening opens each tenant's file by it before a server serves; mw_world_file and tests open files in memory.
 //! `specs/OpeningEnds` says how it ends, and `specs/OpeningCalls` which device calls it makes. A new [`OpenFault`] needs a
 //! case in both, in mw_opening and in mw_world_file (`opening.rt` of each). docs/PROMISES and docs/THEOREM cite `open`.
+//! A copy of a file in use (`tenant_file.rt`) reads its bytes by `front`: change it with `specs/Copies`.
 ghost use Rattle.std.specs.Prelude.{◌≡◌, true, false, ◌*◌, ◌≤◌, ◌<◌, ◌^◌, ◌==◌, ℕ, not, if◌then◌else◌, List, length, None, vec_len, min, take, is_ok, [], IsTrue, IfOk, OnOk};
 ghost use Rattle.mw_words.specs.declared.limits.TheConstants.{MAX_PLACES, MAX_WORDS};
 ghost use Rattle.mw_record.specs.declared.layout.Layout.TheVariants.{First};
@@ -24,12 +25,13 @@ ghost use Rattle.mw_file.specs.RollForward.{CanRepair, CanFinish, IsRolled, IsRe
 ghost use Rattle.mw_file.specs.Run.{Ran, IsUntouched};
 ghost use Rattle.mw_file.specs.PlaceStates.{all_free, commit_writes, roll_calls};
 ghost use Rattle.mw_file.specs.Stores.{IsDurable};
+ghost use Rattle.mw_file.specs.Copies.{FrontEnds};
 ghost use Rattle.mw_file.specs.declared.place_states.Stage.TheVariants.{Prepared, Sealed};
 
 use crate::migration::migrate;
 use crate::place_states::{PlaceState, Stage, Writes};
 use crate::roll::roll_forward;
-use crate::tenant_file::TenantFile;
+use crate::tenant_file::{CopyFault, TenantFile};
 use mw_disk::{Disk, DiskFault};
 use mw_record::{
     Damage, Image, Layout, MAX_FILE, MAX_SECOND, PLACES_GROW, decode, size, size2, write_second,
@@ -139,8 +141,27 @@ fn read_file<D: Disk>(alloc: Global, disk: &mut D) -> Result<Room, OpenFault>
     Ok(room)
 }
 
+/// Reads the bytes of a disk that can belong to a file.
+pub(crate) fn front<D: Disk>(disk: &mut D, alloc: Global) -> Result<Vec<u8>, CopyFault>
+    ensures ends { FrontEnds (D.facts disk.old) (D.facts disk.new) result }
+    ensures later { Later (D.facts disk.old) (D.facts disk.new) }
+    ensures touched { IsTrue (D.facts disk.old).honest → Touched Nowhere (D.facts disk.old) (D.facts disk.new) }
+{
+    let Ok(len) = disk.len() else {
+        return Err(CopyFault::Disk);
+    };
+    let size = len.min(MAX_FILE as u64) as usize;
+    let Ok(mut bytes) = vec![in alloc; 0; size] else {
+        return Err(CopyFault::Memory);
+    };
+    if read_front(disk, &mut bytes).is_err() {
+        return Err(CopyFault::Disk);
+    }
+    Ok(bytes)
+}
+
 /// Reads the first bytes of the disk. It makes no device call if there are none to read.
-pub(crate) fn read_front<D: Disk>(disk: &mut D, bytes: &mut [u8]) -> Result<(), DiskFault>
+fn read_front<D: Disk>(disk: &mut D, bytes: &mut [u8]) -> Result<(), DiskFault>
     requires within { IsTrue (D.facts disk.old).honest → length bytes.old ≤ length (D.facts disk.old).reads }
     ensures calls { Ran (min 1 (length bytes.old)) (D.facts disk.old) (D.facts disk.new) result }
     ensures made { Makes D.made (front_list (length bytes.old)) (is_ok result) disk.old disk.new }

@@ -1,7 +1,7 @@
 //! The states in which an open file keeps its record places in memory: free, prepared or sealed, with the values to
 //! write.
 //!
-//! `opening.rt` makes them, `calls.rt` and `new_changes.rt` change them, `roll.rt` reads them. Used also by mw_book
+//! `opening.rt` makes them, `tenant_file.rt` and `new_changes.rt` change them, `roll.rt` reads them. Used also by mw_book
 //! (`place_table.rt`, `waiting.rt`), and by contracts of mw_plain, mw_world_file and mw_engine. A new [`Stage`] needs
 //! a case in `specs/PlaceStates`, `specs/DeviceCalls`, `specs/RollForward`, `specs/Stores` and `specs/Taken`, and in
 //! `specs/Permits`, `specs/SettledAhead` and `place_table.rt` of mw_book.

@@ -1,6 +1,7 @@
 //! States what holds of every run of one request, whatever its steps find in the shared words.
 //!
-//! The functions are empty: their contracts are the facts. mw_law_store cites the lemmas behind them. To change a fact,
+//! The functions are empty: their contracts are the facts. No crate cites them, but mw_law_store the lemmas
+//! behind them; docs/HOW-IT-IS-PROVED cites two. To change a fact,
 //! begin with its definition in `specs`.
 ghost use Rattle.mw_law_runs.specs.Requests.Order.{StepsComeInTurn};
 ghost use Rattle.mw_law_runs.specs.Requests.HoldOrder.{PlantsRise};

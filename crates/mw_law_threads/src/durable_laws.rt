@@ -1,5 +1,6 @@
 //! States which files a crash may leave after a change was answered YES, FAULT or nothing. The functions are empty:
-//! their contracts are the facts, and a change of one changes a theorem.
+//! their contracts are the facts, and a change of one changes a theorem. No crate cites them; docs/JOINTS and docs/PROMISES
+//! do. Change them with `specs/Durable`.
 ghost use Rattle.mw_law_threads.specs.Durable.Durable.{CallsKeepChanges, CallsLeaveWholeChanges, CallsLeaveWhollyOrNot, MomentsLeaveWholeChanges};
 ghost use Rattle.mw_law_threads.specs.Durable.Starts.{EnginesStartWithChanges, StartsFindChanges};
 

@@ -1,5 +1,5 @@
 //! States that the replies of all passes are right in one history. The function is empty: its contract is the fact, and a change
-//! of it changes a theorem.
+//! of it changes a theorem. No crate cites it; docs/JOINTS and docs/PROMISES do. Change it with `specs/History`.
 ghost use Rattle.mw_law_threads.specs.History.OneHistory.{MomentsHaveOneHistory};
 
 use mw_rule::Begins;

@@ -1,5 +1,5 @@
 //! States that each reply has a moment. The function is empty: its contract is the fact, and a change of it changes a
-//! theorem.
+//! theorem. No crate cites it; docs/THEOREM does. Change it with `specs/Moments`.
 ghost use Rattle.mw_law_threads.specs.Moments.Moments.{RepliesHaveMoments, SharedWordsAreTheFiles};
 
 /// Each reply but WORN was true at a moment of its call, in every run, also when a number was used up. The call is what

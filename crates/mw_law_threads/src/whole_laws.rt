@@ -1,5 +1,5 @@
 //! States which changes are in a tenant's file. The functions are empty: their contracts are the facts, and a change
-//! of one changes a theorem.
+//! of one changes a theorem. No crate cites them; docs/PROMISES does. Change them with `specs/Whole`.
 ghost use Rattle.mw_law_threads.specs.Whole.Refusals.{RefusedRequestsMakeNoChange};
 ghost use Rattle.mw_law_threads.specs.Whole.WholeChanges.{DoubtIsWhole, PlacesHoldWholeChanges, RequestsAskForOneChange, RequestsStayAsked, SealedChangesAreWhole};
 

@@ -1,7 +1,6 @@
 //! Opens a file only if it is a plain one: the tenants file and the script.
 //!
-//! Used by: `opening`; mw_programs. docs/OPERATING has the text; mw_examples and scripts/check-refusals expect it. It
-//! has no contracts.
+//! Used by: `opening`; mw_programs. mw_examples and scripts/check-refusals expect its text. It has no contracts.
 use std::fs::{self, File};
 use std::io;
 use std::rt::Files;

@@ -17,7 +17,7 @@ use Rattle.mw_file.specs.RecoveryInvariant.{RecoversTo}
 use Rattle.mw_record.specs.Layout.{pairs_of}
 use Rattle.mw_lone.specs.Store.{Store}
 use Rattle.mw_plain.specs.declared.loaded_file.LoadedFile.{LoadedFile}
-use Rattle.mw_plain.specs.declared.part.Part.{Part}
+use Rattle.mw_plain.specs.declared.tenant.Part.{Part}
 use Rattle.mw_plain.specs.declared.plain.Plain.{Plain}
 use Rattle.mw_plain.specs.Quotas.{quotas_of}
 use Rattle.mw_plain.specs.Lines.{IsWithin, FitsLine, FitLines, IsMadeOf, AreMadeOf, IsServedFrom, WordsRead, KeepsRead, StartsWith, quotas_in}

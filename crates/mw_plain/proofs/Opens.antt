@@ -3,7 +3,7 @@ use Rattle.std.proofs.Common.{◌≡◌, ℕ, ◌<◌, Option, IsTrue, sym, ap, 
 use Rattle.std.proofs.lemmas.Bool.{cases_eq}
 use Rattle.std.specs.Option.{option_and_then, option_map_or}
 use Rattle.mw_words.specs.Change.{is_change}
-use Rattle.mw_plain.specs.declared.part.Part.{Part}
+use Rattle.mw_plain.specs.declared.tenant.Part.{Part}
 use Rattle.mw_plain.specs.declared.plain.Plain.{Plain}
 use Rattle.mw_plain.specs.declared.tickets.Ticket.{Ticket}
 use Rattle.mw_plain.specs.Books.{IsPrepared}

@@ -13,7 +13,7 @@ use Rattle.mw_words.specs.declared.replies.Reply.{Reply}
 use Rattle.mw_words.specs.Change.{is_well_formed, is_change}
 use Rattle.mw_lone.specs.Store.{entries_of}
 use Rattle.mw_lone.proofs.SoundStores.{length-put}
-use Rattle.mw_plain.specs.declared.part.Part.{Part}
+use Rattle.mw_plain.specs.declared.tenant.Part.{Part}
 use Rattle.mw_plain.specs.declared.plain.Plain.{Plain}
 use Rattle.mw_plain.specs.declared.loaded_file.Begun.{Begun}
 use Rattle.mw_plain.specs.declared.loaded_file.Begun.TheVariants.{Done, Prepared as PreparedIn}

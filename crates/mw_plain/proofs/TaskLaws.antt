@@ -11,7 +11,7 @@ use Rattle.mw_words.specs.declared.jobs.Job.{Job}
 use Rattle.mw_words.specs.declared.replies.Reply.{Reply}
 use Rattle.mw_words.specs.Change.{is_well_formed}
 use Rattle.mw_lone.specs.Store.{Store}
-use Rattle.mw_plain.specs.declared.part.Part.{Part}
+use Rattle.mw_plain.specs.declared.tenant.Part.{Part}
 use Rattle.mw_plain.specs.declared.plain.Plain.{Plain}
 use Rattle.mw_plain.specs.declared.tickets.Task.{Task}
 use Rattle.mw_plain.specs.Parts.{ServesOne}

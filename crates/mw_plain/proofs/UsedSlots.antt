@@ -9,7 +9,7 @@ use Rattle.mw_words.specs.declared.limits.TheConstants.{MAX_PLACES, MAX_POOL, MA
 use Rattle.mw_report.specs.declared.figures.TenantFigures.{TenantFigures}
 use Rattle.mw_report.specs.Table.{IsWithinLimits, AreWithinLimits}
 use Rattle.mw_plain.specs.declared.loaded_file.LoadedFile.{LoadedFile}
-use Rattle.mw_plain.specs.declared.part.Part.{Part}
+use Rattle.mw_plain.specs.declared.tenant.Part.{Part}
 use Rattle.mw_plain.specs.Books.{used_in, places_in}
 use Rattle.mw_plain.specs.Quotas.{quotas_of, used_by}
 use Rattle.mw_plain.specs.Report.{figures_of}

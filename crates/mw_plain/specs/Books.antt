@@ -1,5 +1,5 @@
 -- Names the parts of a tenant's loaded file (its open file, with its words in memory), also if the file didn't open.
--- Used by: loaded_file.rt, part.rt. It may change with LoadedFile, in src/loaded_file.rt.
+-- Used by: loaded_file.rt, tenant.rt. It may change with LoadedFile, in src/loaded_file.rt.
 use Rattle.std.specs.Prelude.{◌≡◌, ℕ, Bool, true, false, List, length, Option, Some, None}
 use Rattle.mw_words.specs.declared.jobs.Entry.{Entry}
 use Rattle.mw_file.specs.declared.place_states.Stage.TheVariants.{Prepared}

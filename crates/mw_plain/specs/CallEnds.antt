@@ -1,5 +1,5 @@
 -- Defines how the start of a job and the finish of a change end for one tenant: its reply, its file, and its store alone.
--- Used by: loaded_file.rt, part.rt. It may change with them, as long as Answers still follows.
+-- Used by: loaded_file.rt, tenant.rt. It may change with them, as long as Answers still follows.
 use Rattle.std.specs.Prelude.{◌≡◌, ◌≢◌, ◌≤◌, ◌+◌, ℕ, true, false, List, length, Option, Some, None, is_some}
 use Rattle.mw_disk.specs.Facts.{Facts}
 use Rattle.mw_disk.specs.Runs.{Good, Bad}

@@ -1,6 +1,6 @@
 -- Defines the cases in which a call of the plain store may end: each has marks (events), the reply that they hand out, and
 -- the store alone after them.
--- Used by: loaded_file.rt, part.rt, plain.rt, restarts.rt. A new mark or reply needs a case here first; Answers and CallEnds
+-- Used by: loaded_file.rt, plain.rt, restarts.rt, tenant.rt. A new mark or reply needs a case here first; Answers and CallEnds
 -- follow it.
 use Rattle.std.specs.Prelude.{ℕ, ◌≡◌, ◌≢◌, ◌<◌, ◌+◌, ◌-◌, Bool, true, false, List, [], ◌∷◌, ◌++◌, length, Option, Some, None, IsTrue, IsSomeAnd, slice_get, take}
 use Rattle.std.specs.Option.{option_map}

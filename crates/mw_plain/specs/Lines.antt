@@ -1,5 +1,5 @@
 -- Defines which opened files fit which tenants' lines, and of what parts a new plain store is made.
--- Used by: mw_store_tests, mw_engine_tests, opening.rt. A change here changes which files a store may be made of.
+-- Used by: mw_store_tests, mw_engine_tests, plain.rt, tenant.rt. A change here changes which files a store may be made of.
 use Rattle.std.specs.Prelude.{◌≡◌, ◌≤◌, ℕ, true, false, List, [], ◌∷◌, length, sum_by, Option, Some, None, Vec, IsTrue}
 use Rattle.std.specs.declared.alloc.Global.{Global}
 use Rattle.mw_disk.specs.Facts.{Facts}
@@ -11,7 +11,7 @@ use Rattle.mw_file.specs.RecoveryInvariant.{RecoversTo}
 use Rattle.mw_file.specs.PlaceStates.{all_free}
 use Rattle.mw_lone.specs.Store.{Store}
 use Rattle.mw_plain.specs.declared.loaded_file.LoadedFile.{LoadedFile}
-use Rattle.mw_plain.specs.declared.part.Part.{Part}
+use Rattle.mw_plain.specs.declared.tenant.Part.{Part}
 
 -- a line keeps the limits
 pub record IsWithin (line : TenantLine) : Type 0 where

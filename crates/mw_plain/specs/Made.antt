@@ -1,5 +1,5 @@
 -- Defines which store alone (sequential specification) represents each tenant of a new plain store.
--- Used by: opening.rt. A change here changes what Plain::new promises.
+-- Used by: plain.rt. A change here changes what Plain::new promises.
 use Rattle.std.specs.Prelude.{◌≡◌, ℕ, List, slice_get, Some, Option, Vec}
 use Rattle.std.specs.declared.alloc.Global.{Global}
 use Rattle.mw_disk.specs.Facts.{Facts}

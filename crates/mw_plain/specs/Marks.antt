@@ -1,5 +1,5 @@
--- Claims of each case in which a call of the plain store may end that its marks (events) are legal for the store alone, hand
--- out the call's reply, and lead to the case's store.
+-- Says of each case in which a call of the plain store may end: its marks (events) are legal for the store alone, they hand out
+-- the call's reply, and they lead to the case's store.
 -- Used by: laws.rt. A change here changes the law marks_of_a_call.
 use Rattle.std.specs.Prelude.{ℕ, ◌≡◌, ◌≢◌, Bool, if◌then◌else◌, List, [], ◌∷◌, ◌++◌, length, Option, Some, IsTrue}
 use Rattle.std.specs.Option.{option_and_then, option_map, option_to_list}

@@ -1,10 +1,10 @@
 -- Names the parts of a plain store: its tenants by number, and the words, quota (limit of changes under way) and loaded file
 -- of each.
--- Used by: mw_store_tests, part.rt, plain.rt, restarts.rt.
+-- Used by: mw_store_tests, plain.rt, restarts.rt, tenant.rt.
 use Rattle.std.specs.Prelude.{List, ◌≡◌, ◌≢◌, ℕ, length, slice_get, Option}
 use Rattle.std.specs.Option.{option_and_then, option_map, option_map_or}
 use Rattle.mw_plain.specs.declared.loaded_file.LoadedFile.{LoadedFile}
-use Rattle.mw_plain.specs.declared.part.Part.{Part}
+use Rattle.mw_plain.specs.declared.tenant.Part.{Part}
 use Rattle.mw_plain.specs.declared.plain.Plain.{Plain}
 
 -- a tenant's name, number of words and quota, as its line tells them, stay the same

@@ -1,9 +1,9 @@
 -- Defines how many slots the tenants of a plain store may use and do use, and which disks their files are on.
--- Used by: opening.rt, plain.rt.
+-- Used by: plain.rt, tenant.rt.
 use Rattle.std.specs.Prelude.{ℕ, List, sum_by, Option}
 use Rattle.std.specs.Option.{option_map}
 use Rattle.mw_file.specs.File.{disk_of}
-use Rattle.mw_plain.specs.declared.part.Part.{Part}
+use Rattle.mw_plain.specs.declared.tenant.Part.{Part}
 use Rattle.mw_plain.specs.Books.{used_in}
 
 module _ {D : Type 0} where

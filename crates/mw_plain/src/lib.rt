@@ -19,10 +19,9 @@
 mod changes;
 mod laws;
 mod loaded_file;
-mod opening;
-mod part;
 mod plain;
 mod restarts;
+mod tenant;
 mod tickets;
 
 pub use laws::marks_of_a_call;

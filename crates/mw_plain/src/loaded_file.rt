@@ -1,8 +1,8 @@
 //! A tenant's file after it has opened, with its words in memory, the slots in use, and whether it has faulted. It starts
 //! and finishes the tenant's changes, and answers its reads.
 //!
-//! Used by: `part`, `plain`; `opening.rt`, which makes it. A new field needs a value in `opening.rt`, and a clause in
-//! `specs/Refinement` if the store alone knows of it. Change the calls with `specs/CallEnds`, `specs/Books`,
+//! Used by: `plain`; `tenant`, which makes it. A new field needs a value in `tenant.rt`, its name in `into_disk`, and a
+//! clause in `specs/Refinement` if the store alone knows of it. Change the calls with `specs/CallEnds`, `specs/Books`,
 //! `specs/Cases` and `specs/Misses`.
 ghost use Rattle.std.specs.Prelude.{◌≡◌, ◌≤◌, ℕ, false, Some, length, vec_len, IsTrue};
 ghost use Rattle.mw_words.specs.Change.{is_change, is_well_formed, fits};
@@ -42,6 +42,7 @@ pub(crate) enum Begun {
 }
 
 impl<D: Disk> LoadedFile<D> {
+    ghost use Rattle.mw_file.specs.File.{disk_of};
     ghost use Rattle.mw_plain.specs.Books.{IsPrepared};
     ghost use Rattle.mw_plain.specs.Cases.{StartCase, FinishCase};
     ghost use Rattle.mw_plain.specs.CallEnds.{KeepsShape, StartEnds, FinishEnds};
@@ -136,5 +137,17 @@ impl<D: Disk> LoadedFile<D> {
         }
         self.used -= 1;
         Reply::Yes
+    }
+
+    pub(crate) fn into_disk(self) -> D
+        ensures { result ≡ disk_of self.file }
+    {
+        let LoadedFile {
+            file,
+            words: _,
+            used: _,
+            faulted: _,
+        } = self;
+        file.into_disk()
     }
 }

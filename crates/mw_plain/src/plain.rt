@@ -1,9 +1,10 @@
 //! The plain store of all tenants, which serves one call at a time: start, finish, ask, run, and the report's figures, each
-//! for the tenant that it names, and the search for a tenant by its name.
+//! for the tenant that it names, and the search for a tenant by its name. It is made of its tenants' opened files, and
+//! taken apart into their disks again.
 //!
-//! Used by: `opening.rt`, which makes it; mw_store_tests, mw_engine_tests. A new field needs a value in `opening.rt`.
-//! Change the calls with `specs/Answers`, `specs/Tasks`, `specs/Cases`, `specs/Parts`, `specs/Quotas`, `specs/Report`,
-//! `specs/Search` and `specs/Tickets`. docs/PROMISES cites `ask`.
+//! Used by: mw_store_tests, mw_engine_tests. A new field needs a value in `new`, and its name in `into_disks`. Change the
+//! calls with `specs/Answers`, `specs/Tasks`, `specs/Cases`, `specs/Parts`, `specs/Quotas`, `specs/Report`, `specs/Search`
+//! and `specs/Tickets`, and `new` with `specs/Lines` and `specs/Made`. docs/PROMISES cites `ask`.
 ghost use Rattle.std.specs.Prelude.{◌≡◌, ◌<◌, ◌≤◌, ◌-◌, length, map, vec_capacity, vec_len, IsTrue, IfOk, MatchOption, OnErr};
 ghost use Rattle.mw_words.specs.Change.{is_well_formed};
 ghost use Rattle.mw_words.specs.declared.limits.TheConstants.{MAX_POOL, MAX_TENANTS};
@@ -11,10 +12,12 @@ ghost use Rattle.mw_report.specs.Table.{AreWithinLimits};
 ghost use Rattle.mw_plain.specs.Quotas.{quotas_of};
 
 use crate::loaded_file::Begun;
-use crate::part::Part;
+use crate::tenant::Part;
 use crate::tickets::{Start, Task, Ticket};
 use arrayvec::ArrayVec;
+use mw_config::TenantLine;
 use mw_disk::Disk;
+use mw_file::TenantFile;
 use mw_report::{Figures, TenantFigures};
 use mw_words::{Job, MAX_TENANTS, Name, Reply};
 use std::alloc::{AllocError, Global};
@@ -31,6 +34,59 @@ pub struct Plain<D> {
     ghost small: { pool ≤ MAX_POOL },
     ghost empty: { vec_len disks ≡ 0 },
     ghost room: { length parts.items ≤ vec_capacity disks },
+}
+
+impl<D: Disk + Drop> Plain<D> {
+    ghost use Rattle.mw_plain.specs.Lines.{FitLines, AreMadeOf, StartsWith, quotas_in};
+    ghost use Rattle.mw_plain.specs.Made.{EachStands};
+    ghost use Rattle.mw_plain.specs.Quotas.{disk_in};
+
+    /// Makes the store of the tenants with these lines. For each line in order `files` has the opened file with the
+    /// words that were read; `None` if the file didn't open, or doesn't fit its line. A tenant without a file has
+    /// faulted from the start. All tenants share a pool of `pool` slots.
+    ///
+    /// # Errors
+    ///
+    /// [`AllocError`] if memory is out. The files are dropped.
+    pub fn new(
+        alloc: Global,
+        lines: &[TenantLine],
+        files: Vec<Option<(TenantFile<D>, Vec<u64>)>>,
+        pool: u16,
+    ) -> Result<Plain<D>, AllocError>
+        requires few { length lines.now ≤ MAX_TENANTS }
+        requires fit { FitLines lines.now files.items }
+        requires shared { quotas_in lines.now ≤ pool }
+        requires small { pool ≤ MAX_POOL }
+        ensures made { IfOk result (λ plain. AreMadeOf lines.now files.items plain.parts.items) }
+        ensures pool { IfOk result (λ plain. plain.pool ≡ pool) }
+        ensures stands { IfOk result (EachStands D.facts lines.now files.items) }
+    {
+        let disks = Vec::with_capacity(alloc, lines.len())?;
+        let mut parts = Vec::with_capacity(alloc, lines.len())?;
+        for file in files {
+            let part = Part::new(&lines[parts.len()], file);
+            parts.push(part)?;
+        }
+        Ok(Plain { parts, pool, disks })
+    }
+
+    /// Gives the disks of the tenants' files, by the tenant's number; `None` for a file that didn't open. Asks for no
+    /// memory.
+    pub fn into_disks(self) -> Vec<Option<D>>
+        ensures { result.items ≡ map disk_in self.parts.items }
+    {
+        let Plain {
+            parts,
+            pool: _,
+            disks,
+        } = self;
+        let mut disks = disks;
+        for part in parts {
+            disks.push_reserved(part.into_disk());
+        }
+        disks
+    }
 }
 
 impl<D: Disk> Plain<D> {

@@ -4,6 +4,8 @@
 #[cfg(test)]
 mod checks;
 #[cfg(test)]
+mod late_schedule_tests;
+#[cfg(test)]
 mod limit_tests;
 #[cfg(test)]
 mod line_tests;

@@ -4,14 +4,15 @@
 ghost use Rattle.mw_schedule.specs.Playable.{IsSchedule};
 
 use crate::checks::{MEMORY, holds};
+use crate::late_schedule_tests::{OF_LATE_WORKERS, OF_STALE_REFERENCES};
 use crate::line_tests::{
     HEAD, LINES_WITHOUT_ARRIVAL, Lines, MISSING_LINES, STEPS_NOT_ENABLED, STOPS_NOT_ENABLED,
     WORKERS_NOT_ENABLED, WRONG_LINES, WRONG_OLD_LINES,
 };
 use crate::mistake_tests::OF_MISTAKES;
 use crate::schedule_tests::{
-    OF_FILES, OF_LATE_WORKERS, OF_OLD_FILES_AND_SLOTS, OF_REQUESTS, OF_SETTLES,
-    OF_STALE_REFERENCES, OF_TRACED_CLAIMS, SLOT_RECYCLED, Schedule as Text,
+    OF_FILES, OF_OLD_FILES_AND_SLOTS, OF_REQUESTS, OF_SETTLES, OF_TRACED_CLAIMS, SLOT_RECYCLED,
+    Schedule as Text,
 };
 use mw_look::Kind;
 use mw_player::{PlayFault, Player, replay, replay_args, replay_schedule};

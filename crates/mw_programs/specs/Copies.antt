@@ -3,8 +3,8 @@
 use Rattle.std.specs.Prelude.{◌≡◌, ℕ, ◌⊎◌, List, length, Vec, Result, Ok, Err}
 use Rattle.std.specs.declared.alloc.Global.{Global}
 use Rattle.mw_disk.specs.Facts.{Facts}
-use Rattle.mw_file.specs.declared.copies.CopyFault.{CopyFault}
-use Rattle.mw_file.specs.declared.copies.CopyFault.TheVariants as fault
+use Rattle.mw_file.specs.declared.tenant_file.CopyFault.{CopyFault}
+use Rattle.mw_file.specs.declared.tenant_file.CopyFault.TheVariants as fault
 use Rattle.mw_engine.specs.Brand.{Identity}
 use Rattle.mw_engine.specs.Copies.{CopiesOne}
 use Rattle.mw_engine.specs.Identity.{HasNone, IsFirst}

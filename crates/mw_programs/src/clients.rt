@@ -4,9 +4,9 @@
 ghost use Rattle.std.specs.Prelude.{◌<◌, vec_len};
 ghost use Rattle.mw_connections.specs.Promises.{KeepsPromise, PagesKeep};
 
+use crate::addresses::{AdminDoor, ClientDoors, DoorTerms, Doors, PagesDoor, open_doors};
 use crate::beats::{HeldLease, LeaseLook};
 use crate::console::Console;
-use crate::doors::{AdminDoor, ClientDoors, DoorTerms, Doors, PagesDoor, open_doors};
 use crate::pages::{PagesEnd, show_pages};
 use crate::replaced::{FileLook, PERIOD, Stop, look_on};
 use crate::room_notes::RoomNotes;

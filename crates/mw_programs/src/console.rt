@@ -1,6 +1,6 @@
 //! The standard output of a server: where it listens, or what a script's session is told.
 //!
-//! Used by: `serving`, `services`, `clients`, `doors`; mwserve and mw_examples, which give `serve` a [`Printed`].
+//! Used by: `serving`, `services`, `clients`, `addresses`; mwserve and mw_examples, which give `serve` a [`Printed`].
 //! docs/OPERATING tells what is printed: change both together. Scripts and mw_examples (`outputs.rt`) read the words
 //! `ready`, `admin` and `http`.
 ghost use Rattle.std.specs.Prelude.{List};

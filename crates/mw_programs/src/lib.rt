@@ -9,21 +9,21 @@
 //! Used by: mwserve, mw_examples. docs/OPERATING describes the program for users: change them together.
 #![tactic(auto)]
 
+mod addresses;
 mod beats;
 mod clients;
 mod console;
 mod copies;
 mod descriptors;
-mod doors;
 mod ending;
+mod fault_notes;
 mod pages;
 mod promise;
-mod prompt;
 mod replaced;
 mod room_notes;
 mod services;
 mod serving;
-mod tenants;
+mod standard_error;
 
 pub use console::{Address, Console, Printed, ScriptConsole};
 pub use ending::{ServedApart, ServerEnd, ends_on_failure};
@@ -31,6 +31,6 @@ pub use mw_connections::Anything;
 pub use mw_disk::Disk;
 pub use mw_opening::{LockedFiles, OpensDisks, OpensPaths, TenantDisk};
 pub use promise::{EngineNetwork, ServerNetwork, ServerPromise};
-pub use prompt::PromptErrors;
 pub use replaced::SeesPaths;
 pub use serving::serve;
+pub use standard_error::PromptErrors;

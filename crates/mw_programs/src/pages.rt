@@ -1,6 +1,6 @@
 //! Shows the server's pages over HTTP, beside its clients, on a thread of its own.
 //!
-//! Used by: `services`, `doors`, `clients`. Change it with docs/OPERATING.
+//! Used by: `services`, `addresses`, `clients`. Change it with docs/OPERATING.
 ghost use Rattle.mw_connections.specs.Promises.{PagesKeep};
 
 use mw_connections::{BriefLimits, BriefListener, Closer};

@@ -1,6 +1,6 @@
 //! Says how each kind of step changes the bits of its word: by an exchange, a store, a subtraction, or setting bits.
 //!
-//! Used by: mw_table (`src/turns.rt`, `src/call_steps.rt`). `specs/Ways` says the same for proofs: change both
+//! Used by: mw_table (`src/next_step.rt`, `src/file_call_steps.rt`). `specs/Ways` says the same for proofs: change both
 //! together.
 ghost use Rattle.std.specs.Prelude.{◌≡◌};
 ghost use Rattle.mw_rule.specs.Ways as spec;

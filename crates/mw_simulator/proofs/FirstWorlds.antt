@@ -12,7 +12,7 @@ use Rattle.arrayvec.specs.ArrayVec.{ArrayVec}
 use Rattle.mw_words.specs.declared.jobs.Entry.{Entry}
 use Rattle.mw_words.specs.Change.{AreWords, is_change, put}
 use Rattle.mw_words.specs.declared.limits.TheConstants.{MAX_VALUE}
-use Rattle.mw_world_file.specs.declared.book.SimulatedFile.{SimulatedFile}
+use Rattle.mw_world_file.specs.declared.simulated_file.SimulatedFile.{SimulatedFile}
 use Rattle.mw_world_file.specs.declared.unopened.TheConstants.{OLD_ENTRIES, OLD_PLACES}
 use Rattle.mw_world_file.specs.Books.{Represents as ShowsFile}
 use Rattle.mw_world_file.specs.Files.{File, broken, file_of}

@@ -10,7 +10,7 @@ use Rattle.mw_world_file.specs.declared.device.Device.TheVariants.{Open, Shut}
 use Rattle.mw_world_file.specs.Crashes.{IsFileOfEither}
 use Rattle.mw_world_file.specs.Devices.{disk_under, DeviceRecoversTo}
 use Rattle.mw_world_file.proofs.CrashedFiles.{of_either}
-use Rattle.mw_world_file.specs.declared.book.SimulatedFile.{SimulatedFile}
+use Rattle.mw_world_file.specs.declared.simulated_file.SimulatedFile.{SimulatedFile}
 use Rattle.mw_lone.specs.Store.{entries_in_doubt}
 use Rattle.mw_world.specs.Claim.Headline.{EveryRunIsDurablyLinearizable}
 use Rattle.mw_world.specs.Definition.Restarts.{interrupted_request, under_way}

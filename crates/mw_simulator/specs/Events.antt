@@ -7,7 +7,7 @@ use Rattle.mw_record.specs.Damages.{file_words}
 use Rattle.mw_file.specs.OpeningEnds.{open_calls}
 use Rattle.mw_actor.specs.ActorState.{ActorState, own_entries}
 use Rattle.mw_disk.specs.DeviceCalls.{DeviceCall}
-use Rattle.mw_world_file.specs.declared.book.SimulatedFile.{SimulatedFile}
+use Rattle.mw_world_file.specs.declared.simulated_file.SimulatedFile.{SimulatedFile}
 use Rattle.mw_world_file.specs.DeviceCalls.{call_list}
 use Rattle.mw_world_file.specs.Devices.{disk_under}
 use Rattle.mw_world_file.specs.Files.{File}

@@ -8,7 +8,7 @@ use Rattle.mw_look.specs.declared.steps.Call.TheVariants.{Seal as SealCall}
 use Rattle.mw_actor.specs.ActorState.{ActorState}
 use Rattle.mw_world_file.specs.declared.faults.BookFault.{BookFault}
 use Rattle.mw_world_file.specs.declared.faults.BookFault.TheVariants.{NotEnabled, Memory}
-use Rattle.mw_world_file.specs.declared.book.SimulatedFile.{SimulatedFile}
+use Rattle.mw_world_file.specs.declared.simulated_file.SimulatedFile.{SimulatedFile}
 use Rattle.mw_world_file.specs.DeviceCalls.{cut_list}
 use Rattle.mw_world_file.specs.Files.{File}
 use Rattle.mw_world_file.specs.Recovery.{doubt_left, is_sealed_left, made_of, may_be_made}

@@ -5,7 +5,7 @@
 //! The functions are empty: their contracts are the facts, proved in `proofs/laws`. To change a fact, begin with its
 //! definition in `specs`.
 ghost use Rattle.std.specs.Prelude.{◌≡◌, ℕ};
-ghost use Rattle.mw_world_file.specs.declared.book.SimulatedFile.{SimulatedFile};
+ghost use Rattle.mw_world_file.specs.declared.simulated_file.SimulatedFile.{SimulatedFile};
 ghost use Rattle.mw_world_file.specs.declared.outcomes.Outcome.{Outcome};
 ghost use Rattle.mw_world_file.specs.Devices.{disk_under};
 ghost use Rattle.mw_world.specs.Definition.Events.{Found};

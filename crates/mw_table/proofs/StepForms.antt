@@ -1,4 +1,4 @@
--- Only an exchange has expected bits, and no step of a request sets bits (`Way::Or`). Used by: turns.rt.
+-- Only an exchange has expected bits, and no step of a request sets bits (`Way::Or`). Used by: next_step.rt.
 use Rattle.std.specs.Prelude.{ℕ, ◌≡◌, None}
 use Rattle.std.proofs.Common.{subst}
 use Rattle.mw_words.specs.declared.places.At.TheVariants.{Door as AtDoor, Gate as AtGate, Row as AtRow, Status as AtStatus, Count, Addr, Expected, New}

@@ -1,5 +1,5 @@
 -- Defines what the table's calls on tenants' files require of a pass, and what the pass learns from them.
--- Used by: src/call_steps.rt, src/file_calls.rt, src/meet.rt, mw_core.
+-- Used by: src/file_call_steps.rt, src/file_calls.rt, src/meet.rt, mw_core.
 use Rattle.std.specs.Prelude.{ℕ, ◌≡◌, ◌<◌, true, false, cond, List, [], ◌∷◌, ◌++◌, Option, Some}
 use Rattle.mw_words.specs.declared.statuses.Status.{Status}
 use Rattle.mw_words.specs.Patterns.{IsStatusInRange, unpacked_status}

@@ -1,5 +1,5 @@
 -- Defines what two passes know after they meet: each has seen what the other has seen, and keeps its own.
--- Used by: src/call_steps.rt, src/file_calls.rt, src/meet.rt, src/notes.rt, mw_core.
+-- Used by: src/file_call_steps.rt, src/file_calls.rt, src/meet.rt, src/notes.rt, mw_core.
 use Rattle.std.specs.Prelude.{◌≡◌, []}
 use Rattle.mw_rule.specs.declared.views.View.{View}
 use Rattle.mw_rule.specs.Splits.{dealt, merges, learns, left_over, note}

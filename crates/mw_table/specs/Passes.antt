@@ -1,14 +1,19 @@
--- Defines to which table a pass belongs, what of it stays over a call (its worker, or all except that it becomes idle), and which
--- steps are attempts.
--- Used by: src/call_steps.rt, src/calls.rt, src/file_calls.rt, src/first_steps.rt, src/meet.rt, src/notes.rt,
--- src/passes.rt, src/steps.rt, src/turns.rt, mw_core.
+-- Defines what a pass's thread knows, to which table the pass belongs, what of it stays over a call (its worker, or all except
+-- that it becomes idle), and which steps are attempts.
+-- Used by: src/file_call_steps.rt, src/file_calls.rt, src/first_steps.rt, src/meet.rt, src/next_step.rt, src/notes.rt,
+-- src/passes.rt, src/steps.rt, src/steps_by_kind.rt, mw_core.
 use Rattle.std.specs.Prelude.{◌≡◌, Bool, true, false}
 use Rattle.mw_look.specs.declared.steps.Kind.TheVariants.{Plant as PlantKind}
 use Rattle.mw_look.specs.declared.steps.Op.{Op}
 use Rattle.mw_look.specs.declared.steps.Op.TheVariants.{Change as ChangeBits}
+use Rattle.mw_rule.specs.declared.views.View.{View}
 use Rattle.mw_table.specs.declared.shared.Pass.{Pass}
 use Rattle.mw_table.specs.declared.shared.Shared.{Shared}
 use Rattle.mw_table.specs.Origins.{config_of, openings_of}
+
+-- what the pass's thread knows
+abbrev pub known : Pass → View
+known pass = pass.seat.me.0
 
 -- The pass is of this table, and knows what its world is made of and what the latest start gave.
 pub record IsOf (shared : Shared) (pass : Pass) : Type 0 where

@@ -10,7 +10,7 @@ ghost use Rattle.mw_table.specs.FileCalls.{IsFree, IsFilePassOf, IsSoOfWorld, fi
 ghost use Rattle.mw_table.specs.HeldFiles.{HasFile, file_among};
 ghost use Rattle.mw_table.specs.Meet.{IsSamePass};
 ghost use Rattle.mw_table.specs.Origins.{config_of, openings_of};
-ghost use Rattle.mw_table.specs.Passes.{IsOf};
+ghost use Rattle.mw_table.specs.Passes.{IsOf, known};
 ghost use Rattle.mw_table.specs.SeenFiles.{SeesFile};
 
 use crate::file_pass::FilePass;
@@ -45,8 +45,8 @@ impl Shared {
         requires free { IsFree pass.old }
         ensures own { IsOf self.now pass.new }
         ensures same { IsSamePass pass.old pass.new }
-        ensures took { pass.new.seat.me.0 ≡ takes_files pass.old.seat.me.0 file_pass.seat.me.0 }
-        ensures has { HasFile pass.new.seat.me.0 file_pass.tenant }
+        ensures took { known pass.new ≡ takes_files (known pass.old) file_pass.seat.me.0 }
+        ensures has { HasFile (known pass.new) file_pass.tenant }
     {
         self.table
             .shared
@@ -57,15 +57,15 @@ impl Shared {
     /// step of a request.
     pub fn give_back(&self, pass: &mut Pass, tenant: u8) -> FilePass
         requires own { IsOf self.now pass.old }
-        requires has { HasFile pass.old.seat.me.0 tenant }
+        requires has { HasFile (known pass.old) tenant }
         ensures own { IsOf self.now pass.new }
         ensures same { IsSamePass pass.old pass.new }
-        ensures left { pass.new.seat.me.0 ≡ without_file pass.old.seat.me.0 }
+        ensures left { known pass.new ≡ without_file (known pass.old) }
         ensures free { IsFree pass.new }
         ensures file_pass { IsFilePassOf self.now result }
         ensures whose { result.tenant ≡ tenant }
-        ensures is { result.seat.me.0 ≡ with_file_given pass.old.seat.me.0 }
-        ensures file { file_kept result ≡ file_among pass.old.seat.me.0.files }
+        ensures is { result.seat.me.0 ≡ with_file_given (known pass.old) }
+        ensures file { file_kept result ≡ file_among (known pass.old).files }
     {
         let seat = self.table.shared.split_seat::<GivesFile>(&mut pass.seat);
         FilePass { seat, tenant }
@@ -96,7 +96,7 @@ impl Shared {
         ensures free { IsFree pass.new }
         ensures same { IsSamePass pass.old pass.new }
         ensures so { IsSoOfWorld (config_of self.now.table.shared.key) (openings_of self.now.table.shared.key) file_pass.seat.me.0.known_run file_pass.tenant (file_kept file_pass) }
-        ensures sees { SeesFile file_pass pass.old.seat.me.0 pass.new.seat.me.0 }
+        ensures sees { SeesFile file_pass (known pass.old) (known pass.new) }
     {
         let tenant = file_pass.tenant;
         self.take(pass, file_pass);

@@ -9,7 +9,7 @@ ghost use Rattle.mw_rule.specs.Steps.{LearnsFirstStep, LearnsPlainLoad, MayCome}
 ghost use Rattle.mw_rule.specs.Layout as layout;
 ghost use Rattle.mw_rule.specs.WordActions.{AddsFirstStepEvents, AddsNoEvent};
 ghost use Rattle.mw_table.specs.Origins.{config_of};
-ghost use Rattle.mw_table.specs.Passes.{IsOf, IsOfSameWorker};
+ghost use Rattle.mw_table.specs.Passes.{IsOf, IsOfSameWorker, known};
 ghost use Rattle.mw_table.specs.Said.{BeganAs};
 
 use crate::shared::{Pass, Shared};
@@ -40,12 +40,12 @@ impl Shared {
     /// hand-out.
     pub fn begin(&self, pass: &mut Pass, actor: &Actor) -> u64
         requires own { IsOf self.now pass.old }
-        requires may { MayCome pass.old.seat.me.0 pass.old.worker actor.now }
+        requires may { MayCome (known pass.old) pass.old.worker actor.now }
         ensures own { IsOf self.now pass.new }
         ensures worker { IsOfSameWorker pass.old pass.new }
         ensures busy { pass.new.idle ≡ false }
-        ensures began { LearnsFirstStep actor.now (Found result) pass.old.seat.me.0 pass.new.seat.me.0 }
-        ensures event { AddsFirstStepEvents actor.now (Found result) pass.old.seat.me.0 pass.new.seat.me.0 }
+        ensures began { LearnsFirstStep actor.now (Found result) (known pass.old) (known pass.new) }
+        ensures event { AddsFirstStepEvents actor.now (Found result) (known pass.old) (known pass.new) }
     {
         let door = index_of(self.pool, At::Door(actor.tenant()));
         pass.idle = false;
@@ -63,8 +63,8 @@ impl Shared {
         ensures own { IsOf self.now pass.new }
         ensures worker { IsOfSameWorker pass.old pass.new }
         ensures idle { pass.new.idle ≡ pass.old.idle }
-        ensures looked { LearnsPlainLoad (layout.index_of self.now.pool at) result pass.old.seat.me.0 pass.new.seat.me.0 }
-        ensures event { AddsNoEvent (layout.index_of self.now.pool at) result pass.old.seat.me.0 pass.new.seat.me.0 }
+        ensures looked { LearnsPlainLoad (layout.index_of self.now.pool at) result (known pass.old) (known pass.new) }
+        ensures event { AddsNoEvent (layout.index_of self.now.pool at) result (known pass.old) (known pass.new) }
     {
         self.table
             .shared

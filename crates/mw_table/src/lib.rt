@@ -6,9 +6,9 @@
 //!
 //! [`Shared::new`] makes a table and its passes at a start, [`Shared::of_run`] after a run from a new world. `begin`
 //! makes a request's first step, with which it comes. Each further step is one call: `step` makes whichever step is
-//! next, `load` and the calls of `calls.rt` one kind each, if it is the next one (`IsNextStep` of `mw_rule`). The
-//! pass learns what the step found (`LearnsStep`), and `event` says which events extend a run of the world. If a step
-//! brings the reply, the reply is handed out with it, and `Pass::rest` makes the pass idle again.
+//! next, `load` and the calls of `steps_by_kind.rt` one kind each, if it is the next one (`IsNextStep` of `mw_rule`).
+//! The pass learns what the step found (`LearnsStep`), and `event` says which events extend a run of the world. If a
+//! step brings the reply, the reply is handed out with it, and `Pass::rest` makes the pass idle again.
 //!
 //! When a request comes to a call on its tenant's file, its pass takes the file's [`FilePass`] by `take`;
 //! [`Shared::new`] gives one for each tenant. `find_status` loads the status of the change, from which the call
@@ -35,13 +35,13 @@
 
 mod after_run;
 mod at_start;
-mod call_steps;
-mod calls;
+mod file_call_steps;
 mod file_calls;
 mod file_pass;
 mod first_steps;
 mod meet;
 mod new_table;
+mod next_step;
 mod note;
 mod notes;
 mod origin;
@@ -50,7 +50,7 @@ mod places;
 mod run_before;
 mod shared;
 mod steps;
-mod turns;
+mod steps_by_kind;
 
 pub use file_pass::FilePass;
 pub use note::Note;

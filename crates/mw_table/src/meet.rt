@@ -8,7 +8,7 @@ ghost use Rattle.mw_rule.specs.WordActions.{WentOn};
 ghost use Rattle.mw_rule.specs.Rule.{IsLive};
 ghost use Rattle.mw_table.specs.FileCalls.{IsFree};
 ghost use Rattle.mw_table.specs.Meet.{HaveMet, IsSamePass, MetByNone};
-ghost use Rattle.mw_table.specs.Passes.{IsOf};
+ghost use Rattle.mw_table.specs.Passes.{IsOf, known};
 ghost use Rattle.mw_world.specs.Definition.State.{tenants_of};
 
 use crate::first_steps::Looks;
@@ -35,10 +35,10 @@ impl Shared {
         ensures other_free { IsFree other.new }
         ensures one_stays { IsSamePass one.old one.new }
         ensures other_stays { IsSamePass other.old other.new }
-        ensures one_met { LearnsMeeting one.old.seat.me.0 one.new.seat.me.0 }
-        ensures other_met { LearnsMeeting other.old.seat.me.0 other.new.seat.me.0 }
-        ensures both { HaveMet one.new.seat.me.0 other.new.seat.me.0 }
-        ensures event { MetByNone one.old.seat.me.0 other.old.seat.me.0 one.new.seat.me.0 other.new.seat.me.0 }
+        ensures one_met { LearnsMeeting (known one.old) (known one.new) }
+        ensures other_met { LearnsMeeting (known other.old) (known other.new) }
+        ensures both { HaveMet (known one.new) (known other.new) }
+        ensures event { MetByNone (known one.old) (known other.old) (known one.new) (known other.new) }
     {
         self.look(&mut one.seat);
         let said = self.seat_note(&mut one.seat);

@@ -5,7 +5,7 @@ ghost use Rattle.std.specs.Prelude.{◌≡◌};
 ghost use Rattle.mw_rule.specs.Splits.{note as said_by};
 ghost use Rattle.mw_table.specs.Meet.{IsSamePass};
 ghost use Rattle.mw_table.specs.Notes.{HasLearned, IsNoteOf, said_in};
-ghost use Rattle.mw_table.specs.Passes.{IsOf};
+ghost use Rattle.mw_table.specs.Passes.{IsOf, known};
 
 use crate::note::Note;
 use crate::shared::{Pass, Shared};
@@ -19,7 +19,7 @@ impl Shared {
         ensures stays { IsSamePass pass.old pass.new }
         ensures knows { pass.new.seat.me ≡ pass.old.seat.me }
         ensures its { IsNoteOf self.now result }
-        ensures says { said_in result ≡ said_by pass.old.seat.me.0 }
+        ensures says { said_in result ≡ said_by (known pass.old) }
     {
         Note {
             seat: self.seat_note(&mut pass.seat),
@@ -34,7 +34,7 @@ impl Shared {
         requires its { IsNoteOf self.now note }
         ensures own { IsOf self.now pass.new }
         ensures stays { IsSamePass pass.old pass.new }
-        ensures learned { HasLearned (said_in note) pass.old.seat.me.0 pass.new.seat.me.0 }
+        ensures learned { HasLearned (said_in note) (known pass.old) (known pass.new) }
     {
         self.seat_learn(&mut pass.seat, note.seat);
     }

@@ -1,10 +1,10 @@
 //! Tells a pass's worker, its next attempt number and whether it is idle; makes it idle again.
 //!
-//! Used by: mw_core, mw_engine. Change it with `specs/CarriedRequest`, `specs/Passes` and `specs/Idleness`.
+//! Used by: mw_core, mw_engine, mw_service. Change it with `specs/CarriedRequest`, `specs/Passes` and `specs/Idleness`.
 ghost use Rattle.std.specs.Prelude.{◌≡◌, ◌≢◌, true, None};
 ghost use Rattle.mw_actor.specs.Program.{replied};
 ghost use Rattle.mw_table.specs.CarriedRequest.{IsCarried};
-ghost use Rattle.mw_table.specs.Passes.{IsIdleAfter};
+ghost use Rattle.mw_table.specs.Passes.{IsIdleAfter, known};
 ghost use Rattle.mw_table.specs.Idleness.{IsIdle};
 
 use crate::shared::Pass;
@@ -30,7 +30,7 @@ impl Pass {
     /// that the request has its reply.
     pub fn idle(&self) -> bool
         ensures is { result ≡ self.now.idle }
-        ensures rests { result ≡ true → IsIdle self.now.seat.me.0 }
+        ensures rests { result ≡ true → IsIdle (known self.now) }
     {
         self.idle
     }

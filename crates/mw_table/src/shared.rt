@@ -1,7 +1,8 @@
 //! The table of shared words, and the passes with which threads make steps on it.
 //!
-//! The methods of `Shared` are in `at_start`, `after_run`, `new_table` (making a table), `first_steps`, `turns`, `steps`,
-//! `calls` (steps), `file_calls`, `call_steps` (calls on a file), `meet` and `notes`; those of `Pass` in `passes`.
+//! The methods of `Shared` are in `at_start`, `after_run`, `new_table` (making a table), `first_steps`, `next_step`,
+//! `steps`, `steps_by_kind` (steps), `file_calls`, `file_call_steps` (calls on a file), `meet` and `notes`; those of
+//! `Pass` in `passes`.
 //!
 //! Used by: nearly all modules of this crate, mw_table_tests; mw_core passes both types on. Change it with
 //! `specs/Numbers`, `specs/Origins` and `specs/Idleness`.

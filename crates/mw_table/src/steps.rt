@@ -1,6 +1,6 @@
 //! Makes one atomic step on one shared word: a load, a store, an exchange, an attempt or a subtraction.
 //!
-//! Used by: `turns`, `calls`. Change it with `specs/Numbers` and `specs/Passes`.
+//! Used by: `next_step`, `steps_by_kind`. Change it with `specs/Numbers` and `specs/Passes`.
 ghost use Rattle.std.specs.Prelude.{◌≡◌, ◌+◌, ◌==◌, cond, false};
 ghost use Rattle.mw_look.specs.declared.steps.Kind.TheVariants as kind;
 ghost use Rattle.mw_look.specs.declared.steps.Op.TheVariants.{Load as LoadBits, Change as ChangeBits};
@@ -10,7 +10,7 @@ ghost use Rattle.mw_rule.specs.WordActions.{AddsStepEvent};
 ghost use Rattle.mw_rule.specs.Ways.{way_of};
 ghost use Rattle.mw_rule.specs.declared.ways.Way.TheVariants as way;
 ghost use Rattle.mw_table.specs.Numbers.{AreNumbered};
-ghost use Rattle.mw_table.specs.Passes.{IsOf, IsOfSameWorker, is_plant};
+ghost use Rattle.mw_table.specs.Passes.{IsOf, IsOfSameWorker, is_plant, known};
 
 use crate::shared::{Pass, Shared};
 use atomic_table::Play;
@@ -51,11 +51,11 @@ impl Shared {
     /// Loads a word, as a step of the request that the pass carries. Returns its bits.
     pub fn load(&self, pass: &mut Pass, at: At) -> u64
         requires own { IsOf self.now pass.old }
-        requires next { IsNextStep pass.old.seat.me.0 pass.old.worker (LoadBits at) }
+        requires next { IsNextStep (known pass.old) pass.old.worker (LoadBits at) }
         ensures own { IsOf self.now pass.new }
         ensures worker { IsOfSameWorker pass.old pass.new }
-        ensures took { LearnsStep (Found result) pass.old.seat.me.0 pass.new.seat.me.0 }
-        ensures event { AddsStepEvent (Found result) pass.old.seat.me.0 pass.new.seat.me.0 }
+        ensures took { LearnsStep (Found result) (known pass.old) (known pass.new) }
+        ensures event { AddsStepEvent (Found result) (known pass.old) (known pass.new) }
     {
         self.table
             .shared

@@ -2,7 +2,7 @@
 //! failed.
 //!
 //! Used by: many crates from mw_pool on. Another pattern of bits needs a change in `specs/Patterns`, and in the
-//! crates that have one of its bits as a number: mw_rule (`ways.rt`) and mw_table (`call_steps.rt`). No file has
+//! crates that have one of its bits as a number: mw_rule (`ways.rt`) and mw_table (`file_call_steps.rt`). No file has
 //! these bits.
 ghost use Rattle.std.specs.Prelude.{◌≡◌, ◌≢◌, IfSome, None};
 ghost use Rattle.mw_words.specs.declared.doors.Door.{Door as DoorModel};

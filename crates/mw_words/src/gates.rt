@@ -2,7 +2,8 @@
 //! (references) it has, and its sequence number.
 //!
 //! Used by: many crates from mw_pool on. Another pattern of bits needs a change in `specs/Patterns`, and in the
-//! crates that have a pin's bit as a number: mw_rule (`ways.rt`) and mw_table (`calls.rt`). No file has these bits.
+//! crates that have a pin's bit as a number: mw_rule (`ways.rt`) and mw_table (`steps_by_kind.rt`). No file has these
+//! bits.
 ghost use Rattle.std.specs.Prelude.{◌≡◌, ◌≢◌, ◌↔◌, IsTrue, IfSome, None};
 ghost use Rattle.mw_words.specs.declared.gates.Gate.{Gate as GateModel};
 ghost use Rattle.mw_words.specs.Patterns.{IsGateInRange, IsGateOf, packed_gate, unpacked_gate};

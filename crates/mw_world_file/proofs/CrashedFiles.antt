@@ -19,7 +19,7 @@ use Rattle.mw_file.specs.RecoveryInvariant.{RecoversTo, IsBeforeOrAfter, Content
 use Rattle.mw_file.specs.PlaceStates.{writes_of_place}
 use Rattle.mw_world_file.specs.declared.device.Device.TheVariants.{Open}
 use Rattle.mw_world_file.specs.declared.places.Place.TheVariants.{Prepared as KeptPrepared}
-use Rattle.mw_world_file.specs.declared.book.SimulatedFile.{SimulatedFile}
+use Rattle.mw_world_file.specs.declared.simulated_file.SimulatedFile.{SimulatedFile}
 use Rattle.mw_world_file.specs.declared.outcomes.Outcome.{Outcome}
 use Rattle.mw_world_file.specs.declared.outcomes.Outcome.TheVariants.{Good, Fail}
 use Rattle.mw_world_file.specs.Books.{Represents, quota_of}

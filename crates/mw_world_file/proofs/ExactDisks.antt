@@ -18,7 +18,7 @@ use Rattle.mw_file.specs.declared.tenant_file.FileFault.TheVariants.{Disk, Faile
 use Rattle.mw_file.specs.DeviceCalls.{prepare_calls, MadeCalls}
 use Rattle.mw_file.specs.File.{disk_of, at_of, words_of, states_of, has_failed, Ends}
 use Rattle.mw_file.specs.PlaceStates.{free_place}
-use Rattle.mw_world_file.specs.declared.book.SimulatedFile.{SimulatedFile}
+use Rattle.mw_world_file.specs.declared.simulated_file.SimulatedFile.{SimulatedFile}
 use Rattle.mw_world_file.specs.declared.cut.Cut.{Cut}
 use Rattle.mw_world_file.specs.declared.device.Device.{Device}
 use Rattle.mw_world_file.specs.declared.device.Device.TheVariants.{Open}

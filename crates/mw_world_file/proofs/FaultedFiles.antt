@@ -7,7 +7,7 @@ use Rattle.mw_file.specs.declared.tenant_file.FileFault.{FileFault}
 use Rattle.mw_file.specs.declared.tenant_file.FileFault.TheVariants.{Disk, Failed}
 use Rattle.mw_file.specs.File.{states_of, words_of, has_failed, Ends}
 use Rattle.mw_world_file.specs.declared.device.Device.TheVariants.{Open}
-use Rattle.mw_world_file.specs.declared.book.SimulatedFile.{SimulatedFile}
+use Rattle.mw_world_file.specs.declared.simulated_file.SimulatedFile.{SimulatedFile}
 use Rattle.mw_world_file.specs.Devices.{AreKept}
 use Rattle.mw_world_file.specs.Books.{places_of_file}
 use Rattle.mw_world_file.proofs.WorkedFiles.{places_open, kept_open, sized_open}

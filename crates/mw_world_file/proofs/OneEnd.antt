@@ -4,7 +4,7 @@ use Rattle.std.proofs.Common.{◌≡◌, ℕ, Bool, List, Option, Some, None, Ok
 use Rattle.std.proofs.lemmas.Bool.{false≢true}
 use Rattle.mw_record.specs.Damages.{file_words}
 use Rattle.mw_file.specs.OpeningEnds.{open_calls}
-use Rattle.mw_world_file.specs.declared.book.SimulatedFile.{SimulatedFile}
+use Rattle.mw_world_file.specs.declared.simulated_file.SimulatedFile.{SimulatedFile}
 use Rattle.mw_world_file.specs.declared.cut.Cut.{Cut}
 use Rattle.mw_world_file.specs.declared.faults.BookFault.TheVariants.{NotEnabled}
 use Rattle.mw_world_file.specs.Books.{Represents, quota_of}

@@ -24,7 +24,7 @@ use Rattle.mw_file.specs.PlaceStates.{stage_of, writes_of_place, IsStaged, MaySe
 use Rattle.mw_world_file.specs.declared.device.Device.TheVariants.{Open, Shut}
 use Rattle.mw_world_file.specs.declared.places.Place.{Place as KeptPlace}
 use Rattle.mw_world_file.specs.declared.places.Place.TheVariants.{Empty as KeptEmpty, Prepared as KeptPrepared, Sealed as KeptSealed}
-use Rattle.mw_world_file.specs.declared.book.SimulatedFile.{SimulatedFile}
+use Rattle.mw_world_file.specs.declared.simulated_file.SimulatedFile.{SimulatedFile}
 use Rattle.mw_world_file.specs.declared.outcomes.Outcome.{Outcome}
 use Rattle.mw_world_file.specs.declared.outcomes.Outcome.TheVariants.{Good, Fail}
 use Rattle.mw_world_file.specs.Maps.{upd}

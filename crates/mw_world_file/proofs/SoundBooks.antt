@@ -4,7 +4,7 @@ use Rattle.std.specs.Prelude.{ℕ, ◌≡◌, List, length, Bool, Option, Ok}
 use Rattle.std.proofs.Common.{refl, ◌∙◌}
 use Rattle.std.proofs.Math.Logic.{∥∥₁_map}
 use Rattle.mw_world_file.specs.declared.cut.Cut.{Cut}
-use Rattle.mw_world_file.specs.declared.book.SimulatedFile.{SimulatedFile}
+use Rattle.mw_world_file.specs.declared.simulated_file.SimulatedFile.{SimulatedFile}
 use Rattle.mw_world_file.specs.Books.{Represents}
 use Rattle.mw_world_file.specs.Files.{File}
 use Rattle.mw_world_file.specs.Recovery.{Restarts}

@@ -23,7 +23,7 @@ use Rattle.mw_file.specs.File.{states_of, disk_of, has_failed, Ends}
 use Rattle.mw_file.specs.RecoveryInvariant.{RecoversTo, IsFile, IsBeforeOrAfter, ContentsStay, ChangeIsSealed}
 use Rattle.mw_world_file.specs.declared.device.Device.{Device}
 use Rattle.mw_world_file.specs.declared.device.Device.TheVariants.{Open, Shut}
-use Rattle.mw_world_file.specs.declared.book.SimulatedFile.{SimulatedFile}
+use Rattle.mw_world_file.specs.declared.simulated_file.SimulatedFile.{SimulatedFile}
 use Rattle.mw_world_file.specs.declared.cut.Cut.{Cut}
 use Rattle.mw_world_file.specs.declared.cut.Left.{Left}
 use Rattle.mw_world_file.specs.Files.{File, entries_at}

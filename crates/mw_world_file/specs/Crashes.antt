@@ -9,7 +9,7 @@ use Rattle.mw_record.specs.Damages.{file_words}
 use Rattle.mw_look.specs.declared.steps.Call.{Call}
 use Rattle.mw_look.specs.declared.steps.Call.TheVariants.{Seal as SealCall}
 use Rattle.mw_world_file.specs.declared.faults.BookFault.{BookFault}
-use Rattle.mw_world_file.specs.declared.book.SimulatedFile.{SimulatedFile}
+use Rattle.mw_world_file.specs.declared.simulated_file.SimulatedFile.{SimulatedFile}
 use Rattle.mw_world_file.specs.Books.{Represents, quota_of}
 use Rattle.mw_world_file.specs.Calls.{place_for}
 use Rattle.mw_world_file.specs.Devices.{disk_under}

@@ -10,7 +10,7 @@ use Rattle.mw_file.specs.declared.place_states.PlaceState.{PlaceState}
 use Rattle.mw_file.specs.DeviceCalls.{prepare_calls, seal_calls, settle_calls}
 use Rattle.mw_file.specs.File.{at_of, words_of, states_of}
 use Rattle.mw_file.specs.PlaceStates.{free_place, writes_of_place}
-use Rattle.mw_world_file.specs.declared.book.SimulatedFile.{SimulatedFile}
+use Rattle.mw_world_file.specs.declared.simulated_file.SimulatedFile.{SimulatedFile}
 use Rattle.mw_world_file.specs.declared.cut.Cut.{Cut}
 use Rattle.mw_world_file.specs.declared.device.Device.{Device}
 use Rattle.mw_world_file.specs.declared.device.Device.TheVariants.{Open, Shut}

@@ -1,6 +1,6 @@
 -- Defines a tenant's file on a disk in memory, open or shut, and its record places as a book keeps them.
--- Used by: src/book.rt, src/calls.rt, src/laws.rt, src/opened.rt, src/opening.rt, src/places.rt, src/stops.rt, mw_book,
--- mw_simulator.
+-- Used by: src/calls.rt, src/laws.rt, src/opened.rt, src/opening.rt, src/places.rt, src/simulated_file.rt, src/stops.rt,
+-- mw_book, mw_simulator.
 use Rattle.std.specs.Prelude.{◌≡◌, ℕ, Bool, true, false, not, List, [], Option, Some, None, slice_get}
 use Rattle.mw_disk.specs.Facts.{MayLeave}
 use Rattle.mw_disk.specs.Memory.{Memory, memory_facts}

@@ -13,7 +13,7 @@ use Rattle.mw_look.specs.declared.steps.Call.TheVariants.{Prepare as PrepareCall
 use Rattle.mw_record.specs.Damages.{file_words}
 use Rattle.mw_file.specs.OpeningEnds.{open_calls}
 use Rattle.mw_world_file.specs.declared.cut.Cut.{Cut}
-use Rattle.mw_world_file.specs.declared.book.SimulatedFile.{SimulatedFile}
+use Rattle.mw_world_file.specs.declared.simulated_file.SimulatedFile.{SimulatedFile}
 use Rattle.mw_world_file.specs.declared.faults.BookFault.{BookFault}
 use Rattle.mw_world_file.specs.declared.faults.BookFault.TheVariants.{NotEnabled, Memory}
 use Rattle.mw_world_file.specs.DeviceCalls.{cut_list, LedBy}

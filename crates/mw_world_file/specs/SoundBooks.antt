@@ -2,7 +2,7 @@
 -- always sound.
 -- Used by: mw_world_memory, mw_simulator.
 use Rattle.std.specs.Prelude.{ℕ, ◌≡◌, length, slice_index}
-use Rattle.mw_world_file.specs.declared.book.SimulatedFile.{SimulatedFile}
+use Rattle.mw_world_file.specs.declared.simulated_file.SimulatedFile.{SimulatedFile}
 use Rattle.mw_world_file.specs.Books.{Represents}
 use Rattle.mw_world_file.specs.Devices.{place_in}
 use Rattle.mw_world_file.specs.Files.{File}

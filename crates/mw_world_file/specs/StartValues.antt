@@ -3,7 +3,7 @@
 use Rattle.std.specs.Prelude.{ℕ, ◌≡◌, true, false, Vec, MatchOption}
 use Rattle.std.specs.declared.option.Option.{Option}
 use Rattle.std.specs.declared.alloc.Global.{Global}
-use Rattle.mw_world_file.specs.declared.book.SimulatedFile.{SimulatedFile}
+use Rattle.mw_world_file.specs.declared.simulated_file.SimulatedFile.{SimulatedFile}
 
 -- a file gives its words at a start, or nothing if it has failed
 abbrev pub IsGiven : SimulatedFile → Option (Vec ℕ Global) → Type 0

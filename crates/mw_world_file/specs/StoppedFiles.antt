@@ -4,7 +4,7 @@ use Rattle.mw_record.specs.Damages.{places_of}
 use Rattle.mw_file.specs.OpeningEnds.{open_calls}
 use Rattle.mw_world_file.specs.declared.cut.Cut.{Cut}
 use Rattle.mw_world_file.specs.declared.cut.Left.{Left}
-use Rattle.mw_world_file.specs.declared.book.SimulatedFile.{SimulatedFile}
+use Rattle.mw_world_file.specs.declared.simulated_file.SimulatedFile.{SimulatedFile}
 use Rattle.mw_world_file.specs.declared.faults.BookFault.{BookFault}
 use Rattle.mw_world_file.specs.declared.faults.BookFault.TheVariants.{NotEnabled, Memory}
 use Rattle.mw_world_file.specs.Devices.{disk_under}

@@ -16,12 +16,12 @@ ghost use Rattle.mw_world_file.specs.Books.{HasParts, places_of_file};
 ghost use Rattle.mw_world_file.specs.CallEffects as spec;
 ghost use Rattle.mw_world_file.specs.Calls as counts;
 
-use crate::book::SimulatedFile;
 use crate::changes::{share_a_word, with_change};
 use crate::device::Device;
 use crate::faults::BookFault;
 use crate::outcomes::Outcome;
 use crate::places::{Place, copies, has_empty, prepared_in, sealed_in};
+use crate::simulated_file::SimulatedFile;
 use mw_disk::MemDisk;
 use mw_file::{Place as FilePlace, TenantFile};
 use mw_look::Call;

@@ -1,6 +1,6 @@
 //! A tenant's file on its disk in memory, open or shut.
 //!
-//! Used by: `book`, and the modules that make or change a book. `specs/Devices` says which file it is: change it
+//! Used by: `simulated_file`, and the modules that make or change a book. `specs/Devices` says which file it is: change it
 //! with a case.
 
 use mw_disk::MemDisk;

@@ -7,7 +7,7 @@ ghost use Rattle.mw_disk.specs.DeviceCalls.{DeviceCall};
 ghost use Rattle.mw_disk.specs.Memory.{Memory as Disk};
 ghost use Rattle.mw_words.specs.declared.jobs.Entry.{Entry};
 ghost use Rattle.mw_look.specs.declared.steps.Call.{Call};
-ghost use Rattle.mw_world_file.specs.declared.book.SimulatedFile.{SimulatedFile};
+ghost use Rattle.mw_world_file.specs.declared.simulated_file.SimulatedFile.{SimulatedFile};
 ghost use Rattle.mw_world_file.specs.declared.cut.Cut.{Cut};
 ghost use Rattle.mw_world_file.specs.declared.outcomes.Outcome.{Outcome};
 ghost use Rattle.mw_world_file.specs.declared.faults.BookFault.TheVariants.{NotEnabled};

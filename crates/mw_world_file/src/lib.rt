@@ -9,7 +9,6 @@
 //! `specs/FirstPlaces`, which mw_world reads, and of `specs/Crashes`, which mw_book and mw_core read.
 #![tactic(auto)]
 
-mod book;
 mod calls;
 mod changes;
 mod cut;
@@ -22,13 +21,14 @@ mod opening;
 mod outcomes;
 mod places;
 mod restarts;
+mod simulated_file;
 mod start_values;
 mod stops;
 mod unopened;
 
-pub use book::SimulatedFile;
 pub use cut::Cut;
 pub use faults::BookFault;
 pub use laws::{calls_lead_to_one_disk, restarts_have_one_end, stops_leave_one_image};
 pub use outcomes::Outcome;
+pub use simulated_file::SimulatedFile;
 pub use unopened::{OLD_ENTRIES, OLD_PLACES};

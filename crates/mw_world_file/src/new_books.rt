@@ -7,7 +7,7 @@ ghost use Rattle.mw_words.specs.declared.limits.TheConstants.{MAX_QUOTA, MAX_WOR
 ghost use Rattle.mw_record.specs.declared.layout.TheConstants.{FIRST_PLACES};
 ghost use Rattle.mw_record.specs.Layout.{new_file};
 
-use crate::book::SimulatedFile;
+use crate::simulated_file::SimulatedFile;
 use mw_record::{FIRST_PLACES, header, size};
 use std::alloc::{AllocError, Global};
 

@@ -13,9 +13,9 @@ ghost use Rattle.mw_world_file.specs.Files.{file_of};
 ghost use Rattle.mw_world_file.specs.declared.device.Device.TheVariants.{Open};
 ghost use Rattle.mw_world_file.specs.declared.places.Place.TheVariants.{Empty};
 
-use crate::book::{SLOTS, SimulatedFile};
 use crate::device::Device;
 use crate::places::Place;
+use crate::simulated_file::{SLOTS, SimulatedFile};
 use mw_disk::MemDisk;
 use mw_file::TenantFile;
 use mw_words::Entries;

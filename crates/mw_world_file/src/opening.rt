@@ -14,11 +14,11 @@ ghost use Rattle.mw_world_file.specs.Files.{file_of};
 ghost use Rattle.mw_world_file.specs.StoppedFiles.{named};
 ghost use Rattle.mw_world_file.specs.declared.device.Device.TheVariants.{Open, Shut};
 
-use crate::book::{SLOTS, SimulatedFile};
 use crate::device::Device;
 use crate::faults::BookFault;
 use crate::opened::{empty_places, open_book};
 use crate::places::Place;
+use crate::simulated_file::{SLOTS, SimulatedFile};
 use mw_disk::MemDisk;
 use mw_file::{OpenFault, TenantFile};
 use mw_record::{Image, Layout, PLACES_GROW, decode};

@@ -1,6 +1,6 @@
 //! The record places of a simulated file, and the change in each.
 //!
-//! Used by: `book`, `calls`, `opened`, `opening`, `stops`. Change it with `specs/Devices` and `specs/Files`.
+//! Used by: `simulated_file`, `calls`, `opened`, `opening`, `stops`. Change it with `specs/Devices` and `specs/Files`.
 ghost use Rattle.std.specs.Prelude.{◌≡◌, Some, false, slice_get, IfOk, MatchOption};
 ghost use Rattle.std.specs.List.{list_any};
 ghost use Rattle.mw_world_file.specs.Devices.{told, place_in};

@@ -5,10 +5,10 @@
 ghost use Rattle.std.specs.Prelude.{◌≡◌, ◌≤◌, length, IfOk};
 ghost use Rattle.mw_world_file.specs.Restarts.{takes};
 
-use crate::book::SimulatedFile;
 use crate::changes::with_change;
 use crate::cut::{Cut, Left};
 use crate::faults::BookFault;
+use crate::simulated_file::SimulatedFile;
 use mw_words::Entry;
 use std::alloc::{AllocError, Global};
 

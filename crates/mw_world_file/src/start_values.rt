@@ -6,7 +6,7 @@ ghost use Rattle.std.specs.Prelude.{◌≡◌, length, IfOk};
 ghost use Rattle.mw_world_file.specs.Books.{places_of_file};
 ghost use Rattle.mw_world_file.specs.StartValues.{IsGiven};
 
-use crate::book::SimulatedFile;
+use crate::simulated_file::SimulatedFile;
 use std::alloc::{AllocError, Global};
 
 impl SimulatedFile {

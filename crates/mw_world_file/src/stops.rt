@@ -8,12 +8,12 @@ ghost use Rattle.mw_file.specs.File.{disk_of, at_of, words_of, states_of, has_fa
 ghost use Rattle.mw_file.specs.RecoveryInvariant.{RecoversTo};
 ghost use Rattle.mw_world_file.specs.Recovery.{until};
 
-use crate::book::SimulatedFile;
 use crate::calls::{device_calls, is_apart};
 use crate::cut::{Cut, Left};
 use crate::device::Device;
 use crate::faults::BookFault;
 use crate::places::{has_empty, prepared_in, sealed_in};
+use crate::simulated_file::SimulatedFile;
 use mw_disk::MemDisk;
 use mw_file::{Place as FilePlace, TenantFile};
 use mw_look::Call;

@@ -10,10 +10,10 @@ ghost use Rattle.mw_words.specs.Change.{is_change, put};
 ghost use Rattle.mw_file.specs.RecoveryInvariant.{IsFile};
 ghost use Rattle.mw_world_file.specs.OldFiles.{old_body, old_file};
 
-use crate::book::{SLOTS, SimulatedFile};
 use crate::changes::with_change;
 use crate::device::Device;
 use crate::opened::empty_places;
+use crate::simulated_file::{SLOTS, SimulatedFile};
 use mw_disk::MemDisk;
 use mw_record::{
     BODY_SIZE, COMMITTED, ENTRY_SIZE, FIRST_ENTRIES, FIRST_PLACES, PLACES_GROW, body, header,

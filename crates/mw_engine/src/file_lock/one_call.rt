@@ -8,7 +8,7 @@
 //! `specs/Steps`. After a change run scripts/check-wakes.
 ghost use Rattle.std.specs.Prelude.{◌≢◌, None};
 ghost use Rattle.mw_world.specs.Definition.Calls.{called_at};
-ghost use Rattle.mw_core.specs.FromTable.{IsCarried, IsSamePass, View as Knowledge};
+ghost use Rattle.mw_core.specs.FromTable.{IsCarried, IsSamePass, View as Knowledge, known};
 ghost use Rattle.mw_engine.specs.Errands.{CarriesRequest, RequestGoesOn};
 ghost use Rattle.mw_engine.specs.FileCalls.{FilesOne};
 ghost use Rattle.mw_engine.specs.History.{IsInProgress};
@@ -138,7 +138,7 @@ impl<J: EngineBrand, D: Disk + Drop, H: Hold + Drop> Engine<J, D, H> {
         ensures files { FilesOne D.facts J.identity pass.old pass.new actor.old actor.new }
         ensures request { IsSameRequest actor.old actor.new }
         ensures way { IsOnItsWay actor.old.job actor.old.point → IsOnItsWay actor.new.job actor.new.point }
-        ensures call { (first : Knowledge) → IsInProgress first pass.old.seat.me.0 actor.old → IsInProgress first pass.new.seat.me.0 actor.new }
+        ensures call { (first : Knowledge) → IsInProgress first (known pass.old) actor.old → IsInProgress first (known pass.new) actor.new }
     {
         // The first lock that is taken is the tenant's own. The loop is needed because no type of an index can say
         // so: all locks of a list have one type, and it says the same of what each of them guards.

@@ -10,7 +10,7 @@ ghost use Rattle.mw_words.specs.Patterns.{IsStatusInRange};
 ghost use Rattle.mw_look.specs.declared.observations.Observation.TheVariants.{Filed};
 ghost use Rattle.mw_actor.specs.ActorState.{entries_of_job, own_entries};
 ghost use Rattle.mw_world_file.specs.Files.{File};
-ghost use Rattle.mw_world_file.specs.declared.book.SimulatedFile.{SimulatedFile};
+ghost use Rattle.mw_world_file.specs.declared.simulated_file.SimulatedFile.{SimulatedFile};
 ghost use Rattle.mw_world_file.specs.SoundBooks.{HasSound};
 ghost use Rattle.mw_world.specs.declared.events.Event.TheVariants.{File as FileEvent};
 ghost use Rattle.mw_world.specs.Definition.Calls as calls;

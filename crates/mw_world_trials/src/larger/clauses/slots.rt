@@ -1,6 +1,6 @@
 //! Checks what must hold of each slot, and of each tenant's share of the slots, at every moment.
 //!
-//! `clauses.rt` says what each group is, and what may change here.
+//! Used by: `clauses`, which says what each group is, and what may change here.
 
 use crate::larger::clauses::Group;
 use crate::larger::pins::{frees, pins_held};

@@ -1,6 +1,6 @@
 //! Checks what must hold of each word of a tenant at every moment.
 //!
-//! `clauses.rt` says what each group is, and what may change here.
+//! Used by: `clauses`, which says what each group is, and what may change here; `workers`.
 
 use crate::larger::clauses::Group;
 use crate::larger::clauses::workers::standing;

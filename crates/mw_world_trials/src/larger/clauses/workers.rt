@@ -1,6 +1,6 @@
 //! Checks what must hold of each worker at every moment.
 //!
-//! `clauses.rt` says what each group is, and what may change here.
+//! Used by: `clauses`, which says what each group is, and what may change here; `words`.
 
 use crate::larger::clauses::Group;
 use crate::larger::clauses::changes::is_made;

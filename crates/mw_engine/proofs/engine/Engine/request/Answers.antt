@@ -2,7 +2,7 @@
 use Rattle.std.proofs.Common.{◌≡◌, ◌<◌, ℕ, [], get_or, ap, sym, subst, ◌∙◌}
 use Rattle.std.proofs.lemmas.List.{length-map}
 use Rattle.mw_actor.specs.ActorState.{first}
-use Rattle.mw_engine.specs.declared.listed.Listed.{Listed}
+use Rattle.mw_engine.specs.declared.tenant_line.Listed.{Listed}
 use Rattle.mw_engine.specs.Lines.{line_of}
 use Rattle.mw_engine.proofs.Branded.{formed_there, same_request}
 use Rattle.mw_engine.proofs.TenantSearch.{quota_is}

@@ -8,7 +8,7 @@ use Rattle.mw_report.specs.declared.figures.TenantFigures.{TenantFigures}
 use Rattle.mw_report.specs.Table.{IsWithinLimits}
 use Rattle.mw_engine.specs.Figures.{FoundDoor, TellTenants, line_shown}
 use Rattle.mw_engine.specs.Lines.{line_of, places_of}
-use Rattle.mw_engine.specs.declared.listed.Listed.{Listed}
+use Rattle.mw_engine.specs.declared.tenant_line.Listed.{Listed}
 use Rattle.mw_engine.proofs.TenantSearch.{has, quota_is}
 use Rattle.mw_engine.proofs.RequestsMayCome.{words_few}
 use Rattle.mw_engine.proofs.FiguresSoFar.{looked_on, no_tenants, not_looked, same_door, tenants_more}

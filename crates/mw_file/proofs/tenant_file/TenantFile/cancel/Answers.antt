@@ -1,4 +1,4 @@
--- Goals of `TenantFile::cancel` (src/calls.rt).
+-- Goals of `TenantFile::cancel` (src/tenant_file.rt).
 use Rattle.std.proofs.Common.{refl, arith}
 use Rattle.mw_file.specs.declared.place_states.Stage.TheVariants.{Prepared}
 use Rattle.mw_file.proofs.Places.{state_at, state_there, staged_as}

@@ -1,4 +1,4 @@
--- Goals of `TenantFile::copy_bytes` (src/copies.rt).
+-- Goals of `TenantFile::copy_bytes` (src/tenant_file.rt).
 use Rattle.std.proofs.Common.{refl}
 use Rattle.mw_file.proofs.OnlyRead.{copy_ends, not_read, only_read_safe}
 use Rattle.mw_file.proofs.tenant_file.TenantFile.copy_bytes.Goals as goal

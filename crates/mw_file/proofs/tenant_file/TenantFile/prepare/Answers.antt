@@ -1,4 +1,4 @@
--- Goals of `TenantFile::prepare` (src/calls.rt).
+-- Goals of `TenantFile::prepare` (src/tenant_file.rt).
 use Rattle.std.proofs.Common.{sym}
 use Rattle.mw_file.proofs.Places.{found_free}
 use Rattle.mw_file.proofs.tenant_file.TenantFile.prepare.Goals as goal

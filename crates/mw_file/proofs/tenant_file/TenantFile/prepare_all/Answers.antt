@@ -1,4 +1,4 @@
--- Goals of `TenantFile::prepare_all` (src/calls.rt).
+-- Goals of `TenantFile::prepare_all` (src/tenant_file.rt).
 use Rattle.std.proofs.Common.{◌≡◌, List, [], length, inl, sym, ◌∙◌, refl, subst, arith, All, ◌<◌, ◌+◌, ◌≤◌, ap}
 use Rattle.std.specs.Vec.{with_items}
 use Rattle.std.proofs.lemmas.List.{with_items_is}

@@ -1,4 +1,4 @@
--- Goals of `TenantFile::prepare_at` (src/calls.rt).
+-- Goals of `TenantFile::prepare_at` (src/tenant_file.rt).
 use Rattle.std.proofs.Common.{List, ap, sym, ◌∙◌, subst, ◌+◌, ℕ, length}
 use Rattle.mw_words.specs.Change.{is_change}
 use Rattle.mw_record.specs.Layout.{pairs_of}

@@ -1,4 +1,4 @@
--- Goals of `TenantFile::seal` (src/calls.rt).
+-- Goals of `TenantFile::seal` (src/tenant_file.rt).
 use Rattle.mw_file.proofs.NewPlaces.{may_prepare_none, sealed_alone}
 use Rattle.mw_file.proofs.RollLoop.{on_ok}
 use Rattle.mw_file.proofs.tenant_file.TenantFile.seal.Goals as goal

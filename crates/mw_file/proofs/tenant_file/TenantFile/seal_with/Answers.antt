@@ -1,4 +1,4 @@
--- Goals of `TenantFile::seal_with` (src/calls.rt).
+-- Goals of `TenantFile::seal_with` (src/tenant_file.rt).
 use Rattle.std.proofs.Common.{◌≡◌, List, length, slice_set, sym, ◌∙◌, ap, refl, subst, arith, ◌+◌, ◌≤◌}
 use Rattle.std.specs.Vec.{with_item, with_items}
 use Rattle.std.proofs.lemmas.List.{with_items_is, length-set}

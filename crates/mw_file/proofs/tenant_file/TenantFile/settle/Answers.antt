@@ -1,4 +1,4 @@
--- Goals of `TenantFile::settle` (src/calls.rt).
+-- Goals of `TenantFile::settle` (src/tenant_file.rt).
 use Rattle.std.proofs.Common.{List, Bool, true, false, [], inl, subst, arith, ◌+◌, ap, length, refl, ◌∙◌, sym}
 use Rattle.mw_disk.proofs.RunLaws.{leaves_wider}
 use Rattle.mw_file.specs.declared.place_states.PlaceState.{PlaceState}

@@ -1,4 +1,4 @@
--- Goals of `TenantFile::settle_all` (src/calls.rt).
+-- Goals of `TenantFile::settle_all` (src/tenant_file.rt).
 use Rattle.std.proofs.Common.{◌≡◌, List, [], length, inl, ap, sym, ◌∙◌, refl, subst, arith, ◌+◌, ◌++◌, true, false, ◌≤◌}
 use Rattle.std.specs.Vec.{with_items}
 use Rattle.std.proofs.lemmas.List.{with_items_is}

@@ -1,4 +1,4 @@
--- Goals of `Plain::into_disks` (src/opening.rt).
+-- Goals of `Plain::into_disks` (src/plain.rt).
 use Rattle.std.proofs.Common.{◌++◌, map, sym, ap, ◌∙◌, append-nil}
 use Rattle.std.proofs.lemmas.List.{nil_from_length}
 use Rattle.std.specs.Vec.Iter.{into_iter_items}

@@ -1,4 +1,4 @@
--- Loop invariants of `Plain::into_disks` (src/opening.rt).
+-- Loop invariants of `Plain::into_disks` (src/plain.rt).
 use Rattle.std.proofs.Common.{◌≡◌, ◌≤◌, ◌+◌, ◌++◌, length, map, vec_len}
 use Rattle.std.specs.Prelude.{vec_capacity}
 use Rattle.std.specs.Vec.Iter.{into_iter_items}

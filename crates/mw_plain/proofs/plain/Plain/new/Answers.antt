@@ -1,4 +1,4 @@
--- Goals of `Plain::new` (src/opening.rt).
+-- Goals of `Plain::new` (src/plain.rt).
 use Rattle.std.proofs.Common.{◌≡◌, ◌≤◌, ◌+◌, length, drop, get_or, sym, ap, subst, ◌∙◌, arith, append-nil}
 use Rattle.std.proofs.lemmas.List.{nil_from_length}
 use Rattle.std.specs.Vec.Iter.{into_iter_items}

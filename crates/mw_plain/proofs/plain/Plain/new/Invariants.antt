@@ -1,7 +1,7 @@
--- Loop invariants of `Plain::new` (src/opening.rt).
+-- Loop invariants of `Plain::new` (src/plain.rt).
 use Rattle.std.proofs.Common.{◌≤◌, ◌+◌, ◌++◌, List, length, drop}
 use Rattle.std.specs.Vec.Iter.{into_iter_items}
-use Rattle.mw_plain.specs.declared.part.Part.{Part}
+use Rattle.mw_plain.specs.declared.tenant.Part.{Part}
 use Rattle.mw_plain.specs.Quotas.{quotas_of}
 use Rattle.mw_plain.specs.Lines.{FitLines, AreMadeOf, quotas_in}
 use Rattle.mw_plain.proofs.plain.Plain.new.Given as goal

@@ -1,4 +1,4 @@
--- Goals of `Shared::end_call` (src/call_steps.rt).
+-- Goals of `Shared::end_call` (src/file_call_steps.rt).
 use Rattle.std.proofs.Common.{◌∙◌}
 use Rattle.mw_words.specs.declared.statuses.Status.{Status}
 use Rattle.mw_words.specs.Patterns.{packed_status}

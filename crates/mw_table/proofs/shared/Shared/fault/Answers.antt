@@ -1,4 +1,4 @@
--- Goals of `Shared::fault` (src/call_steps.rt).
+-- Goals of `Shared::fault` (src/file_call_steps.rt).
 use Rattle.std.proofs.Common.{◌∙◌}
 use Rattle.mw_table.proofs.FileSteps.{busy_at_file, fault_asks, fault_stays}
 use Rattle.mw_table.proofs.shared.Shared.fault.Goals as goal

@@ -1,4 +1,4 @@
--- Goals of `Shared::find_status` (src/call_steps.rt).
+-- Goals of `Shared::find_status` (src/file_call_steps.rt).
 use Rattle.std.proofs.Common.{◌∙◌}
 use Rattle.mw_table.proofs.FileSteps.{busy_at_file, find_asks, find_stays}
 use Rattle.mw_table.proofs.shared.Shared.find_status.Goals as goal
