@@ -151,7 +151,7 @@ def try_a_late_change(clients, server):
     """A change on which its client has given up is made all the same, once the server goes on."""
     client = clients.Client(server.at, "t")
     before = client.get(9)
-    server.process.send_signal(signal.SIGSTOP)
+    server.stop()
     with impatient(client):
         raises(mondlexi.Unknown, "cas at a server that is held up", client.cas, [(9, before, before - 1)])
     server.process.send_signal(signal.SIGCONT)

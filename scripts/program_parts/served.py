@@ -2,6 +2,7 @@
 
 Used by: beside.py, common.py, machines.py, recipes.py, client_parts/runs.py, recipe_parts/running.py.
 """
+import os
 import random
 import signal
 import subprocess
@@ -56,9 +57,14 @@ class Served:
             self.process.wait()
         return is_ready
 
+    def stop(self) -> None:
+        """Stops it until SIGCONT. All of its threads stand when this returns."""
+        self.process.send_signal(signal.SIGSTOP)
+        os.waitid(os.P_PID, self.process.pid, os.WSTOPPED)
+
     def hold_up(self) -> None:
         """Stops it for a while."""
-        self.process.send_signal(signal.SIGSTOP)
+        self.stop()
         time.sleep(HOLD_UP)
         self.process.send_signal(signal.SIGCONT)
 
