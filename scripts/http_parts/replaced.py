@@ -1,7 +1,7 @@
 """A tenant's file that is cut, overwritten, replaced or removed while the server serves it: what is noted, what the pages say, how a
 copy of it is answered, and the next change; and what the report says.
 
-Used by: scripts/check-backup.
+Used by: scripts/check-backup, answers.py.
 """
 import os
 from pathlib import Path

@@ -1,40 +1,21 @@
-"""Right, wrong, slow and mutated requests to a server's pages.
+"""Right, slow and mutated requests to a server's pages.
 
-Used by: scripts/check-http. A page or a status that docs/HTTP.md gains has a request here.
+Used by: scripts/check-http. A page that docs/HTTP.md gains has a request here, and rows in answer_rows.py.
 """
 import random
 import select
 import shutil
 import subprocess
-import time
 from typing import Dict, List
 
 from lib.checks import PATIENCE, Wrong, same
 from lib.served import Served, connected, heard, said
 
+from .answer_rows import WRONG
 from .server import TYPES, Figures, answer_of, figures, get, status_page
 
 END = b" HTTP/1.1\r\nHost: localhost\r\n\r\n"
-LONGEST = 8192
-"""The most bytes of a head."""
 FILE, WORDS = "/tenants/a/file", "/tenants/a/words"
-REQUEST_SECONDS, WHOLE_SECONDS = 2, 10
-"""How long a client may take for its request, and for all."""
-WRONG = [
-    (b"POST /" + END, 405), (b"DELETE /metrics" + END, 405), (b"POST /nothing" + END, 404), (b"BREW /" + END, 501),
-    (b"get /" + END, 501), (b"GET /nothing" + END, 404), (b"GET /healthz/" + END, 404), (b"GET //" + END, 404),
-    (b"GET /tenants/c/file" + END, 404), (b"GET /tenants/c/words" + END, 404), (b"GET /tenants/a/words/" + END, 404),
-    (b"POST /tenants/a/file" + END, 405), (b"GET /tenants/../file" + END, 404), (b"GET nothing" + END, 400),
-    (b"GET / HTTP/1.1\r\n\r\n", 400), (b"GET / HTTP/1.1\r\nHost: a\r\nHost: b\r\n\r\n", 400), (b"GET / HTTP/2.0\r\nHost: a\r\n\r\n", 400),
-    (b"GET / HTTP/1.1\r\nHost : a\r\n\r\n", 400), (b"GET / HTTP/1.1\r\nHost: a\r\n b\r\n\r\n", 400), (b"\0\1\2\r\n\r\n", 400),
-    (b"GET / HTTP/1.1\r\nHost: a\r\nContent-Length: 1\r\nContent-Length: 2\r\n\r\n", 400),
-    (b"GET / HTTP/1.1\r\nHost: a\r\n\r\n", 421), (b"GET /tenants/a/file HTTP/1.1\r\nHost: 127.0.0.1.example:80\r\n\r\n", 421),
-    (b"GET /metrics HTTP/1.0\r\nHost: localhost.\r\n\r\n", 421), (b"POST /nothing HTTP/1.1\r\nHost: w.example\r\n\r\n", 421),
-    (b"GET /" + b"a" * LONGEST, 414), (b"GET / HTTP/1.1\r\nHost: a\r\nX: " + b"a" * LONGEST, 431),
-]
-"""Requests that are refused, and by which status."""
-SILENT = [b"", b"GET / HTTP/1.1\r\n", b"GET /"]
-"""Requests that are not whole: a client that sends no more after them hears nothing."""
 
 
 def right(server: Served) -> None:
@@ -74,23 +55,8 @@ def by_curl(server: Served) -> None:
             same(subprocess.run(words, stdout=subprocess.PIPE, timeout=PATIENCE, check=True).stdout, wanted, f"{path} by curl")
 
 
-def wrong(server: Served) -> None:
-    """Each wrong request is refused by its status, and what is no whole request is not answered."""
-    for text, status in WRONG:
-        answer = answer_of(said(server.pages, text))
-        found = answer.status, answer.body, "Allow" in answer.fields
-        same(found, (status, b"", status == 405), f"the status, the body and whether there is Allow, of {text[:60]!r}")
-    for text in SILENT:
-        same(said(server.pages, text), b"", repr(text))
-
-
 def slow(server: Served) -> None:
-    """Clients that are silent or slow are answered 408, others wait for them, and one that takes no answer is closed."""
-    begun = time.monotonic()
-    same(answer_of(said(server.pages, b"GET /", ends=False)).status, 408, "a silent client")
-    silent = time.monotonic() - begun
-    if not REQUEST_SECONDS - 0.5 < silent < REQUEST_SECONDS + 5:
-        raise Wrong(f"a silent client was answered after {silent:.1f} s")
+    """A client that is slow is answered 408, others wait for it, and one that takes no answer is closed."""
     with connected(server.pages) as client:
         for byte in b"GET /metrics HTTP/1.1\r\nHost: a":
             client.sendall(bytes([byte]))
@@ -125,7 +91,8 @@ def fuzz(server: Served, count: int, seed: int) -> Dict[int, int]:
     """Many mutated requests: each has an answer or none, and nothing else is touched. Gives how many had which status, 0 for none."""
     rng = random.Random(seed)
     found: Dict[int, int] = {}
-    bases = [text for text, _ in WRONG if len(text) < 1000] + [f"{method} {path}".encode() + END for method in ("GET", "HEAD") for path in (*TYPES, FILE, WORDS)]
+    bases = [row.says for row in WRONG if len(row.says) < 1000]
+    bases += [f"{method} {path}".encode() + END for method in ("GET", "HEAD") for path in (*TYPES, FILE, WORDS)]
     bases += [b"GET /metrics HTTP/1.1\r\nHost: localhost:9\r\nUser-Agent: curl/7.88\r\nAccept: */*\r\nConnection: close\r\n\r\n"]
     before = untouched(server)
     for number in range(count):

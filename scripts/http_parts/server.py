@@ -1,7 +1,8 @@
 """A server with pages, and what its pages say.
 
-Used by: scripts/bench-http, scripts/check-http, scripts/check-prometheus, cron.py, looks.py, replaced.py, requests.py,
-told.py, words.py, soak_parts/backups.py. STATUSES are those of docs/HTTP.md, TYPES those of crates/mw_http/src/heads.rt: a further page or
+Used by: scripts/bench-http, scripts/check-http, scripts/check-prometheus, answers.py, cron.py, looks.py, replaced.py, requests.py,
+told.py, words.py, scene_parts/play.py, soak_parts/backups.py. STATUSES are those of docs/HTTP.md, TYPES those of
+crates/mw_http/src/heads.rt: a further page or
 status is added here too.
 """
 import re

@@ -3,8 +3,9 @@ a difference is told. Python finds it beside the script, as `lib.checks`.
 
 Used by: scripts/bench-crowd, scripts/check-backup, scripts/check-cache, scripts/check-counts, scripts/check-crowd, scripts/check-http,
 scripts/check-limits, scripts/check-locks, scripts/check-map, scripts/check-move, scripts/check-new-file, scripts/check-prometheus,
-scripts/check-proxy, scripts/check-refusals, scripts/check-sockets, scripts/check-wakes, scripts/closed-streams, scripts/fail-each-allocation,
-served.py, and the modules of http_parts. A further program is a row of PROGRAMS here, in program_parts/common.py and in scripts/package.
+scripts/check-proxy, scripts/check-refusals, scripts/check-scenes, scripts/check-sockets, scripts/check-stories, scripts/check-texts,
+scripts/check-wakes, scripts/closed-streams, scripts/fail-each-allocation, served.py, text_parts/playing.py, and the modules of http_parts,
+scene_parts and story_parts. A further program is a row of PROGRAMS here, in program_parts/common.py and in scripts/package.
 """
 import contextlib
 import os
@@ -61,12 +62,12 @@ def raises(kind: Type[BaseException], what: str, call: Callable[..., object], *a
     raise Wrong(f"{what}: {given!r} in place of {kind.__name__}")
 
 
-def until(is_so: Callable[[], bool], what: str, step: float = 0.05) -> None:
-    """Waits until this is so; Wrong if that takes too long."""
-    end = time.monotonic() + PATIENCE
+def until(is_so: Callable[[], bool], what: str, step: float = 0.05, most: float = PATIENCE) -> None:
+    """Waits until this is so; Wrong if that takes longer than so many seconds."""
+    end = time.monotonic() + most
     while not is_so():
         if time.monotonic() > end:
-            raise Wrong(f"{what}: not within {PATIENCE} seconds")
+            raise Wrong(f"{what}: not within {most} seconds")
         time.sleep(step)
 
 

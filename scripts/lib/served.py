@@ -2,7 +2,7 @@
 
 Used by: scripts/bench-crowd, scripts/check-crowd, scripts/check-http, scripts/check-limits, scripts/check-locks, scripts/check-map,
 scripts/check-move, scripts/check-prometheus, scripts/check-proxy, scripts/check-sockets, scripts/check-wakes, scripts/fail-each-allocation,
-and the modules of http_parts. It reads the first lines of mwserve (docs/OPERATING.md): change both.
+and the modules of http_parts, scene_parts and story_parts. It reads the first lines of mwserve (docs/OPERATING.md): change both.
 """
 import atexit
 import contextlib

@@ -14,10 +14,16 @@ from register_parts.source import TOP, files_below, read
 # Where the edits of a crate are, in words and as a folder: `rt ci` tries the first, scripts/check-wrong-bodies the others.
 FOLDERS = {"in the gate": "crates/{}/must-fail", "by rounds": "wrong-bodies/{}"}
 BODIES = "scripts/register_parts/wrong_bodies.txt"
+# A schedule of scripts/text_parts.
+SCHEDULE = re.compile(r"^== ([\w-]+)$", re.M)
 # The name of a row in a table of tests.
 ROW = re.compile(r'"([a-z][\w -]*)"')
-# Tests and schedules that a cell names: tests `a`, `b` and `c`.
-PROSE = re.compile(r"\b(tests?|schedules?) (`[\w-]+`(?:(?:, | and )`[\w-]+`)*)")
+# The names of a story, of a scene and of a group of rows, and what plays it.
+STORY, STORIES = re.compile(r"^story (\S+)$", re.M), "scripts/check-stories"
+SCENE, SCENES = re.compile(r"^scene (.+)$", re.M), "scripts/check-scenes"
+GROUP, GROUPS = re.compile(r"^\[(.+)\]$", re.M), "scripts/check-texts"
+# Tests, schedules, scenes and groups that a cell names: tests `a`, `b` and `c`.
+PROSE = re.compile(r"\b(test|schedule|scene|group)s? (`[^`]+`(?:(?:, | and )`[^`]+`)*)")
 
 
 def where(edit):
@@ -55,7 +61,8 @@ def edits(crates):
 
 class Row:
     """A row of a table: its cells. One of a wrong body has edits as `crate/edit`, tests as a crate with names, the public call of the edits as
-    `crate/call`, and what is said besides. An edit without such a row has a call. Other rows name tests and schedules in their words alone."""
+    `crate/call`, and what is said besides. An edit without such a row has a call. Other rows name tests, schedules, scenes
+    and groups in their words alone."""
 
     def __init__(self, cells, heading):
         self.cells, self.edits, self.tests, self.besides, call = cells, [], [], "", ""
@@ -93,9 +100,21 @@ def rows_of(lines):
     return [line for line in lines if isinstance(line, Row)]
 
 
+def texts_in(folder, suffix):
+    """The texts of a folder's files of this suffix, one after the other."""
+    return "\n".join(read(path) for path in files_below(folder, suffix))
+
+
+def beginnings(names):
+    """How each of these names begins, and none of the others: to the end of one of its words, without a comma or colon there."""
+    words = [name.split() for name in names]
+    found = Counter(it for name in words for it in {" ".join(name[:count]).rstrip(",:") for count in range(1, len(name) + 1)})
+    return {it for it, count in found.items() if count == 1}
+
+
 class There:
     """What the rows may name: edits, tests with their crates, public calls; rows of tests' tables, by the name that such a row
-    has as a text, with a hyphen for each space; and the text of the tests, which has schedules."""
+    has as a text, with a hyphen for each space; and stories, scenes, schedules and groups of rows that scripts play."""
 
     def __init__(self, crates):
         functions = [function for crate in crates for source in crate.sources for function in source.functions]
@@ -103,23 +122,22 @@ class There:
         self.edits, self.wrong_edits = edits(crates)
         self.tests = {(f.source.crate, f.name) for f in functions if f.is_test}
         self.tests |= {(source.crate, row.replace(" ", "-")) for source in tests for row in ROW.findall(source.text)}
-        self.test_names = {name for _, name in self.tests}
+        self.tests |= {(STORIES, name) for name in STORY.findall(texts_in("scripts/story_parts", ".stories"))}
+        texts = texts_in("scripts/text_parts", ".txt")
+        self.names = {"test": {name for _, name in self.tests}, "schedule": set(SCHEDULE.findall(texts)), "group": set(GROUP.findall(texts)),
+                      "scene": beginnings(SCENE.findall(texts_in("scripts/scene_parts", ".txt")))}
+        self.tests |= {(SCENES, name) for name in self.names["scene"]} | {(GROUPS, name) for name in self.names["group"]}
         calls = [(f"{f.source.crate}/{f.label()}", f"{f.source.path}: {f.label()}") for f in functions if f.is_open]
         count = Counter(call for call, _ in calls)
         self.calls = {call: place for call, place in calls if count[call] == 1}
-        self.test_text = "\n".join(source.text for source in tests)
-
-    def has(self, kind, name):
-        """Whether there is such a test, or such a schedule."""
-        return name in self.test_names or kind.startswith("schedule") and f'"{name}"' in self.test_text
 
     def faults_of(self, row):
         """What a row names though it isn't there, or leaves out."""
         found = [] if row.is_whole else ["a cell is empty, or missing"]
         found += [f"no edit {edit}" for edit in row.edits if edit not in self.edits]
         found += [f"no test {name} of {crate}" for crate, names in row.tests for name in names if (crate, name) not in self.tests]
-        told = [(kind, name) for kind, names in PROSE.findall(" ".join(row.cells)) for name in re.findall(r"`([\w-]+)`", names)]
-        found += [f"no test or schedule {name}" for kind, name in told if not self.has(kind, name)]
+        told = [(kind, name) for kind, names in PROSE.findall(" ".join(row.cells)) for name in re.findall(r"`([^`]+)`", names)]
+        found += [f"no {kind} {name}" for kind, name in told if name not in self.names[kind]]
         return found + ([f"no public call {row.call}, or several"] if row.call and row.call not in self.calls else [])
 
     def public_calls(self, rows):

@@ -1,7 +1,7 @@
 """The bytes of an opened file and of a record, as docs/FILES.md says; and what a file says, as a reader written from that page reads it.
 
-Used by: scripts/check-limits, scripts/check-refusals, scripts/closed-streams, scripts/fail-each-allocation, lives.py,
-planted_writers.py, power.py. A change of the format is one here and in files_parts/reader.py.
+Used by: scripts/check-limits, scripts/check-refusals, scripts/closed-streams, scripts/fail-each-allocation, http_parts/answers.py,
+lives.py, planted_writers.py, power.py, text_parts/playing.py. A change of the format is one here and in files_parts/reader.py.
 """
 from typing import List, NamedTuple, Optional, Tuple
 

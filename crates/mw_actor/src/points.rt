@@ -9,7 +9,7 @@ use mw_look::Look;
 use mw_words::{Door, Gate, Reply};
 
 /// A slot and its sequence number, which together name one change.
-#[derive(Clone, Copy, Debug, PartialEq, Eq)]
+#[derive(Clone, Copy, PartialEq, Eq)]
 pub struct Slot {
     /// The slot's index in the pool.
     pub slot: u8,
@@ -19,7 +19,7 @@ pub struct Slot {
 
 /// A request's own change, and its target: the change that it works on. The target is its own change, or
 /// another's that is in its way. The request holds a pin of each.
-#[derive(Clone, Copy, Debug, PartialEq, Eq)]
+#[derive(Clone, Copy, PartialEq, Eq)]
 pub struct Task {
     /// The request's own change.
     pub own: Slot,
@@ -28,7 +28,7 @@ pub struct Task {
 }
 
 /// A worker's attempt to hold a word.
-#[derive(Clone, Copy, Debug, PartialEq, Eq)]
+#[derive(Clone, Copy, PartialEq, Eq)]
 pub struct Attempt {
     /// The worker's number.
     pub worker: u8,
@@ -37,7 +37,7 @@ pub struct Attempt {
 }
 
 /// A sweep over the words of a decided change, named for the status that the request loaded before it.
-#[derive(Clone, Copy, Debug, PartialEq, Eq)]
+#[derive(Clone, Copy, PartialEq, Eq)]
 pub enum Sweep {
     /// The change is made: each word that it holds gets its new value.
     Yes,
@@ -55,7 +55,7 @@ pub enum Sweep {
 }
 
 /// What a request does after it has given back a pin.
-#[derive(Clone, Copy, Debug)]
+#[derive(Clone, Copy)]
 pub enum After {
     /// It works on this change.
     Work(Task),

@@ -24,7 +24,7 @@ module _ {D : Type 0} (facts : D → Facts) where
   HeldIsOnlyRead None (Some new) = ⊥
   HeldIsOnlyRead (Some old) None = ⊥
 
-  -- The book's file was at most read, and all else of the book is as it was.
+  -- The book's file was at most read, and all else that the book tells of it is as it was.
   pub record IsOnlyRead (old new : Book D) : Type 0 where
     pub held : HeldIsOnlyRead old.held new.held
     pub words : new.words ≡ old.words

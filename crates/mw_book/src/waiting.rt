@@ -18,7 +18,7 @@ use mw_file::{NewChange, Place, PlaceState};
 use mw_words::{Entries, copy_of, is_change};
 
 /// A change that waits for its tenant's file.
-#[derive(Debug, Default, Drop)]
+#[derive(Default, Drop)]
 pub struct Waiting {
     /// The slot of the change.
     pub slot: u8,

@@ -1,7 +1,13 @@
 //! Makes the command line of a program from a table of its arguments, reads it, and tells what is wrong with it.
 //!
-//! Used by: `file_command`, mw_config, mw_init, mwbench, mw_show, mw_player. It has no contracts. The texts are clap's:
-//! mw_store_tests (`config_tests.rt`) and scripts/check-refusals expect some.
+//! Used by: `file_command`, mw_config, mwinit, mwbench, mwshow, mwreplay. The texts are clap's: scripts/check-texts and
+//! scripts/check-refusals expect some. What clap reads of a table is in specs/Commands.
+ghost use Rattle.std.specs.List.{AllByRecursion};
+ghost use Rattle.std.specs.Prelude.{◌≡◌, ◌++◌, IfErr, IfOk, OnOk, false, map, string_bytes, true};
+ghost use Rattle.clap.specs.Simple.{on_top};
+ghost use Rattle.clap.specs.Words.{HasMatchesOf, app_of, kind_of, new_app, rule_of, takes};
+ghost use Rattle.clap.specs.declared.error.kind.ErrorKind.TheVariants.{OutOfMemory};
+ghost use Rattle.mw_command_line.specs.Commands.{command_of, rule_of_argument};
 
 use clap::builder::ValueParser;
 use clap::error::ErrorKind;
@@ -73,10 +79,18 @@ pub struct CommandLine {
 impl CommandLine {
     /// Reads the command line `args`. Its first argument is the program's own name.
     ///
+    /// - `matches`: it gives what clap reads of just these words for the table's arguments.
+    /// - `taken`: it refuses words that clap takes only if memory was refused.
+    ///
+    /// Both are of a table that clap's contracts can read (`is_simple`).
+    ///
     /// # Errors
     ///
     /// Clap's, with the text to show. It is one too if the help or the version is asked for, or memory was refused.
-    pub fn matches<'a>(&self, alloc: Global, args: &'a [String]) -> Result<ArgMatches<'a>, Error> {
+    pub fn matches<'a>(&self, alloc: Global, args: &'a [String]) -> Result<ArgMatches<'a>, Error>
+        ensures matches { IfOk result (HasMatchesOf (command_of self.now) (map string_bytes args.now)) }
+        ensures taken { IfErr result (λ fault. takes (command_of self.now) (map string_bytes args.now) ≡ true → kind_of fault ≡ OutOfMemory) }
+    {
         match self.command(alloc) {
             Ok(command) => command.try_get_matches_from(args),
             Err(fault) => Err(Error::from(fault)),
@@ -84,14 +98,18 @@ impl CommandLine {
     }
 
     /// Makes clap's form of it.
-    fn command<'a>(&self, alloc: Global) -> Result<Command<'a>, AllocError> {
+    fn command<'a>(&self, alloc: Global) -> Result<Command<'a>, AllocError>
+        ensures { IfOk result (λ command. app_of command ≡ command_of self.now) }
+    {
         let mut args = Vec::new(alloc);
         push_all(alloc, &mut args, self.arguments)?;
         self.head(alloc).args(args)
     }
 
     /// Makes the command without its arguments.
-    fn head<'a>(&self, alloc: Global) -> Command<'a> {
+    fn head<'a>(&self, alloc: Global) -> Command<'a>
+        ensures { app_of result ≡ on_top (λ top. record top { has_version = true }) (new_app self.now.name.now) }
+    {
         Command::new(alloc, self.name)
             .version(VERSION)
             .about(self.about)
@@ -120,7 +138,10 @@ fn push_all<'a>(
     alloc: Global,
     args: &mut Vec<Arg<'a>>,
     arguments: &[Argument],
-) -> Result<(), AllocError> {
+) -> Result<(), AllocError>
+    ensures rules { OnOk result (map rule_of args.new.items ≡ map rule_of args.old.items ++ map rule_of_argument arguments.now) }
+    ensures local { OnOk result (AllByRecursion (λ arg. arg.global ≡ false) args.old.items → AllByRecursion (λ arg. arg.global ≡ false) args.new.items) }
+{
     for argument in arguments {
         args.push(arg_of(alloc, argument))?;
     }
@@ -128,7 +149,10 @@ fn push_all<'a>(
 }
 
 /// Makes clap's form of an argument.
-fn arg_of<'a>(alloc: Global, argument: &Argument) -> Arg<'a> {
+fn arg_of<'a>(alloc: Global, argument: &Argument) -> Arg<'a>
+    ensures rule { rule_of result ≡ rule_of_argument argument.now }
+    ensures local { result.global ≡ false }
+{
     let arg = Arg::new(alloc, argument.name)
         .value_names(argument.value)
         .required(argument.is_needed)

@@ -1,7 +1,7 @@
 //! Reads the command line of a program that takes one file and may be given one switch, and tells what is wrong with
 //! it.
 //!
-//! Used by: mw_show, mw_player. Change it with docs/OPERATING and docs/SCHEDULES, and `memory` with
+//! Used by: mwshow, mwreplay. Change it with docs/OPERATING and docs/SCHEDULES, and `memory` with
 //! scripts/fail-each-allocation.
 ghost use Rattle.std.specs.Prelude.{◌≡◌, IfOk};
 

@@ -1,7 +1,7 @@
 //! Makes the command line of each program from a table of its arguments, and reads it. Of a program that takes one
 //! file and may be given one switch, `NAME [--SWITCH] FILE`, it reads all, and opens that file.
 //!
-//! Used by: mw_config, mw_init, mwbench, mw_show, mw_player, whose programs change with it.
+//! Used by: mw_config, mwinit, mwbench, mwshow, mwreplay, whose programs change with it.
 #![tactic(auto)]
 
 mod command_line;

@@ -1,6 +1,6 @@
 //! Opens the file that a command line names, if it is a plain one.
 //!
-//! Used by: mw_show, mw_player. It has no contracts.
+//! Used by: mwshow, mwreplay. It has no contracts.
 use std::fs::{self, File};
 use std::io;
 use std::rt::Files;

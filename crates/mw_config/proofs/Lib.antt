@@ -1,4 +1,5 @@
 pub mod LineTextLaws
 pub mod FirstLines
+pub mod AskedWords
 mod OneAnswer
 mod FormRules

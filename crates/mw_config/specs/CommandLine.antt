@@ -1,8 +1,15 @@
--- Defines what the command line of `mwserve` may ask for: connections, clients, limits of time, file modes, pool and workers.
+-- Defines what the command line of `mwserve` may ask for: connections, clients, limits of time, file modes, pool and workers. Defines also
+-- which words ask for a tenants file, a script and an address.
 -- Used by: mw_programs, command_line.rt, lease_terms.rt. Change it with the program's help and docs/OPERATING.
-use Rattle.std.specs.Prelude.{ℕ, ◌≤◌, ◌<◌, IfSome, vec_len}
+use Rattle.std.specs.Prelude.{◌≡◌, ℕ, ◌≤◌, ◌<◌, codes, drop, IfSome, List, None, Option, Some, string_bytes, true, vec_len}
+use Rattle.clap.specs.Simple.{on_top}
+use Rattle.clap.specs.Words.{App, first_of, matches_of, new_app, takes}
+use Rattle.mw_command_line.specs.Commands.{IsGiven}
 use Rattle.mw_words.specs.declared.limits.TheConstants.{MAX_POOL, MAX_WORKERS, MAX_CONNECTIONS}
 use Rattle.mw_config.specs.declared.command_line.TheConstants.{MAX_CLIENTS, MAX_FAULTS, MAX_HTTP_NAMES, MAX_IDLE, MAX_SOCKET_MODE}
+use Rattle.mw_config.specs.ServerOptions.{server_rules}
+use Rattle.mw_config.specs.declared.command_line.ArgFault.{ArgFault}
+use Rattle.mw_config.specs.declared.command_line.ArgFault.TheVariants as fault
 use Rattle.mw_config.specs.declared.command_line.Args.{Args}
 use Rattle.mw_config.specs.declared.command_line.Listening.{Listening}
 use Rattle.mw_config.specs.declared.command_line.Mode.{Mode}
@@ -47,3 +54,37 @@ pub record ArePermittedArgs (args : Args) : Type 0 where
   pub workers : IsUpTo MAX_WORKERS args.workers
   pub mode : IsPermittedMode args.mode
   pub shared : SuitsWorkers args.workers args.mode
+
+-- the command of `mwserve`, as clap reads it
+abbrev pub server_command : App
+server_command = on_top (λ top. record top { rules = server_rules; has_version = true }) (new_app (codes "mwserve"))
+
+-- clap takes these words: it refuses them only if memory is out
+abbrev pub AreTaken : List (List ℕ) → Type 0
+AreTaken words = takes server_command words ≡ true
+
+-- the first value of the option of this name that clap reads of these words, of which the first is the program's own name
+abbrev pub value_asked : List (List ℕ) → List ℕ → Option (List ℕ)
+value_asked words name = first_of name (matches_of server_command words)
+
+-- An address is asked for and no script, or a script and no address. `value` tells which value an option has.
+abbrev pub IsModeAsked : (List ℕ → Option (List ℕ)) → Mode → Type 0
+IsModeAsked value (Listen listening) = (value (codes "listen") ≡ Some (string_bytes listening.address)) × (value (codes "script") ≡ None)
+IsModeAsked value (Script path) = (value (codes "listen") ≡ None) × (value (codes "script") ≡ Some (string_bytes path))
+
+-- This tenants file and this mode are asked for.
+pub record AreAskedBy (value : List ℕ → Option (List ℕ)) (args : Args) : Type 0 where
+  pub tenants : value (codes "tenants") ≡ Some (string_bytes args.tenants)
+  pub mode : IsModeAsked value args.mode
+
+-- The words of a command line, of which the first is the program's own name, ask for this tenants file and this mode: clap reads
+-- them so. The path of the tenants file is in the word after `--tenants`, or `--tenants=PATH` is a word.
+pub record AreAsked (words : List (List ℕ)) (args : Args) : Type 0 where
+  pub read : AreAskedBy (value_asked words) args
+  pub tenants : IsGiven (codes "tenants") (drop 1 words) (string_bytes args.tenants)
+
+-- the fault is clap's
+abbrev pub IsRefused : ArgFault → Type 0
+IsRefused (fault.Refused refusal) = Unit {0}
+IsRefused (fault.Mode rule) = ⊥
+IsRefused fault.Memory = ⊥

@@ -2,10 +2,14 @@
 //!
 //! Used by: `lease_terms`, `options`, mw_programs. A new option needs a field here, its row in `options`, its use in
 //! mw_programs, a clause in `specs/CommandLine` if it has limits, and its row in docs/OPERATING. Change a limit there and in
-//! docs/PROTOCOL too, an option's name in contrib and scripts (`git grep`), a text of [`ArgFault`] in mw_store_tests
+//! docs/PROTOCOL too, an option's name in contrib and scripts (`git grep`), a text of [`ArgFault`] in scripts/text_parts
 //! and scripts/check-sockets.
-ghost use Rattle.std.specs.Prelude.{ℕ, ◌≡◌, ◌≤◌, IfOk, IfSome, length, vec_len};
-ghost use Rattle.mw_config.specs.CommandLine.{ArePermittedArgs, AreSharedWell, IsPermittedMode, IsUpTo, SuitsWorkers};
+ghost use Rattle.std.specs.Prelude.{ℕ, ◌≡◌, ◌≤◌, codes, IfErr, IfOk, IfSome, length, map, string_bytes, vec_len};
+ghost use Rattle.clap.specs.Words.{first_value, found_of, kind_of};
+ghost use Rattle.clap.specs.declared.error.kind.ErrorKind.TheVariants.{OutOfMemory};
+ghost use Rattle.mw_config.specs.CommandLine.{AreAsked, AreAskedBy, ArePermittedArgs, AreSharedWell, AreTaken, IsModeAsked};
+ghost use Rattle.mw_config.specs.CommandLine.{IsPermittedMode, IsRefused, IsUpTo, SuitsWorkers};
+ghost use Rattle.mw_config.specs.declared.command_line.Mode.TheVariants.{Listen};
 
 use crate::lease_terms::{LeaseTerms, lease_of};
 use crate::options::command_line;
@@ -166,17 +170,39 @@ impl fmt::Display for ArgFault {
     }
 }
 
-impl From<AllocError> for ArgFault {
-    fn from(_: AllocError) -> Self {
-        ArgFault::Memory
-    }
-}
-
 impl From<clap::Error> for ArgFault {
+    ghost from_gives = { λ fault told. kind_of fault ≡ OutOfMemory → IsRefused told → ⊥ };
+
     fn from(fault: clap::Error) -> Self {
         match fault.kind() {
             ErrorKind::OutOfMemory => ArgFault::Memory,
             _ => ArgFault::Refused(fault),
+        }
+    }
+}
+
+/// Tells why options ask for nothing, though clap takes each of them.
+#[derive(Drop)]
+pub(crate) enum OptionFault {
+    /// They break this rule.
+    Rule(&'static str),
+    /// Memory was refused.
+    Memory,
+}
+
+impl From<AllocError> for OptionFault {
+    fn from(_: AllocError) -> Self {
+        OptionFault::Memory
+    }
+}
+
+impl From<OptionFault> for ArgFault {
+    ghost from_gives = { λ _ told. IsRefused told → ⊥ };
+
+    fn from(fault: OptionFault) -> Self {
+        match fault {
+            OptionFault::Rule(rule) => ArgFault::Mode(rule),
+            OptionFault::Memory => ArgFault::Memory,
         }
     }
 }
@@ -195,6 +221,10 @@ impl From<clap::Error> for ArgFault {
 /// - M is 1 to [`MAX_CLIENTS`]. R is at least 1 and below N; if it isn't given, a quarter of N, and at least 1.
 /// - MODE has octal digits, is at most [`MAX_SOCKET_MODE`], and 0600 if it isn't given.
 ///
+/// - `asked`: the words ask for the tenants file, the script or the address that it gives. The path of the tenants file is
+///   in the word after `--tenants`, or `--tenants=PATH` is a word.
+/// - `taken`: if clap takes the words, the fault is another one than clap's.
+///
 /// # Errors
 ///
 /// [`ArgFault::Refused`] if clap refuses them, or they ask for the help or the version. [`ArgFault::Mode`], with the
@@ -203,21 +233,29 @@ impl From<clap::Error> for ArgFault {
 /// `--readers` without `--clients`, have one of `--lease` and `--lease-time` without the other, or would leave no worker for changes. [`ArgFault::Memory`] if memory was refused. `args` is only read.
 pub fn read_args(alloc: Global, args: &[String]) -> Result<Args, ArgFault>
     ensures permitted { IfOk result (λ args. ArePermittedArgs args) }
+    ensures asked { IfOk result (λ read. AreAsked (map string_bytes args.now) read) }
+    ensures taken { IfErr result (λ fault. AreTaken (map string_bytes args.now) → IsRefused fault → ⊥) }
 {
-    let matches = command_line().matches(alloc, args)?;
-    args_of(alloc, &matches)
+    match command_line().matches(alloc, args) {
+        Ok(matches) => match args_of(alloc, &matches) {
+            Ok(args) => Ok(args),
+            Err(fault) => Err(ArgFault::from(fault)),
+        },
+        Err(fault) => Err(ArgFault::from(fault)),
+    }
 }
 
 /// Gives what the options ask for.
-fn args_of(alloc: Global, matches: &ArgMatches<'_>) -> Result<Args, ArgFault>
-    ensures { IfOk result (λ args. ArePermittedArgs args) }
+fn args_of(alloc: Global, matches: &ArgMatches<'_>) -> Result<Args, OptionFault>
+    ensures permitted { IfOk result (λ args. ArePermittedArgs args) }
+    ensures asked { IfOk result (λ args. AreAskedBy (first_value (found_of matches.now)) args) }
 {
     let (Some(tenants), Some(pool), Some(workers)) = (
         matches.get_str("tenants"),
         number_of(matches, "pool", u32::from(MAX_POOL)),
         number_of(matches, "workers", u32::from(MAX_WORKERS)),
     ) else {
-        return Err(ArgFault::Mode(IN_RANGE));
+        return Err(OptionFault::Rule(IN_RANGE));
     };
     Ok(Args {
         tenants: String::from_str(alloc, tenants)?,
@@ -231,8 +269,9 @@ fn args_of(alloc: Global, matches: &ArgMatches<'_>) -> Result<Args, ArgFault>
     })
 }
 
-fn mode_of(alloc: Global, matches: &ArgMatches<'_>, workers: u8) -> Result<Mode, ArgFault>
+fn mode_of(alloc: Global, matches: &ArgMatches<'_>, workers: u8) -> Result<Mode, OptionFault>
     requires { 1 ≤ workers }
+    ensures asked { IfOk result (λ mode. IsModeAsked (first_value (found_of matches.now)) mode) }
     ensures permitted { IfOk result (λ mode. IsPermittedMode mode) }
     ensures suits { IfOk result (λ mode. SuitsWorkers workers mode) }
 {
@@ -241,8 +280,8 @@ fn mode_of(alloc: Global, matches: &ArgMatches<'_>, workers: u8) -> Result<Mode,
         (None, Some(script)) if !tell_of_connections(matches) => {
             Ok(Mode::Script(String::from_str(alloc, script)?))
         }
-        (None, Some(_)) => Err(ArgFault::Mode(OF_LISTEN)),
-        _ => Err(ArgFault::Mode(ONE_MODE)),
+        (None, Some(_)) => Err(OptionFault::Rule(OF_LISTEN)),
+        _ => Err(OptionFault::Rule(ONE_MODE)),
     }
 }
 
@@ -269,8 +308,9 @@ fn listen_mode(
     matches: &ArgMatches<'_>,
     address: &str,
     workers: u8,
-) -> Result<Mode, ArgFault>
+) -> Result<Mode, OptionFault>
     requires { 1 ≤ workers }
+    ensures listens { IfOk result (λ mode. (listening : _) × (mode ≡ Listen listening) × (string_bytes listening.address ≡ address.now)) }
     ensures permitted { IfOk result (λ mode. IsPermittedMode mode) }
     ensures suits { IfOk result (λ mode. SuitsWorkers workers mode) }
 {
@@ -319,7 +359,8 @@ fn places_of(
     address: &str,
     names: &[&str],
 ) -> Result<Places, AllocError>
-    ensures { IfOk result (λ places. vec_len places.http_names ≡ length names.now) }
+    ensures names { IfOk result (λ places. vec_len places.http_names ≡ length names.now) }
+    ensures address { IfOk result (λ places. string_bytes places.address ≡ address.now) }
 {
     Ok(Places {
         address: String::from_str(alloc, address)?,
@@ -330,17 +371,17 @@ fn places_of(
 }
 
 /// Gives the names for the pages.
-fn names_of<'m, 'a>(matches: &'m ArgMatches<'a>) -> Result<&'m [&'a str], ArgFault>
+fn names_of<'m, 'a>(matches: &'m ArgMatches<'a>) -> Result<&'m [&'a str], OptionFault>
     ensures { IfOk result (λ names. length names.now ≤ MAX_HTTP_NAMES) }
 {
     let Some(names) = matches.get_strs("http-name") else {
         return Ok(&[]);
     };
     if matches.get_str("http").is_none() {
-        return Err(ArgFault::Mode(PAGES));
+        return Err(OptionFault::Rule(PAGES));
     }
     if names.len() > MAX_HTTP_NAMES || !are_host_names(names) {
-        return Err(ArgFault::Mode(HTTP_NAME));
+        return Err(OptionFault::Rule(HTTP_NAME));
     }
     Ok(names)
 }
@@ -372,7 +413,7 @@ fn is_name_byte(byte: u8) -> bool {
 }
 
 /// Gives how many clients share the passes of so many workers, if the command line says it.
-fn shared_of(matches: &ArgMatches<'_>, workers: u8) -> Result<Option<SharedWorkers>, ArgFault>
+fn shared_of(matches: &ArgMatches<'_>, workers: u8) -> Result<Option<SharedWorkers>, OptionFault>
     ensures { IfOk result (λ shared. IfSome shared (AreSharedWell workers)) }
 {
     let readers = number_of(matches, "readers", u32::from(MAX_WORKERS));
@@ -380,13 +421,13 @@ fn shared_of(matches: &ArgMatches<'_>, workers: u8) -> Result<Option<SharedWorke
         return if readers.is_none() {
             Ok(None)
         } else {
-            Err(ArgFault::Mode(SHARED))
+            Err(OptionFault::Rule(SHARED))
         };
     };
     let usual = u32::from((workers / WORKERS_A_READER).max(1));
     let readers = readers.unwrap_or(usual);
     if readers >= u32::from(workers) {
-        return Err(ArgFault::Mode(SOME_CHANGE));
+        return Err(OptionFault::Rule(SOME_CHANGE));
     }
     Ok(Some(SharedWorkers {
         clients: clients as u16,
@@ -395,7 +436,7 @@ fn shared_of(matches: &ArgMatches<'_>, workers: u8) -> Result<Option<SharedWorke
 }
 
 /// Gives the file mode of a text of octal digits, or that of the owner alone if there is no text.
-fn socket_mode_of(text: Option<&str>) -> Result<u32, ArgFault>
+fn socket_mode_of(text: Option<&str>) -> Result<u32, OptionFault>
     ensures { IfOk result (λ mode. mode ≤ MAX_SOCKET_MODE) }
 {
     let Some(text) = text else {
@@ -403,7 +444,7 @@ fn socket_mode_of(text: Option<&str>) -> Result<u32, ArgFault>
     };
     match u32::from_str_radix(text, 8) {
         Ok(mode) if mode <= MAX_SOCKET_MODE => Ok(mode),
-        _ => Err(ArgFault::Mode(FILE_MODE)),
+        _ => Err(OptionFault::Rule(FILE_MODE)),
     }
 }
 

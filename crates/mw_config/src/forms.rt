@@ -1,7 +1,6 @@
 //! Tells which rule of its form a line of a tenants file breaks, for a note: it decides no refusal.
 //!
-//! Used by: mw_opening. Change it with `specs/Forms` and `specs/LineTexts`. mw_store_tests (`config_tests.rt`) expects
-//! the texts.
+//! Used by: mw_opening. Change it with `specs/Forms` and `specs/LineTexts`. scripts/check-texts expects the texts.
 ghost use Rattle.std.specs.Prelude.{◌≡◌, ◌&&◌, MatchOption};
 ghost use Rattle.std.specs.List.{list_all};
 ghost use Rattle.mw_line.specs.Number as number;

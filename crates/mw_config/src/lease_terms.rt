@@ -6,7 +6,7 @@ ghost use Rattle.std.specs.Prelude.{IfOk, IfSome};
 ghost use Rattle.mw_config.specs.CommandLine.{IsUpTo};
 ghost use Rattle.mw_config.specs.declared.command_line.TheConstants.{MAX_IDLE};
 
-use crate::command_line::{ArgFault, MAX_IDLE, number_of};
+use crate::command_line::{MAX_IDLE, OptionFault, number_of};
 use clap::ArgMatches;
 use std::alloc::Global;
 
@@ -26,11 +26,11 @@ const LEASE: &str = "--lease and --lease-time need each other";
 ///
 /// # Errors
 ///
-/// [`ArgFault::Mode`] if one of the two options is given without the other; [`ArgFault::Memory`] if memory was refused.
+/// [`OptionFault::Rule`] if one of the two options is given without the other; [`OptionFault::Memory`] if memory was refused.
 pub(crate) fn lease_of(
     alloc: Global,
     matches: &ArgMatches<'_>,
-) -> Result<Option<LeaseTerms>, ArgFault>
+) -> Result<Option<LeaseTerms>, OptionFault>
     ensures { IfOk result (λ lease. IfSome lease (λ terms. IsUpTo MAX_IDLE terms.seconds)) }
 {
     let seconds = number_of(matches, "lease-time", MAX_IDLE);
@@ -40,6 +40,6 @@ pub(crate) fn lease_of(
             Ok(Some(LeaseTerms { path, seconds }))
         }
         (None, None) => Ok(None),
-        _ => Err(ArgFault::Mode(LEASE)),
+        _ => Err(OptionFault::Rule(LEASE)),
     }
 }

@@ -1,9 +1,11 @@
 //! Reads what a server is started with: the tenants file and the command line.
 //!
 //! - *What a contract says*: [`read_tenants`] gives the lines of a tenants file, within all limits, or the first rule
-//!   that is broken. [`read_args`] gives only what is in its range.
+//!   that is broken. [`read_args`] gives only what is in its range, and the tenants file, script or address that the words
+//!   ask for.
 //! - *Proved*: a text has one answer ([`one_answer`]).
-//! - *Tested only*: all else of a command line, and the texts of refusals (`config_tests` of mw_store_tests).
+//! - *Tested only*: all else of a command line, and the texts of refusals (`config_tests` of mw_store_tests,
+//!   scripts/check-texts).
 //!
 //! Used by: mw_plain, mw_engine, mw_opening, mw_programs; mw_law_threads, in contracts. When a server starts,
 //! mw_opening calls [`read_tenants`], and mw_programs calls [`read_args`]. A change of what they accept changes

@@ -2,6 +2,10 @@
 //!
 //! Used by: `command_line`, which reads them. A new one needs its row in docs/OPERATING.
 
+ghost use Rattle.std.specs.Prelude.{◌≡◌, codes, map};
+ghost use Rattle.mw_command_line.specs.Commands.{rule_of_argument};
+ghost use Rattle.mw_config.specs.ServerOptions.{server_rules};
+
 use crate::command_line::{MAX_CLIENTS, MAX_FAULTS, MAX_IDLE};
 use clap::ArgAction;
 use clap::builder::ValueParser;
@@ -28,7 +32,10 @@ const _: () = prove!(MAX_FAULTS == 1_000_000);
 const _: () = prove!(MAX_IDLE == 86_400);
 
 /// The command line of `mwserve`.
-pub fn command_line() -> CommandLine {
+pub fn command_line() -> CommandLine
+    ensures name { result.name.now ≡ codes "mwserve" }
+    ensures rules { map rule_of_argument result.arguments.now ≡ server_rules }
+{
     CommandLine {
         name: "mwserve",
         about: "Serves tenants' words.",

@@ -1,8 +1,8 @@
 //! The reasons why a tenants file is refused.
 //!
 //! `read_tenants` gives it, and mw_opening notes it (`opening.rt`). A new refusal needs its text here, a case in
-//! `specs/Refusals`, and a row in docs/OPERATING. mw_store_tests, mw_examples, scripts/check-limits and
-//! scripts/check-refusals expect texts.
+//! `specs/Refusals`, and a row in docs/OPERATING. scripts/check-texts, check-stories, check-limits and check-refusals
+//! expect texts.
 
 use mw_words::{MAX_QUOTA, MAX_TENANTS, MAX_WORDS};
 use std::fmt;

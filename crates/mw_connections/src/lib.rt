@@ -34,11 +34,11 @@
 //!   service or pages that keep the listener's promise.
 //! - *Proved*: how long a wait may take by its limits, and what the streams for faults and leases tell of their
 //!   calls.
-//! - *Tested only*: sockets, and that waits end so (mw_serving_tests, `scripts/check-sockets`,
+//! - *Tested only*: sockets, and that waits end so (`scripts/check-scenes`, `scripts/check-sockets`,
 //!   `scripts/check-limits`, `scripts/check-locks`).
 //!
-//! Used by: mw_workers, which serves connections; mw_server_pages, which answers visitors; mw_programs and
-//! mw_examples, which listen for both. The proofs are about what a session read and wrote, and how long it may wait; of sockets they say
+//! Used by: mw_workers, which serves connections; mw_server_pages, which answers visitors; mw_programs,
+//! which listens for both. The proofs are about what a session read and wrote, and how long it may wait; of sockets they say
 //! nothing. What a client or an operator sees of it is in docs/PROTOCOL and docs/OPERATING: change them together.
 #![tactic(auto)]
 

@@ -1,7 +1,7 @@
 //! What the answers to a server's clients keep to, as a type.
 //!
 //! Used by: `network.rt`, `sockets.rt`, `brief.rt`; mw_server_pages, which passes [`PagesPromise`] on; mw_programs, which has
-//! the promise of a server; mw_examples and other tests, which have [`Anything`]. Change it with `specs/Promises`, and docs/PROMISES.
+//! the promise of a server; tests, which have [`Anything`]. Change it with `specs/Promises`, and docs/PROMISES.
 ghost use Rattle.std.specs.Prelude.{List};
 ghost use Rattle.mw_session.specs.Talk.{Call};
 ghost use Rattle.mw_http.specs.Calls as page;

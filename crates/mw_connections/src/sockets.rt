@@ -1,6 +1,6 @@
 //! Implements listeners and connections by TCP sockets and local sockets.
 //!
-//! Used by: mw_programs and mw_examples, which call [`listen_at`]; `brief.rt`, which ends its connections by [`say_goodbye`].
+//! Used by: mw_programs, which calls [`listen_at`]; `brief.rt`, which ends its connections by [`say_goodbye`].
 //! No contract says what a socket carries; what was read and written is recorded. The limits at the top may have
 //! other numbers; docs/OPERATING and docs/PROTOCOL tell them.
 ghost use Rattle.std.specs.Prelude.{◌≡◌, None};

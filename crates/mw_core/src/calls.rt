@@ -1,6 +1,6 @@
 //! Makes one atomic step of a request at a time.
 //!
-//! mw_engine serves requests by these calls, and tests use them without an engine. Change it with `specs/Steps`.
+//! mw_engine serves requests by these calls; mw_table_bench and tests use them without an engine. Change it with `specs/Steps`.
 ghost use Rattle.std.specs.Prelude.{◌≡◌, false, None};
 ghost use Rattle.mw_table.specs.FromRule.{MayCome};
 ghost use Rattle.mw_table.specs.CarriedRequest.{IsCarried};
@@ -13,7 +13,7 @@ use mw_look::{Call, Got, Op, Told};
 use mw_table::{Pass, Shared};
 
 /// What a call of [`Core::advance`] did.
-#[derive(Clone, Copy, Debug, PartialEq, Eq)]
+#[derive(Clone, Copy, PartialEq, Eq)]
 pub enum Advance {
     /// It made one step, and the request has no reply yet.
     Stepped,

@@ -24,7 +24,7 @@ use mw_words::{Gate, Reply, Word};
 /// Why a read began again. It has given back what it held, and is at its first step. There is no other reason: each
 /// gate to which it comes has room for a pin, and no word names the worn number; the change that holds a word has an
 /// entry for it; and no word is held by a change that was made and is done with.
-#[derive(Clone, Copy, Debug, PartialEq, Eq)]
+#[derive(Clone, Copy, PartialEq, Eq)]
 pub enum WhyAgain {
     /// The word, loaded again, was another one than at first.
     WordChanged,

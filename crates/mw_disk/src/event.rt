@@ -50,7 +50,7 @@ pub(crate) struct Event {
 }
 
 /// How a call will end.
-#[derive(Clone, Copy, Debug, PartialEq, Eq)]
+#[derive(Clone, Copy, PartialEq, Eq)]
 pub(crate) enum Turn {
     /// It goes well, if there is memory for it.
     Goes,

@@ -1,6 +1,6 @@
 //! Implements the disk of a served tenant: a file of the system, read, written and synced.
 //!
-//! Used by: mw_opening, which opens each tenant's file as one; mw_examples. By `specs/Unknown` contracts promise
+//! Used by: mw_opening, which opens each tenant's file as one; mw_opening_tests. By `specs/Unknown` contracts promise
 //! nothing of its bytes. It must keep the contracts of `device.rt`.
 ghost use Rattle.std.specs.Prelude.{◌≡◌, ◌+◌, min, is_ok, IsErr, MatchResult, if◌then◌else◌};
 ghost use Rattle.mw_disk.specs.Facts.{most_counted};

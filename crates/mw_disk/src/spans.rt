@@ -9,7 +9,7 @@ use crate::edits::lengthen;
 use std::alloc::AllocError;
 
 /// A range of offsets: the first one, and how many there are.
-#[derive(Clone, Copy, Debug, PartialEq, Eq)]
+#[derive(Clone, Copy, PartialEq, Eq)]
 pub(crate) struct Span {
     pub(crate) at: u64,
     pub(crate) len: u64,

@@ -2,7 +2,8 @@
 -- Used by: GuardedFile::copy_of.
 use Rattle.std.specs.Prelude.{◌≡◌, ℕ, true, is_some, Option, Some, None, Vec, Result, Ok}
 use Rattle.std.specs.declared.alloc.Global.{Global}
-use Rattle.std.proofs.Common.{refl, subst, ◌∙◌}
+use Rattle.std.proofs.Common.{refl, subst, ◌∙◌, inr}
+use Rattle.std.proofs.Math.Logic.{∥∥₁_map}
 use Rattle.mw_disk.specs.Facts.{Facts}
 use Rattle.mw_file.specs.declared.tenant_file.CopyFault.{CopyFault}
 use Rattle.mw_world_file.specs.Files.{File}
@@ -13,10 +14,12 @@ use Rattle.mw_book.proofs.CopiedFiles.{still_there}
 use Rattle.mw_core.specs.FromTable.{FilePass, FileToken, file_kept, file_told, opening_at}
 use Rattle.mw_core.specs.Books.{Agrees}
 use Rattle.mw_engine.specs.Brand.{Identity}
+use Rattle.mw_engine.specs.CallsSinceStart.{IsLeftInRun}
 use Rattle.mw_engine.specs.Copies.{CopiesOne, IsBackupAsTold}
 use Rattle.mw_engine.specs.GuardedFile.{AgreesOnce, IsKept, KeepsFor}
 use Rattle.mw_engine.proofs.AgreementForms.{agrees_of, agrees_once}
 use Rattle.mw_engine.proofs.DisksOfFiles.{copied_on_disk}
+use Rattle.mw_engine.proofs.UsesOfFiles.{extends_self, used_again}
 
 -- the file pass that a lock has
 some_of : (file_pass : Option FilePass) → is_some file_pass ≡ true → (one : FilePass) × (file_pass ≡ Some one)
@@ -48,23 +51,25 @@ module _ {D : Type 0} (facts : D → Facts) where
       }
 
   module _ (identity : Identity) where
-    still_kept : (old new : Book D) (file_pass : FilePass) → IsOnlyRead facts old new → ((file : File) → Represents facts old file → Represents facts new file)
-        → IsKept facts identity old file_pass → IsKept facts identity new file_pass
-    still_kept old new file_pass read represents kept = record {
+    still_kept : (old new : Book D) (file_pass : FilePass) (result : Result (Vec ℕ Global) CopyFault) → IsOnlyRead facts old new → ((file : File) → Represents facts old file → Represents facts new file)
+        → CopyEnds facts old new result → IsKept facts identity old file_pass → IsKept facts identity new file_pass
+    still_kept old new file_pass result read represents ends kept = record {
       own = kept.own;
       config = kept.config;
       openings = kept.openings;
       opened = still_there facts old new read ∙ kept.opened;
-      its_disk = copied_on_disk facts identity.disks file_pass.tenant old.held new.held read.held kept.its_disk;
+      its_disk = copied_on_disk facts identity.disks file_pass.tenant (IsLeftInRun facts identity file_pass.seat.me.0 file_pass.tenant) old.held new.held read.held kept.its_disk;
+      its_uses = ∥∥₁_map kept.its_uses (λ was. used_again facts identity file_pass.seat.me.0 file_pass.seat.me.0 file_pass.tenant (extends_self file_pass.seat.me.0.known_run) old (file_kept file_pass) new (file_kept file_pass) was
+          (inr (record { result = result; read = read; ends = ends }, refl)));
       agrees = still_agrees old new (file_kept file_pass) (opening_at identity.openings file_pass.tenant).quota identity.config.pool read represents kept.agrees;
     }
 
     -- the lock keeps the same file pass with it
-    pub still_keeps : (old new : Book D) (file_pass : Option FilePass) (tenant : ℕ) → IsOnlyRead facts old new → ((file : File) → Represents facts old file → Represents facts new file)
-        → KeepsFor facts identity old file_pass tenant → KeepsFor facts identity new file_pass tenant
-    still_keeps old new file_pass tenant read represents keeps = record {
+    pub still_keeps : (old new : Book D) (file_pass : Option FilePass) (tenant : ℕ) (result : Result (Vec ℕ Global) CopyFault) → IsOnlyRead facts old new
+        → ((file : File) → Represents facts old file → Represents facts new file) → CopyEnds facts old new result → KeepsFor facts identity old file_pass tenant → KeepsFor facts identity new file_pass tenant
+    still_keeps old new file_pass tenant result read represents ends keeps = record {
       there = keeps.there;
-      kept = λ one is. still_kept old new one read represents (keeps.kept one is);
+      kept = λ one is. still_kept old new one result read represents ends (keeps.kept one is);
       its = keeps.its;
     }
 
@@ -81,7 +86,7 @@ module _ {D : Type 0} (facts : D → Facts) where
           file_pass = one;
           its = keeps.its one there.1 ∙ same;
           kept_before = kept;
-          kept_after = still_kept old new one read represents kept;
+          kept_after = still_kept old new one result read represents ends kept;
           read = read;
           ends = ends;
           backup = backup_told old new one result ends

@@ -18,5 +18,7 @@ pub mod FiguresSoFar
 pub mod FigureLoads
 pub mod OpenedParts
 pub mod StepOrFileCall
+pub mod TurnsOfRequests
 pub mod CallsOfRequests
+pub mod UsesOfFiles
 pub mod RequestsGoOn

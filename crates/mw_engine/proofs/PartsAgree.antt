@@ -2,7 +2,7 @@
 -- Used by: EngineParts::new.
 use Rattle.std.specs.Prelude.{◌≡◌, ◌<◌, ℕ, All, List, [], ◌∷◌, length, map, is_some, not, slice_get, Option, Some, Vec}
 use Rattle.std.specs.declared.alloc.Global.{Global}
-use Rattle.std.proofs.Common.{sym, ap, subst, ◌∙◌}
+use Rattle.std.proofs.Common.{refl, sym, ap, subst, ◌∙◌, inl}
 use Rattle.std.proofs.lemmas.List.{length-map}
 use Rattle.mw_disk.specs.Facts.{Facts}
 use Rattle.mw_file.specs.declared.tenant_file.TenantFile.{TenantFile}
@@ -16,14 +16,15 @@ use Rattle.mw_core.specs.Books.{Agrees}
 use Rattle.mw_engine.specs.declared.tenant_line.Listed.{Listed}
 use Rattle.mw_engine.specs.LinesOfWorld.{Agrees as AgreesWithWorld, line_given, places_told}
 use Rattle.mw_engine.specs.Brand.{identity_on}
-use Rattle.mw_engine.specs.DisksAtStart.{IsOnItsDisk, disks_in}
+use Rattle.mw_engine.specs.CallsSinceStart.{IsLeftInRun, token_given}
+use Rattle.mw_engine.specs.DisksAtStart.{IsOnItsDisk, disk_read, disks_in}
 use Rattle.mw_engine.specs.GuardedFile.{AreKept}
 use Rattle.mw_engine.specs.Lines.{line_of, places_of}
 use Rattle.mw_engine.specs.OpenedFiles.{AreMadeOf, FitLines, line_read, openings_read, places_found, tenant_read}
 use Rattle.mw_engine.specs.Passes.{IsNew}
 use Rattle.mw_engine.proofs.Configured.{line_is}
 use Rattle.mw_engine.proofs.AgreementForms.{agrees_once}
-use Rattle.mw_engine.proofs.DisksOfFiles.{begins_on_disk}
+use Rattle.mw_engine.proofs.DisksOfFiles.{begins_on_disk, disk_there}
 use Rattle.mw_engine.proofs.OpenedParts.{AgreesWith, agrees_at, given_all, made_counts, places_all}
 
 -- the number of the next attempt of the first of these workers
@@ -93,12 +94,14 @@ module _ {D : Type 0} (facts : D → Facts) (shared : Shared) (config : Config) 
     pub a_file_pass_each : length file_passes ≡ length kept
     a_file_pass_each = opened.count ∙ (tenants_are ∙ sym as_many)
 
-    -- the file of a book that agrees with what the start gave has not failed, and is on its disk
-    on_disk : (tenant : ℕ) (book : Book D) → slice_get books tenant ≡ Some book → AgreesWith facts (opening_at (openings_read lines files) tenant) book tenant config.pool
-        → IsOnItsDisk facts (disks_in facts books) tenant book.held
-    on_disk tenant book at_book both =
+    -- The file of a book that agrees with what the start gave has not failed, and is on its disk. It has the words that the start gave.
+    on_disk : (view : View) (tenant : ℕ) (book : Book D) → slice_get books tenant ≡ Some book → AgreesWith facts (opening_at (openings_read lines files) tenant) book tenant config.pool
+        → IsOnItsDisk facts (IsLeftInRun facts (identity_on shared (map line_of kept) (disks_in facts books)) view tenant) (disks_in facts books) tenant book.held
+    on_disk view tenant book at_book both =
         let given = opening_at (openings_read lines files) tenant in
-        begins_on_disk facts books tenant book given.words [] at_book (λ file is. sym both.0.shows.same_failed ∙ ap not (sym both.1 ∙ ap is_some is)) both.0.shows.stands
+        begins_on_disk facts (IsLeftInRun facts (identity_on shared (map line_of kept) (disks_in facts books)) view tenant) books tenant book given.words []
+        (λ image words. inl (words ∙ ap (λ (all : List TenantStart). Some (opening_at all tenant).words) (sym openings_are))) at_book
+        (λ file is. sym both.0.shows.same_failed ∙ ap not (sym both.1 ∙ ap is_some is)) both.0.shows.stands
 
     -- each file pass is its tenant's, and the book agrees with it
     pub books_agree : AreKept facts (identity_on shared (map line_of kept) (disks_in facts books)) books file_passes
@@ -116,7 +119,14 @@ module _ {D : Type 0} (facts : D → Facts) (shared : Shared) (config : Config) 
             config = one.own.config;
             openings = one.own.openings;
             opened = both.1 ∙ (λ i. (opening_at (sym openings_are i) (sym one.whose i)).is_up);
-            its_disk = subst (λ (n : ℕ). IsOnItsDisk facts (disks_in facts books) n book.held) (sym one.whose) (on_disk tenant book at_book both);
+            its_disk = subst (λ (n : ℕ). IsOnItsDisk facts (IsLeftInRun facts (identity_on shared (map line_of kept) (disks_in facts books)) file_pass.seat.me.0 n) (disks_in facts books) n book.held) (sym one.whose)
+                (on_disk file_pass.seat.me.0 tenant book at_book both);
+            its_uses = ∣ record {
+              first = book;
+              on = subst (λ (n : ℕ). slice_get (disks_in facts books) n ≡ Some (disk_read facts book.held)) (sym one.whose) (disk_there facts books tenant book at_book);
+              count = 0;
+              uses = (refl, told ∙ (λ i. token_given (sym one.whose i) (sym config_is i).pool (opening_at (sym openings_are i) (sym one.whose i))));
+            } ∣₁;
             agrees = agrees_once facts book (file_kept file_pass) (opening_at (openings_of shared.table.shared.key) file_pass.tenant).quota (config_of shared.table.shared.key).pool (subst (λ (file_passes : FileToken). Agrees facts book file_passes (opening_at (openings_of shared.table.shared.key) file_pass.tenant).quota (config_of shared.table.shared.key).pool) (sym told)
                 (subst (λ (n : ℕ). Agrees facts book (file_token_opened tenant (opening_at os tenant).quota config.pool (opening_at os tenant).words (not (opening_at os tenant).is_up))
                 (opening_at (openings_of shared.table.shared.key) n).quota (config_of shared.table.shared.key).pool) (sym one.whose)

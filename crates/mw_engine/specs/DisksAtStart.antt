@@ -1,7 +1,7 @@
 -- Defines what an engine keeps of each tenant's disk from the moment at which its parts were made, and when an open file is still on
 -- that disk.
--- Used by: specs/Brand, specs/GuardedFile, specs/Parts, src/new_parts.rt, src/parts.rt, mw_opening. A change here changes
--- which disk an engine's lock may keep.
+-- Used by: specs/Brand, specs/GuardedFile, specs/Parts, src/new_parts.rt, src/parts.rt, mw_opening, mw_law_threads. A change
+-- here changes which disk an engine's lock may keep.
 use Rattle.std.specs.Prelude.{◌≡◌, ◌≤◌, ℕ, Bool, true, List, map, is_some, slice_get, Option, Some, None, Vec, IsTrue}
 use Rattle.std.specs.declared.alloc.Global.{Global}
 use Rattle.mw_disk.specs.Facts.{Facts}
@@ -23,12 +23,13 @@ abbrev pub disk_told : Facts → DiskAtStart
 disk_told f = record { honest = f.honest; moment = f.moment; reads = f.reads }
 
 -- A disk with these facts has the past of that one. It is honest. A crash at the start would have left just the bytes that a read
--- then gave, and a crash at any moment since, a file without damage.
-pub record HasPastOf (start : DiskAtStart) (now : Facts) : Type 0 where
+-- then gave, and a crash at any moment since, a file without damage, of which P holds.
+pub record HasPastOf (P : List ℕ → Type 0) (start : DiskAtStart) (now : Facts) : Type 0 where
   pub honest : IsTrue now.honest
   pub later : start.moment ≤ now.moment
   pub began : (image : List ℕ) → now.image start.moment image → image ≡ start.reads
   pub whole : (moment : ℕ) (image : List ℕ) → start.moment ≤ moment → moment ≤ now.moment → now.image moment image → is_some (file_words image) ≡ true
+  pub left : (moment : ℕ) (image : List ℕ) → start.moment ≤ moment → moment ≤ now.moment → now.image moment image → ∥ P image ∥₁
 
 module _ {D : Type 0} (facts : D → Facts) where
   -- the disk of an open file at the start, if there is a file
@@ -44,6 +45,7 @@ module _ {D : Type 0} (facts : D → Facts) where
   abbrev pub disks_in : List (Book D) → List (Option DiskAtStart)
   disks_in books = map disk_read (map book_file books)
 
-  -- If the tenant's file opened on an honest disk, the open file is on a disk with the past of that one.
-  abbrev pub IsOnItsDisk : List (Option DiskAtStart) → ℕ → Option (TenantFile D) → Type 0
-  IsOnItsDisk disks tenant held = (start : DiskAtStart) (file : TenantFile D) → slice_get disks tenant ≡ Some (Some start) → held ≡ Some file → IsTrue start.honest → HasPastOf start (facts (disk_of file))
+  -- If the tenant's file opened on an honest disk, the open file is on a disk with the past of that one, and P holds of what a crash may
+  -- have left at any moment since.
+  abbrev pub IsOnItsDisk : (List ℕ → Type 0) → List (Option DiskAtStart) → ℕ → Option (TenantFile D) → Type 0
+  IsOnItsDisk P disks tenant held = (start : DiskAtStart) (file : TenantFile D) → slice_get disks tenant ≡ Some (Some start) → held ≡ Some file → IsTrue start.honest → HasPastOf P start (facts (disk_of file))

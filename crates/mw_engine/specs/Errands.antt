@@ -21,7 +21,7 @@ module _ (identity : Identity) where
   IsCarriedHere errand = CarriesRequest errand.pass errand.actor
 
 module _ {D : Type 0} (facts : D → Facts) (identity : Identity) where
-  -- Calls on its file were made for the request, and no atomic step. The pass is still the engine's, of the same worker, and carries the request, which is the same one. If the request was in progress since
+  -- Calls on its file were made for the request, and no other step. The pass is still the engine's, of the same worker, and carries the request, which is the same one. If the request was in progress since
   -- its thread knew `first`, it still is. If it was at a point that its job can have, and its reply, if it had one, was one that the job can
   -- have, both are still so.
   pub record RequestGoesOn (old : Pass) (was : ActorState) (new : Pass) (actor : ActorState) : Type 0 where

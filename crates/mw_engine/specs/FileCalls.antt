@@ -30,12 +30,12 @@ pub record FilesOne {D : Type 0} (facts : D → Facts) (identity : Identity) (ol
   pub once : FilesOnce facts waiting old new actor next before after (file_kept file_pass) (file_kept returned)
 
 module _ {D : Type 0} (facts : D → Facts) (identity : Identity) where
-  -- So many calls were made on the request's file, one after another. Nothing else was done to the request: no atomic step was made.
+  -- So many calls were made on the request's file, one after another. Nothing else was done to the request: no other step was made.
   abbrev pub MadeByCalls : ℕ → Pass → ActorState → Pass → ActorState → Type 0
   MadeByCalls zero old actor new next = (new ≡ old) × (next ≡ actor)
   MadeByCalls (suc more) old actor new next = (pass : Pass) × (between : ActorState) × FilesOne facts identity old pass actor between × MadeByCalls more pass between new next
 
-  -- Calls on its file were made for the request, or none. No atomic step was made.
+  -- Calls on its file were made for the request, or none. No other step was made.
   pub record IsMadeByCalls (old : Pass) (actor : ActorState) (new : Pass) (next : ActorState) : Type 0 where
     pub count : ℕ
     pub calls : MadeByCalls count old actor new next

@@ -20,6 +20,7 @@ use Rattle.mw_book.specs.OpenFile.{states_in}
 use Rattle.mw_book.specs.Representation.{ArePlaced}
 use Rattle.mw_core.specs.FromTable.{FilePass, FileToken, file_kept, file_told, opening_at}
 use Rattle.mw_engine.specs.Brand.{Identity}
+use Rattle.mw_engine.specs.CallsSinceStart.{IsLeftInRun, IsUsedSinceStart}
 use Rattle.mw_engine.specs.DisksAtStart.{IsOnItsDisk}
 
 -- the bytes of a place in the second layout, by the stage of its change
@@ -55,13 +56,16 @@ module _ {D : Type 0} (facts : D → Facts) where
   module _ (identity : Identity) where
     -- The file pass is of the engine's table, and knows the world's configuration and what the latest start gave. The
     -- book agrees with it on one file, which has as many places as its tenant may use slots. The book holds a file if
-    -- the tenant's file opened, and its disk has the past of the one that this file opened on.
+    -- the tenant's file opened, and its disk has the past of the one that this file opened on. If that one was honest, a
+    -- crash at any moment since left the words of the start, or what a call in the run that the file pass knows may
+    -- leave. Since the start, calls in this run and copies were made on the book, and nothing else was done to it.
     pub record IsKept (book : Book D) (file_pass : FilePass) : Type 0 where
       pub own : file_pass.seat.table_id ≡ identity.table
       pub config : file_pass.seat.me.0.config ≡ identity.config
       pub openings : file_pass.seat.me.0.openings ≡ identity.openings
       pub opened : is_some book.held ≡ (opening_at identity.openings file_pass.tenant).is_up
-      pub its_disk : IsOnItsDisk facts identity.disks file_pass.tenant book.held
+      pub its_disk : IsOnItsDisk facts (IsLeftInRun facts identity file_pass.seat.me.0 file_pass.tenant) identity.disks file_pass.tenant book.held
+      pub its_uses : ∥ IsUsedSinceStart facts identity file_pass.seat.me.0 file_pass.tenant book (file_kept file_pass) ∥₁
       pub agrees : AgreesOnce book (file_kept file_pass) (opening_at identity.openings file_pass.tenant).quota identity.config.pool
 
     -- each book is kept with the file pass of the same number, and that is the file pass of the tenant of that number

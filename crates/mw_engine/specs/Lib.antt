@@ -1,5 +1,6 @@
 pub mod LinesOfWorld
 pub mod Brand
+pub mod CallsSinceStart
 pub mod Copies
 pub mod DisksAtEnd
 pub mod DisksAtStart
@@ -14,6 +15,7 @@ pub mod OpenedFiles
 pub mod Passes
 pub mod Replies
 pub mod Requests
+pub mod RequestTurns
 pub mod Parts
 pub mod Steps
 pub mod StoreAlone

@@ -4,7 +4,7 @@
 //! new point needs a call in `serving`.
 
 /// A point of a request at which a worker can be held. No lock is taken there.
-#[derive(Clone, Copy, Debug, PartialEq, Eq)]
+#[derive(Clone, Copy, PartialEq, Eq)]
 pub enum Point {
     /// The request has planted a change.
     Planted,

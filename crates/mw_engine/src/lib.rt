@@ -16,6 +16,8 @@
 //! - `specs/History`: what is known of a request that was answered. `specs/StoreAlone`: that its tenant's store alone
 //!   answers it so. `specs/Replies`: which replies a job can have.
 //! - `specs/Errands`: how a request comes back to its thread when others may have gone on with it.
+//! - `specs/RequestTurns`: that a request is brought to its reply by its own steps and by calls on its tenant's file.
+//! - `specs/CallsSinceStart`: that only calls of the run, and copies, were made on a tenant's file since the start.
 //! - `specs/DisksAtEnd`, `specs/Copies`: which words are on the disks at the end, and in a copy.
 //!
 //! - *What a contract says*: on any disk, each reply of [`Engine::serve`] is right in its tenant's history, or has

@@ -1,7 +1,8 @@
 //! Serves a request to its reply.
 //!
 //! mw_service answers each request of a session by `Engine::serve`. docs/PROMISES.md cites its contract. A change of
-//! it, of `specs/History` or `specs/Replies` changes what clients are promised.
+//! it, of `specs/History` or `specs/Replies` changes what clients are promised; one of `specs/RequestTurns`, which calls
+//! on files are made.
 ghost use Rattle.std.specs.Prelude.{◌≡◌, true, false, None};
 ghost use Rattle.mw_actor.specs.Program.{replied};
 ghost use Rattle.mw_core.specs.FromTable.{IsCarried, IsOfSameWorker, View as Knowledge, known};
@@ -9,6 +10,7 @@ ghost use Rattle.mw_engine.specs.History.{IsAnswered, IsInProgress};
 ghost use Rattle.mw_engine.specs.Identity.{IsFor};
 ghost use Rattle.mw_engine.specs.Passes.{IsPassOf};
 ghost use Rattle.mw_engine.specs.Replies.{IsOnItsWay, IsReplyTo};
+ghost use Rattle.mw_engine.specs.RequestTurns.{IsBroughtToReply, MakesTurn};
 ghost use Rattle.mw_engine.specs.Steps.{IsSameRequest};
 
 use crate::brand::EngineBrand;
@@ -28,7 +30,8 @@ impl<J: EngineBrand, D: Disk + Drop, H: Hold + Drop> Engine<J, D, H> {
     /// or FAULT only if one of its own steps observed the cause. WORN has such a cause, or all attempt numbers of the
     /// worker are used up. A worker takes two locks: the file's, for one call on it at a time, and for moments that of
     /// the file's room. It makes its request's steps itself, with neither. Whoever has the file's may make the calls of
-    /// others.
+    /// others. Until its reply, only its own steps, and calls on the file of its tenant, change the request and
+    /// its pass (`calls`).
     pub fn serve(&self, rt: &impl Wait, pass: &mut Pass, tenant: u8, job: &Job) -> Reply
         requires own { IsPassOf J.identity pass.old }
         requires formed { IsFor J.identity.lines tenant job.now }
@@ -37,6 +40,7 @@ impl<J: EngineBrand, D: Disk + Drop, H: Hold + Drop> Engine<J, D, H> {
         ensures worker { IsOfSameWorker pass.old pass.new }
         ensures answered { IsAnswered (known pass.old) (known pass.new) tenant job.now result }
         ensures answers { IsReplyTo job.now result }
+        ensures calls { IsBroughtToReply D.facts J.identity pass.old tenant job.now pass.new result }
         ensures idle { pass.new.idle ≡ true }
     {
         let mut actor = self.request(pass, tenant, job.copy());
@@ -65,6 +69,7 @@ impl<J: EngineBrand, D: Disk + Drop, H: Hold + Drop> Engine<J, D, H> {
         ensures call { (first : Knowledge) → IsInProgress first pass.old.seat.me.0 actor.old → IsInProgress first pass.new.seat.me.0 actor.new }
         ensures way { IsOnItsWay actor.old.job actor.old.point → IsOnItsWay actor.new.job actor.new.point }
         ensures carried { IsCarried pass.new actor.new }
+        ensures turn { MakesTurn D.facts J.identity pass.old actor.old pass.new actor.new }
     {
         if let Some(due) = due_call(actor) {
             self.hold_before(pass, due.call);

@@ -1,6 +1,6 @@
-//! Tests the engine: whole sessions by one worker, requests of several threads at once, and requests that are held
-//! while others go on. A test is a table of cases or a sweep, and `cases` plays each. The tests are apart from the
-//! crates that they test, so that those are proved once.
+//! Tests the engine: whole sessions by one worker, requests of several threads at once, requests that are held
+//! while others go on, and the box in which they are lent. A test is a table of cases or a sweep, and `cases` plays
+//! each. The tests are apart from the crates that they test, so that those are proved once.
 #![tactic(auto)]
 
 #[cfg(test)]
@@ -11,6 +11,8 @@ mod disks;
 mod held_tests;
 #[cfg(test)]
 mod latch;
+#[cfg(test)]
+mod loan_tests;
 #[cfg(test)]
 mod plays;
 #[cfg(test)]

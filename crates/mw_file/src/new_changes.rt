@@ -24,7 +24,7 @@ use mw_record::{COMMITTED, body, place_at};
 use mw_words::Entries;
 
 /// A change to be prepared.
-#[derive(Debug, Default, Drop)]
+#[derive(Default, Drop)]
 pub struct NewChange {
     /// The place for the change's record.
     pub place: Place,

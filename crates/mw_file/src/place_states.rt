@@ -13,7 +13,7 @@ use mw_words::{Entries, MAX_ENTRIES};
 use std::alloc::{AllocError, Global};
 
 /// How far the change in a place is.
-#[derive(Clone, Copy, Debug, PartialEq, Eq)]
+#[derive(Clone, Copy, PartialEq, Eq)]
 pub enum Stage {
     /// The place has no change.
     Free,
@@ -28,7 +28,7 @@ pub enum Stage {
 pub type Writes = ArrayVec<(u16, u64), MAX_ENTRIES>;
 
 /// The state of one place of a file.
-#[derive(Debug, Drop)]
+#[derive(Drop)]
 pub struct PlaceState {
     /// How far the change in the place is.
     pub stage: Stage,

@@ -1,5 +1,5 @@
 -- Defines the text that tells what the bytes of a file without damage say, with a line for each fact.
--- Used by: src/lines.rt, mw_server_pages, mw_show. Change it with docs/OPERATING (`mwshow`) and docs/HTTP (the page of a
+-- Used by: src/lines.rt, mw_server_pages, mwshow. Change it with docs/OPERATING (`mwshow`) and docs/HTTP (the page of a
 -- tenant's words).
 use Rattle.std.specs.Prelude.{ℕ, ◌==◌, ◌||◌, ◌++◌, not, if◌then◌else◌, Bool, List, [], codes, decimal}
 use Rattle.std.specs.List.{flat_map, range_with_len}

@@ -10,7 +10,7 @@
 //! | `open P A V` | the open record of place P gives the value V to the word at address A |
 //! | `word A V` | the word at address A, with the open records applied, is V |
 //!
-//! Used by: mw_show, mw_server_pages. docs/OPERATING describes these lines for users: change both together.
+//! Used by: mwshow, mw_server_pages. docs/OPERATING describes these lines for users: change both together.
 #![tactic(auto)]
 
 mod lines;

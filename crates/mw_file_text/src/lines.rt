@@ -1,7 +1,7 @@
 //! Writes what a file without damage says, in lines.
 //!
-//! Used by: mw_show, mw_server_pages. `specs/Text` says what is written: change both together, with docs/OPERATING and
-//! docs/HTTP. mw_init (`dump.rt`) and the Python client (`_shell.py`) read the lines, and scripts do.
+//! Used by: mwshow, mw_server_pages. `specs/Text` says what is written: change both together, with docs/OPERATING and
+//! docs/HTTP. mwinit (`dump.rt`) and the Python client (`_shell.py`) read the lines, and scripts do.
 ghost use Rattle.std.specs.Prelude.{◌<◌, ◌++◌, OnOk, codes, decimal};
 ghost use Rattle.std.specs.Io.KnownBytes.{Appends};
 ghost use Rattle.mw_record.specs.Damages.{at_of, found_places, layout_of};

@@ -13,7 +13,7 @@ use mw_words::MAX_LINE;
 const LINE_FEED: u8 = b'\n';
 
 /// A line, as a feed gives it.
-#[derive(Debug, PartialEq, Eq, Drop)]
+#[derive(PartialEq, Eq, Drop)]
 pub enum Line {
     /// The bytes before a line feed, without it. There may be none.
     Text(ArrayVec<u8, MAX_LINE>),

@@ -1,7 +1,7 @@
 //! Writes the head of an answer: its status, what its content is and how long, and that the connection is closed.
 //!
-//! Used by: `exchanges`, `pages`, mw_server_pages. Change it with `specs/Heads`. mw_http_tests and scripts/http_parts
-//! (`TYPES` of server.py) expect its lines.
+//! Used by: `exchanges`, `pages`, mw_server_pages. Change it with `specs/Heads`. scripts/http_parts
+//! (`TYPES` of server.py, answer_rows.py) expects its lines.
 ghost use Rattle.std.specs.Prelude.{◌≡◌, ◌+◌, ◌≤◌, ◌++◌, length, codes, decimal};
 ghost use Rattle.mw_http.specs.Heads as spec;
 

@@ -1,7 +1,7 @@
 //! Hears a request: reads its head, and tells what it asks for or why it is refused.
 //!
 //! Used by: `exchanges`, `receiving`, mw_server_pages. Change it with `specs/Hearing` and docs/HTTP, its limits with
-//! mw_http_tests too.
+//! scripts/http_parts/answer_rows.py too.
 ghost use Rattle.std.specs.Prelude.{◌≡◌, ◌≤◌, ℕ, List, length, map, Some, All, codes};
 ghost use Rattle.httparse.specs.Grammar.{RequestHead};
 ghost use Rattle.httparse.specs.Spans.{IsHeaderWithin, IsWithin, header_bytes, span_bytes};

@@ -1,4 +1,4 @@
-//! Tests what a server shows: its pages by a service, and each text by hand.
+//! Tests what a server shows, but for what a request to one brings about: scripts/http_parts has that.
 use crate::checks::{MEMORY, holds};
 use crate::http_peers::{HandClock, OneFile};
 use mw_http::{ContentType, Page, Pages, Route, Status};
@@ -30,20 +30,6 @@ const CAPACITY: Capacity = Capacity {
     sessions: 4,
 };
 
-/// The bytes of a tenant's file, some of which are no text.
-const FILE: &[u8] = b"MWCASF1\n\0\xff\r\n\r\nend";
-
-/// The bytes of a file of two words, 5 and 0, whose open record gives 7 to the second one.
-const SOUND: &[u8] = b"\
-    MWCASF1\n\x02\0\0\0\x01\0\0\0\0\0\0\0\0\0\0\0\0\0\0\0\0\0\0\0\x05\0\0\0\0\0\0\0\0\0\0\0\0\
-    \0\0\0\xa5\x01\0\0\0\0\0\0\x01\0\0\0\0\0\0\0\x07\0\0\0\0\0\0\0\0\0\0\0\0\0\0\0\0\0\0\0\0\0\
-    \0\0\0\0\0\0\0\0\0\0\0\0\0\0\0\0\0\0\0\0\0\0\0\0\0\0\0\0\0\0\0\0\0\0\0\0\0\0\0\0\0\0\0\0\0\
-    \0\0\0\0\0\0\0\0\0\0\0\0\0\0\0\0\0\0\0\0\0\0\0\0\0\0\0\0\0\0\0\0\0\0\0\0\0\0\0\0\0\0\0\0\0\
-    \0\0\0\0\0\0\0\0";
-
-/// The words of that file.
-const WORDS: &[u8] = b"words 2\nplaces 1\nopen 0 1 7\nword 0 5\nword 1 7\n";
-
 /// The server's version.
 const VERSION: &[u8] = b"1.2";
 
@@ -59,284 +45,54 @@ fn pages_of<'a>(
     let files = OneFile {
         alloc: clock.alloc(),
         file,
-        asked: 0,
     };
     let version = Version::try_from(VERSION).unwrap_or_default();
     ServerPages::new(Shelf::new(2), files, meters, clock, version, CAPACITY).ok()
 }
 
-/// What is asked for.
-#[derive(Clone, Copy)]
-enum Asked {
-    Health,
-    Page,
-    Metrics,
-    Style,
-    Script,
-    /// The file of the tenant with this name.
-    File(&'static [u8]),
-    /// The words of the tenant with this name.
-    Words(&'static [u8]),
-}
-
-impl Asked {
-    fn route(self) -> Route {
-        match self {
-            Asked::Health => Route::Health,
-            Asked::Page => Route::Page,
-            Asked::Metrics => Route::Metrics,
-            Asked::Style => Route::Style,
-            Asked::Script => Route::Script,
-            Asked::File(name) => Route::File(Name::try_from(name).unwrap_or_default()),
-            Asked::Words(name) => Route::Words(Name::try_from(name).unwrap_or_default()),
-        }
-    }
-}
-
-/// What the body of a page is.
-#[derive(Clone, Copy)]
-enum Body {
-    /// Just this.
-    Is(&'static [u8]),
-    /// This is somewhere in it.
-    Has(&'static [u8]),
-}
-
-impl Body {
-    fn suits(self, body: &[u8]) -> bool {
-        match self {
-            Body::Is(whole) => body == whole,
-            Body::Has(part) => is_in(part, body),
-        }
-    }
-}
-
-/// What is asked for, the file of the tenant `t`, or why it isn't copied, and what is answered.
-struct Row {
-    asked: Asked,
-    file: Result<&'static [u8], NoCopy>,
-    status: Status,
-    kind: ContentType,
-    body: Body,
-}
-
-static ROWS: [Row; 17] = [
-    Row {
-        asked: Asked::Health,
-        file: Ok(FILE),
-        status: Status::Ok,
-        kind: ContentType::Text,
-        body: Body::Has(b"ok\n"),
-    },
-    Row {
-        asked: Asked::Page,
-        file: Ok(FILE),
-        status: Status::Ok,
-        kind: ContentType::Html,
-        body: Body::Has(b"<p>Version 1.2, up for 0 d 0 h 0 min "),
-    },
-    Row {
-        asked: Asked::Page,
-        file: Ok(FILE),
-        status: Status::Ok,
-        kind: ContentType::Html,
-        body: Body::Has(b"<td>t</td><td>up</td><td>2</td><td>0 of 1</td>"),
-    },
-    Row {
-        asked: Asked::Metrics,
-        file: Ok(FILE),
-        status: Status::Ok,
-        kind: ContentType::Metrics,
-        body: Body::Has(b"mondlexi_up{tenant=\"t\"} 1\n"),
-    },
-    // Files are given byte for byte.
-    Row {
-        asked: Asked::File(b"t"),
-        file: Ok(FILE),
-        status: Status::Ok,
-        kind: ContentType::Bytes,
-        body: Body::Is(FILE),
-    },
-    Row {
-        asked: Asked::File(b"t"),
-        file: Ok(b""),
-        status: Status::Ok,
-        kind: ContentType::Bytes,
-        body: Body::Is(b""),
-    },
-    // Words are told as mwshow tells them. A damaged file has none.
-    Row {
-        asked: Asked::Words(b"t"),
-        file: Ok(SOUND),
-        status: Status::Ok,
-        kind: ContentType::Text,
-        body: Body::Is(WORDS),
-    },
-    Row {
-        asked: Asked::Words(b"t"),
-        file: Ok(FILE),
-        status: Status::InternalError,
-        kind: ContentType::Text,
-        body: Body::Is(b""),
-    },
-    // Constants.
-    Row {
-        asked: Asked::Style,
-        file: Ok(FILE),
-        status: Status::Ok,
-        kind: ContentType::Style,
-        body: Body::Has(b"polyline {"),
-    },
-    Row {
-        asked: Asked::Script,
-        file: Ok(FILE),
-        status: Status::Ok,
-        kind: ContentType::Script,
-        body: Body::Has(b"function showMinute() {\n"),
-    },
-    // A status says why there is no copy.
-    Row {
-        asked: Asked::Words(b"u"),
-        file: Ok(SOUND),
-        status: Status::NotFound,
-        kind: ContentType::Text,
-        body: Body::Is(b""),
-    },
-    Row {
-        asked: Asked::Words(b"t"),
-        file: Err(NoCopy::Failed),
-        status: Status::Unavailable,
-        kind: ContentType::Text,
-        body: Body::Is(b""),
-    },
-    Row {
-        asked: Asked::File(b"u"),
-        file: Ok(FILE),
-        status: Status::NotFound,
-        kind: ContentType::Text,
-        body: Body::Is(b""),
-    },
-    Row {
-        asked: Asked::File(b"t"),
-        file: Err(NoCopy::NoTenant),
-        status: Status::NotFound,
-        kind: ContentType::Text,
-        body: Body::Is(b""),
-    },
-    Row {
-        asked: Asked::File(b"t"),
-        file: Err(NoCopy::Failed),
-        status: Status::Unavailable,
-        kind: ContentType::Text,
-        body: Body::Is(b""),
-    },
-    Row {
-        asked: Asked::File(b"t"),
-        file: Err(NoCopy::Disk),
-        status: Status::InternalError,
-        kind: ContentType::Text,
-        body: Body::Is(b""),
-    },
-    Row {
-        asked: Asked::File(b"t"),
-        file: Err(NoCopy::Memory),
-        status: Status::InternalError,
-        kind: ContentType::Text,
-        body: Body::Is(b""),
-    },
+/// What no request to a server brings about: a file of the tenant `t` without bytes, and no memory for a copy; with the
+/// status and the type of the answer, which has no body.
+static COPIES: [(Result<&[u8], NoCopy>, Status, ContentType); 2] = [
+    (Ok(b""), Status::Ok, ContentType::Bytes),
+    (
+        Err(NoCopy::Memory),
+        Status::InternalError,
+        ContentType::Text,
+    ),
 ];
 
-impl Row {
-    /// Tells whether this page is the answer.
-    fn suits(&self, page: &Page) -> bool {
-        page.status == self.status && page.kind == self.kind && self.body.suits(&page.body)
-    }
+/// Gives the page of the file of the tenant `t`. None: memory is out.
+fn page_of_file(clock: &HandClock, file: Result<&'static [u8], NoCopy>) -> Option<Page> {
+    let meters = Meters::new(clock);
+    let mut pages = pages_of(clock, &meters, file)?;
+    let name = Name::try_from(b"t".as_slice()).unwrap_or_default();
+    Some(pages.page(&Route::File(name)))
 }
 
-/// Tells whether what a row asks for is answered as it says.
-fn is_answered(clock: &HandClock, row: &Row) -> bool {
-    let meters = Meters::new(clock);
-    match pages_of(clock, &meters, row.file) {
-        Some(pages) => {
-            let mut pages = pages;
-            row.suits(&pages.page(&row.asked.route()))
-        }
-        None => false,
-    }
+/// Tells whether a page has this status and type, and no body.
+fn is_bare(page: &Page, status: Status, kind: ContentType) -> bool {
+    page.status == status && page.kind == kind && page.body.is_empty()
 }
 
 #[test]
-fn each_place_shows_its_page(rt: HostRuntime) {
+fn no_bytes_and_no_memory_are_answered(rt: HostRuntime) {
     let clock = HandClock::new(rt.alloc());
-    for (number, row) in ROWS.iter().enumerate() {
-        holds(&rt, "a row", number, is_answered(&clock, row));
+    for (number, (file, status, kind)) in COPIES.iter().enumerate() {
+        let page = page_of_file(&clock, *file).expect(&rt, MEMORY);
+        holds(&rt, "a row", number, is_bare(&page, *status, *kind));
     }
 }
 
-/// The figures of a tenant of this name, whose file is there, and whose other figures are 0.
-fn tenant(name: &[u8], up: bool, place: FilePlace) -> TenantMetrics {
+/// The figures of a tenant of this name that is down, and whose other figures are 0.
+fn tenant(name: &[u8]) -> TenantMetrics {
     TenantMetrics {
         figures: TenantFigures {
             name: Name::try_from(name).unwrap_or_default(),
-            up,
             ..TenantFigures::default()
         },
-        place,
+        place: FilePlace::InPlace,
         counts: TenantCounters::new().counts(),
     }
-}
-
-/// Six tenants, each up or not, with its file in its place, replaced or given up.
-fn tenants() -> [TenantMetrics; 6] {
-    [
-        tenant(b"a", false, FilePlace::InPlace),
-        tenant(b"b", true, FilePlace::InPlace),
-        tenant(b"c", false, FilePlace::Replaced),
-        tenant(b"d", true, FilePlace::Replaced),
-        tenant(b"e", false, FilePlace::GivenUp),
-        tenant(b"f", true, FilePlace::GivenUp),
-    ]
-}
-
-#[test]
-fn health_names_those_that_are_not_well(rt: HostRuntime) {
-    let one = [tenant(b"a", true, FilePlace::InPlace)];
-    let is_ok = is_text(&health_text(&[]), "ok\n") && is_text(&health_text(&one), "ok\n");
-    let wanted = "down a\ndown c\nreplaced d\ndown e\ndown f\n";
-    holds(&rt, "no tenant, and one that is well", 0, is_ok);
-    holds(
-        &rt,
-        "six tenants",
-        6,
-        is_text(&health_text(&tenants()), wanted),
-    );
-}
-
-/// Parts of the page of these tenants, and of one whose file was replaced.
-static UNWELL: [&str; 5] = [
-    "s.</p>\n<p class=\"down\">Not well: a (down) c (down) d (replaced) e (down) f (down).</p>\n<p>No limit is near.</p>\n</div>",
-    "<tr class=\"up\"><td>b</td><td>up</td>",
-    "<tr class=\"down\"><td>c</td><td>down</td>",
-    "<tr class=\"replaced\"><td>d</td><td>replaced</td>",
-    "<tr class=\"down\"><td>f</td><td>down</td>",
-];
-
-static REPLACED: [&str; 1] = [
-    "s.</p>\n<p class=\"down\">Not well: d (replaced).</p>\n<p>No limit is near.</p>\n</div>",
-];
-
-#[test]
-fn the_page_names_those_that_are_not_well(rt: HostRuntime) {
-    let page = status_page(rt.alloc(), b"1", 0, None, &tenants(), &[], &[], 7).expect(&rt, MEMORY);
-    are_in(&rt, &UNWELL, &page);
-    let one = [tenant(b"d", true, FilePlace::Replaced)];
-    let page = status_page(rt.alloc(), b"1", 0, None, &one, &[], &[], 7).expect(&rt, MEMORY);
-    are_in(&rt, &REPLACED, &page);
-}
-
-/// Tells whether these bytes are this text.
-fn is_text(bytes: &[u8], text: &str) -> bool {
-    bytes == text.as_bytes()
 }
 
 /// Parts of the page of a tenant whose name has characters that are escaped.
@@ -357,7 +113,7 @@ fn are_in<R: Abort>(rt: &R, parts: &[&str], page: &[u8]) {
 
 #[test]
 fn names_are_escaped(rt: HostRuntime) {
-    let tenants = [tenant(b"<a&\">", false, FilePlace::InPlace)];
+    let tenants = [tenant(b"<a&\">")];
     let page = status_page(rt.alloc(), b"<", 90061, Some(3), &tenants, &[], &[], 7).expect(
         &rt, MEMORY,
     );
@@ -421,8 +177,11 @@ static DRAWN: [&str; 5] = [
     "<td>3 (most 12) <svg viewBox=\"0 0 180 30\" aria-hidden=\"true\"><path d=\"M0 0V30H180\"/><polyline points=\"0,30 180,0 \"/></svg></td><td>",
 ];
 
+/// On a page without tenants; and all tenants are well if there is none.
 #[test]
 fn limits_and_curves_are_drawn(rt: HostRuntime) {
+    let is_well = health_text(&[]).as_slice() == b"ok\n".as_slice();
+    holds(&rt, "no tenant", 0, is_well);
     let (limits, recents) = (limits(), [recent()]);
     let page = status_page(rt.alloc(), b"1", 0, None, &[], &limits, &recents, 0).expect(
         &rt, MEMORY,
@@ -461,7 +220,7 @@ fn shows(pages: &mut OnePages<'_>, clock: &HandClock, seconds: u64, part: &[u8])
 fn curves_show_what_was_counted(rt: HostRuntime) {
     let clock = HandClock::new(rt.alloc());
     let meters = Meters::new(&clock);
-    let mut pages = pages_of(&clock, &meters, Ok(FILE)).expect(&rt, MEMORY);
+    let mut pages = pages_of(&clock, &meters, Ok(b"")).expect(&rt, MEMORY);
     record_changes(&meters);
     for (number, wanted) in CURVES.iter().enumerate() {
         let is_right = shows(&mut pages, &clock, 15, wanted);
@@ -494,7 +253,7 @@ fn turn(server: &ServerCounters, begin: u64, end: u64) {
 fn a_limit_is_near_from_three_quarters_on(rt: HostRuntime) {
     let clock = HandClock::new(rt.alloc());
     let meters = Meters::new(&clock);
-    let mut pages = pages_of(&clock, &meters, Ok(FILE)).expect(&rt, MEMORY);
+    let mut pages = pages_of(&clock, &meters, Ok(b"")).expect(&rt, MEMORY);
     for (begin, end, seconds, part) in &TURNS {
         turn(meters.server(), *begin, *end);
         let is_right = shows(&mut pages, &clock, *seconds, part.as_bytes());

@@ -3,4 +3,5 @@ pub mod AskedRequests
 pub mod DurableLaws
 pub mod EngineStarts
 pub mod FoundChanges
+pub mod LockLaws
 pub mod Stakes

@@ -2,6 +2,7 @@
 //! their contracts are the facts, and a change of one changes a theorem. No crate cites them; docs/JOINTS and docs/PROMISES
 //! do. Change them with `specs/Durable`.
 ghost use Rattle.mw_law_threads.specs.Durable.Durable.{CallsKeepChanges, CallsLeaveWholeChanges, CallsLeaveWhollyOrNot, MomentsLeaveWholeChanges};
+ghost use Rattle.mw_law_threads.specs.Durable.Locks.{LocksLeaveWholeChanges};
 ghost use Rattle.mw_law_threads.specs.Durable.Starts.{EnginesStartWithChanges, StartsFindChanges};
 
 use mw_disk::Disk;
@@ -34,6 +35,14 @@ pub fn calls_keep_changes<D: Disk>()
 /// After a call's event its device calls are over. So the code has it (`file` of mw_core); no contract says it.
 pub fn every_moment_leaves_whole_changes<B: Begins, D: Disk>()
     ensures { (key : B) → MomentsLeaveWholeChanges D.facts (B.config key) (B.begun key) }
+{}
+
+/// The lock of a tenant's file tells what each crash since the start left, whoever had the lock meanwhile.
+///
+/// Of an honest disk, it is the words of the start with whole changes put over them: some first ones of those that the
+/// run sealed, or these and one more. The run is the one that the file pass under the lock knows.
+pub fn locks_leave_whole_changes<D: Disk>()
+    ensures { LocksLeaveWholeChanges D.facts }
 {}
 
 /// A start finds what a crash left. It opens these bytes on a disk that is honest and synced. Other starts may have opened

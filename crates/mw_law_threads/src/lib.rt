@@ -22,6 +22,7 @@
 //! - [`every_moment_leaves_whole_changes`]: at each moment at which the shared words are under their rule, also during a call
 //!   on that file, whoever makes it. The changes are those of the one run of the world that ties the shared words to the
 //!   model. It is the run in which `History` finds all replies.
+//! - [`locks_leave_whole_changes`]: the lock of a file tells it too, of each crash since the start.
 //! - [`starts_find_changes`]: a start that opens what such a crash left finds these changes. `specs/Durable/Starts` defines that.
 //! - [`engines_start_with_changes`]: an engine that is made of what was opened so starts with these changes.
 //!
@@ -52,7 +53,7 @@ mod whole_laws;
 
 pub use durable_laws::{
     calls_keep_changes, engines_start_with_changes, every_moment_leaves_whole_changes,
-    starts_find_changes,
+    locks_leave_whole_changes, starts_find_changes,
 };
 pub use history_laws::every_moment_has_one_history;
 pub use moment_laws::replies_have_moments;

@@ -1,5 +1,5 @@
 -- Defines the text of each line that the server says, with the line feed that ends it.
--- Used by: mw_session, mw_client, mw_client_c, mw_player, replies.rt. A change here changes the protocol: docs/PROTOCOL and
+-- Used by: mw_session, mw_client, mw_client_c, mwreplay, replies.rt. A change here changes the protocol: docs/PROTOCOL and
 -- the clients.
 use Rattle.std.specs.Prelude.{ℕ, List, ◌++◌, codes, decimal}
 use Rattle.mw_words.specs.declared.replies.Reply.{Reply}

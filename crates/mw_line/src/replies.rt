@@ -1,6 +1,6 @@
 //! Writes the lines that the server says to a client: replies, and errors with their numbers.
 //!
-//! Used by: mw_session, mw_client, mw_client_c, mwbench, mw_player. A new [`Say`] or [`ErrCode`] needs its text in
+//! Used by: mw_session, mw_client, mw_client_c, mwbench, mwreplay. A new [`Say`] or [`ErrCode`] needs its text in
 //! `specs/Replies`, and cases in mw_client and mw_client_c. The texts are the protocol: docs/PROTOCOL, and the clients of each
 //! language. [`MAX_REPLY`] must be as long as the longest.
 ghost use Rattle.std.specs.Prelude.{◌≡◌, ◌+◌, ◌≤◌, ◌<◌, ◌++◌, [], decimal, length};
@@ -16,7 +16,7 @@ use mw_words::Reply;
 pub const MAX_REPLY: usize = 32;
 
 /// Why a line is refused.
-#[derive(Clone, Copy, Debug, PartialEq, Eq)]
+#[derive(Clone, Copy, PartialEq, Eq)]
 pub enum ErrCode {
     /// The line has more than [`mw_words::MAX_LINE`] bytes. The session ends.
     LineTooLong,
@@ -75,7 +75,7 @@ impl From<LineFault> for ErrCode {
 }
 
 /// One line of an answer.
-#[derive(Clone, Copy, Debug, PartialEq, Eq)]
+#[derive(Clone, Copy, PartialEq, Eq)]
 pub enum Say {
     /// The session is bound to a tenant from now on, which has so many words.
     Ok(u16),

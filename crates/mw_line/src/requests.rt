@@ -15,7 +15,7 @@ use crate::numbers::{address_at, behind};
 use mw_words::{Job, MAX_WORDS, Name, is_name};
 
 /// What a client asks for.
-#[derive(Debug, PartialEq, Eq, Drop)]
+#[derive(PartialEq, Eq, Drop)]
 pub enum Request {
     /// To bind the session to the tenant with this name.
     Tenant(Name),
@@ -31,7 +31,7 @@ pub enum Request {
 
 /// What is wrong with a line. The faults are looked for in this order, and the first is answered: no command, too
 /// many entries, a value out of range, an address out of range, addresses out of order.
-#[derive(Clone, Copy, Debug, PartialEq, Eq)]
+#[derive(Clone, Copy, PartialEq, Eq)]
 pub enum LineFault {
     /// The line isn't in the grammar.
     NotACommand,

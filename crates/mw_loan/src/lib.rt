@@ -12,8 +12,6 @@
 
 mod loan_box;
 mod rule;
-#[cfg(test)]
-mod tests;
 mod views;
 
 pub use loan_box::{Kept, LoanBox, Receipt};

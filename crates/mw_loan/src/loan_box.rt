@@ -25,7 +25,7 @@ const RETURNED: u64 = 3;
 const OPEN: u64 = 4;
 
 /// How a value is in its box.
-#[derive(Clone, Copy, Debug, PartialEq, Eq)]
+#[derive(Clone, Copy, PartialEq, Eq)]
 pub enum Kept {
     /// Nobody has borrowed it yet.
     Waiting,

@@ -10,7 +10,7 @@ use mw_words::Job;
 ///
 /// `n` is a request's number within its tenant. Requests are numbered in the order of the asking, from 0. The
 /// numbers go on when all stops and starts again.
-#[derive(Debug, Drop)]
+#[derive(Drop)]
 pub enum Mark {
     /// Request `n` comes, with its job.
     Ask(u64, Job),

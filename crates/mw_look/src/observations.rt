@@ -9,7 +9,7 @@ ghost use Rattle.mw_look.specs.Observations.{IsObservationInRange, observation_o
 use mw_words::{At, Door, Gate, Row, Status, Word};
 
 /// What a step found.
-#[derive(Clone, Copy, Debug, PartialEq, Eq)]
+#[derive(Clone, Copy, PartialEq, Eq)]
 pub enum Got {
     /// What a load found, or what the word was before an Unpin, a Drop or a Fault.
     Word(u64),
@@ -22,7 +22,7 @@ pub enum Got {
 }
 
 /// What a machine is told of its step.
-#[derive(Clone, Copy, Debug, PartialEq, Eq)]
+#[derive(Clone, Copy, PartialEq, Eq)]
 pub struct Told {
     /// What the step found.
     pub got: Got,
@@ -31,7 +31,7 @@ pub struct Told {
 }
 
 /// What a step found, as a value of the kind of word at its place.
-#[derive(Clone, Copy, Debug)]
+#[derive(Clone, Copy)]
 pub enum Observation {
     /// The door of a tenant.
     SawDoor(Door),

@@ -14,7 +14,7 @@ use mw_words::{Gate, MAX_ENTRIES, Reply, Row, Status, WORN_NUMBER, Word};
 
 /// What leads a read from its word to a slot: the word that it saw, which doesn't have its value, and the slot
 /// whose change put it there.
-#[derive(Clone, Copy, Debug)]
+#[derive(Clone, Copy)]
 pub enum Trail {
     /// The word was held for the slot with this sequence number.
     Held {
@@ -35,7 +35,7 @@ pub enum Trail {
 }
 
 /// What a read does when it holds no pin any more.
-#[derive(Clone, Copy, Debug)]
+#[derive(Clone, Copy)]
 pub enum After {
     /// It begins again.
     Again,

@@ -2,7 +2,7 @@
 //! file.
 //!
 //! Used by: many crates from mw_actor on. A new [`Kind`] needs a case in `Kind::shape` and perhaps `specs/Shapes`,
-//! its name in mw_schedule (`src/steps.rt`), and a case in `claims_slot` (mw_player, `specs/Printed`). A new fetch
+//! its name in mw_schedule (`src/steps.rt`), and a case in `claims_slot` (mwreplay, `specs/Printed`). A new fetch
 //! also needs a case in `way_of` (mw_rule), in `fetched` (mw_world, `specs/Definition/Changes`) and in
 //! mw_world_memory (`src/cells/steps.rt`); a catch-all in `way_of` and the latter takes it silently.
 ghost use Rattle.std.specs.Prelude.{◌≡◌};
@@ -14,7 +14,7 @@ use mw_words::At;
 /// A kind of step that changes a shared word. Unpin, Drop and Fault change whatever the word is; Fill, Row and
 /// Free replace it. So these can't lose. All other kinds exchange what they expect for something else, and win
 /// or lose.
-#[derive(Clone, Copy, Debug, PartialEq, Eq)]
+#[derive(Clone, Copy, PartialEq, Eq)]
 pub enum Kind {
     /// The door counts one slot more.
     Admit,
@@ -57,7 +57,7 @@ pub enum Kind {
 }
 
 /// How a kind of step changes its word.
-#[derive(Clone, Copy, Debug, PartialEq, Eq)]
+#[derive(Clone, Copy, PartialEq, Eq)]
 pub enum Shape {
     /// An exchange wins if it finds what it expects, and else changes nothing.
     Exchange,
@@ -93,7 +93,7 @@ impl Kind {
 }
 
 /// A call on a tenant's file.
-#[derive(Clone, Copy, Debug, PartialEq, Eq)]
+#[derive(Clone, Copy, PartialEq, Eq)]
 pub enum Call {
     /// Writes a change into a free place of the file.
     Prepare,
@@ -106,7 +106,7 @@ pub enum Call {
 }
 
 /// A step on the shared words, of 64 bits each.
-#[derive(Clone, Copy, Debug, PartialEq, Eq)]
+#[derive(Clone, Copy, PartialEq, Eq)]
 pub enum Op {
     /// Loads the word at a place.
     Load(At),

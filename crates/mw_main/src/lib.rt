@@ -2,8 +2,8 @@
 //! It has the version that all programs tell.
 //!
 //! Used by: many crates from mw_command_line on. Each of the five programs begins by it; the others tell the version.
-//! Change [`VERSION`] with the clients' own (clients/), docs/OPERATING, CHANGELOG and mw_examples; scripts/package
-//! reads it.
+//! Change [`VERSION`] with the clients' own (clients/), docs/OPERATING, CHANGELOG and
+//! scripts/story_parts/operating.stories; scripts/package reads it.
 #![tactic(auto)]
 
 mod program;

@@ -1,7 +1,7 @@
 //! The figures of a server: those that are counted, and those of the moment.
 //!
-//! Used by: `counters`, `server_lines`, `tenant_lines`, `meters`, `exposition`, mw_server_pages, mw_examples. Change it
-//! with `specs/Figures`.
+//! Used by: `counters`, `server_lines`, `tenant_lines`, `meters`, `exposition`, mw_server_pages, mw_opening_tests. Change
+//! it with `specs/Figures`.
 ghost use Rattle.std.specs.Prelude.{◌≡◌};
 ghost use Rattle.mw_metrics.specs.Figures as spec;
 

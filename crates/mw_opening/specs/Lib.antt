@@ -1,3 +1,4 @@
 pub mod MadeOfOpened
 pub mod SyncedOpenings
+pub mod TenantsAtPath
 pub mod FromBelow

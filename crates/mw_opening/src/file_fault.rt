@@ -1,7 +1,7 @@
 //! Tells why a tenant's file isn't served.
 //!
-//! Used by: `opening`, which writes the notes; `tenant_disks`; mw_examples, whose runtime fails. docs/OPERATING lists the texts of the notes;
-//! mw_examples, scripts/check-refusals and check-locks expect some: change them together.
+//! Used by: `opening`, which writes the notes; `tenant_disks`. docs/OPERATING lists the texts of the notes;
+//! scripts/check-stories, check-refusals and check-locks expect some: change them together.
 ghost use Rattle.std.specs.Prelude.{◌≡◌};
 
 use crate::last_error::LastError;

@@ -1,7 +1,7 @@
 //! What is known of a tenant's file: which file of the system it is, how long it must be and how it must begin. Also
 //! whether others have replaced, cut or overwritten it, whether it was given up, and its last error.
 //!
-//! Used by: `watched_file`, `tenant_disks`; mw_programs, which looks whether the file was replaced; mw_examples. Many
+//! Used by: `watched_file`, `tenant_disks`; mw_programs, which looks whether the file was replaced; mw_opening_tests. Many
 //! threads may share it; the calls on one file come one after the other.
 ghost use Rattle.std.specs.Prelude.{◌≡◌, ◌<◌, is_ok, not};
 ghost use Rattle.std.specs.Fs.{metadata_len};

@@ -1,6 +1,6 @@
 //! The file of a server's lease: opened under a lock, and beaten by writes that are synced.
 //!
-//! Used by: mw_programs. docs/OPERATING tells the notes and the file's text: change them together. mw_examples,
+//! Used by: mw_programs. docs/OPERATING tells the notes and the file's text: change them together.
 //! scripts/check-refusals and check-locks expect notes. It has no contracts.
 use arrayvec::ArrayVec;
 use std::fmt::{self, Display, Formatter};

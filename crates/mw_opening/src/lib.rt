@@ -6,12 +6,12 @@
 //! [`open_plain`] opens a file only if it is plain. [`Notes`] writes notes.
 //!
 //! - *What a contract says*: [`open_parts`] makes the parts of just the files that it opened, each synced before and
-//!   fit for its line. A tenant has none only for a cause.
-//! - *Proved*: each disk is over what the runtime opened at the line's path.
-//! - *Tested only*: what the system has there, refusals, locks, folders, notes (mw_examples, `scripts/check-locks`,
+//!   fit for its line. A tenant has none only for a cause. [`read_tenants_file`] gives the tenants of the text at its path.
+//! - *Proved*: each disk is over what the runtime opened at the line's path, and the text is what the runtime read.
+//! - *Tested only*: what the system has there, refusals, locks, folders, notes (`scripts/check-stories`, `scripts/check-locks`,
 //!   `scripts/check-refusals`, `scripts/check-new-file`).
 //!
-//! Used by: mw_examples, mw_programs. docs/OPERATING lists the notes and says which files a server opens: change them
+//! Used by: mw_programs, mw_opening_tests. docs/OPERATING lists the notes and says which files a server opens: change them
 //! together.
 #![tactic(auto)]
 
@@ -35,6 +35,6 @@ pub use lease_file::{LeaseFault, LeaseFile};
 pub use notes::{NoteForm, Notes, note_cause, note_place, note_why};
 pub use opened_parts::{OpenedParts, are_all_open, open_parts};
 pub use opening::{TenantsFault, read_tenants_file};
-pub use plain_file::{ReadFault, open_plain};
+pub use plain_file::{ReadFault, open_plain, read_plain};
 pub use tenant_disks::{LockedFiles, Opened, OpensDisks, OpensPaths, TenantDisk};
 pub use watched_file::WatchedFile;

@@ -1,19 +1,20 @@
 //! Opens the tenants file and each tenant's own file, under a lock.
 //!
 //! Used by: `opened_parts`; mw_programs, which reads the tenants. Change it with docs/OPERATING, which has the notes;
-//! mw_examples and scripts/check-refusals expect some. A new [`Cause`] needs a case in `Cause::tell`. docs/PROMISES
-//! cites `open_files`.
+//! scripts/check-stories and scripts/check-refusals expect some. A new [`Cause`] needs a case in `Cause::tell`. docs/PROMISES
+//! cites `open_files` and `read_tenants_file`.
 ghost use Rattle.std.specs.Prelude.{◌<◌, ◌≤◌, ◌≢◌, length, IfErr, IfOk, Some};
 ghost use Rattle.mw_config.specs.Limits.{ArePermitted};
 ghost use Rattle.mw_words.specs.declared.limits.TheConstants.{MAX_TENANTS};
 ghost use Rattle.mw_engine.specs.OpenedFiles.{FitsLine, FitLines};
 ghost use Rattle.mw_opening.specs.SyncedOpenings.{AreOfLines, GivesNoFile, HasNoFile, IsOfLine, OpensAfterSync};
+ghost use Rattle.mw_opening.specs.TenantsAtPath.{AreReadAt};
 
 use crate::file_fault::FileFault;
 use crate::last_error::LastError;
 use crate::notes::{note_place, note_why};
-use crate::plain_file::{ReadFault, open_plain};
-use crate::tenant_disks::OpensDisks;
+use crate::plain_file::ReadFault;
+use crate::tenant_disks::{OpensDisks, OpensPaths};
 use arrayvec::ArrayVec;
 use log::{Log, error};
 use mw_config::{FormRule, Refusal, TenantLine, broken_rule, read_tenants};
@@ -21,9 +22,7 @@ use mw_disk::Disk;
 use mw_file::TenantFile;
 use mw_words::{MAX_TENANTS, MAX_TENANTS_FILE};
 use std::alloc::{AllocError, Global};
-use std::fs::File;
-use std::io::{self, Read, Write};
-use std::rt::Files;
+use std::io::Write;
 use std::str;
 
 /// The room for a tenants file, in bytes: the most that it may have, and one more, which shows that it is
@@ -146,18 +145,22 @@ fn name_of(line: &[u8]) -> &[u8] {
 
 /// Reads the tenants from the tenants file at a path. Their quotas share a pool of `pool` slots.
 ///
+/// - `permitted`: they are within all limits.
+/// - `read`: their lines are those of the text that `rt` gave for this path.
+///
 /// # Errors
 ///
 /// [`Refusal::File`] if the file can't be read or is too long; else what [`read_tenants`] refuses.
-pub fn read_tenants_file<R: Files<File = File>>(
+pub fn read_tenants_file<R: OpensPaths>(
     rt: &R,
     path: &str,
     pool: u16,
 ) -> Result<ArrayVec<TenantLine, MAX_TENANTS>, TenantsFault>
-    ensures { IfOk result (λ lines. ArePermitted pool lines.items) }
+    ensures permitted { IfOk result (λ lines. ArePermitted pool lines.items) }
+    ensures read { IfOk result (λ lines. AreReadAt R.is_text path.now pool lines.items) }
 {
     let mut room = [0; TENANTS_ROOM];
-    let (refusal, cause) = match read_front(rt, path, &mut room) {
+    let (refusal, cause) = match rt.read_plain(path, &mut room) {
         Ok(count) if count <= MAX_TENANTS_FILE => match read_tenants(&room[..count], pool) {
             Ok(lines) => return Ok(lines),
             Err(refusal) => (refusal, Cause::of_text(refusal, &room[..count])),
@@ -166,33 +169,6 @@ pub fn read_tenants_file<R: Files<File = File>>(
         Err(fault) => (Refusal::File, Cause::Reading(fault)),
     };
     Err(TenantsFault { refusal, cause })
-}
-
-/// Reads the plain file at a path to its end, or until the room is full. Gives how many bytes it has read.
-fn read_front<R: Files<File = File>>(
-    rt: &R,
-    path: &str,
-    room: &mut [u8],
-) -> Result<usize, ReadFault> {
-    let mut file = open_plain(rt, path)?;
-    Ok(fill(&mut file, room)?)
-}
-
-/// Reads to the end, or until the room is full. Gives how many bytes it has read.
-fn fill<F: Read>(file: &mut F, room: &mut [u8]) -> io::Result<usize> {
-    let mut count = 0;
-    for _ in 0..u64::MAX {
-        if count >= room.len() {
-            break;
-        }
-        match file.read(&mut room[count..]) {
-            Ok(0) => break,
-            Ok(more) => count += more,
-            Err(fault) if fault.kind() == io::ErrorKind::Interrupted => {}
-            Err(fault) => return Err(fault),
-        }
-    }
-    Ok(count)
 }
 
 /// Opens the tenants' files, in the order of their lines. Gives None, and writes a note, for a file that doesn't open, is

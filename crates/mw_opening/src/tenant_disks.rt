@@ -1,9 +1,9 @@
 //! Opens the disks of the tenants' files: what [`open_parts`](crate::open_parts) needs of whoever opens them, and the
 //! system's files, each under a lock.
 //!
-//! Used by: `opening`, `opened_parts`; mw_programs makes the [`LockedFiles`]; mw_examples has a runtime that fails. [`OpensPaths`] says what is known of
+//! Used by: `opening`, `opened_parts`; mw_programs makes the [`LockedFiles`]. [`OpensPaths`] says what is known of
 //! the files that a server opens.
-ghost use Rattle.std.specs.Prelude.{◌<◌, ℕ, List, IfErr, IfOk};
+ghost use Rattle.std.specs.Prelude.{◌<◌, ℕ, List, length, take, IfErr, IfOk};
 ghost use Rattle.std.specs.declared.fs.File.{File as SystemFile};
 ghost use Rattle.mw_words.specs.declared.limits.TheConstants.{MAX_TENANTS};
 ghost use Rattle.mw_opening.specs.declared.file_fault.FileFault.{FileFault as Fault};
@@ -11,6 +11,7 @@ ghost use Rattle.mw_opening.specs.declared.file_fault.FileFault.{FileFault as Fa
 use crate::file_fault::FileFault;
 use crate::file_state::{FileStates, SeenFile};
 use crate::last_error::LastError;
+use crate::plain_file::{ReadFault, read_plain};
 use crate::watched_file::WatchedFile;
 use mw_disk::{Disk, FileDisk};
 use mw_file::TenantFile;
@@ -49,14 +50,17 @@ pub trait OpensDisks {
         requires { tenant < MAX_TENANTS };
 }
 
-/// Opens the file at a path, under a lock. A server's code is for any runtime that does, so it has what a ghost member says only
-/// from a call. The other bounds of a runtime give it files of which nothing is known.
+/// Opens the file at a path, under a lock, and reads a plain one. A server's code is for any runtime that does, so it has what a ghost
+/// member says only from a call. The other bounds of a runtime give it files of which nothing is known.
 pub trait OpensPaths {
     // This is the file at this path, which is given by its bytes.
     ghost is_at: { List ℕ → SystemFile → Type 0 };
 
     // The file at this path was not opened, for this fault.
     ghost is_refused: { List ℕ → Fault → Type 0 };
+
+    // A reading of the file at this path gave this text, from the file's first byte to its end.
+    ghost is_text: { List ℕ → List ℕ → Type 0 };
 
     /// Opens the file at this path for reading and writing, locks it, and has the system drop its copies of it. The lock is
     /// held until the file is closed. The states are those of the tenants' files, and this is the number of the file's
@@ -70,13 +74,24 @@ pub trait OpensPaths {
         requires { tenant < MAX_TENANTS }
         ensures at { IfOk result (λ file. is_at path.now file) }
         ensures refused { IfErr result (λ fault. is_refused path.now fault) };
+
+    /// Reads the plain file at this path to its end, or until the room is full. Gives how many bytes it has read. If the room has more
+    /// bytes, these are the whole text.
+    ///
+    /// # Errors
+    ///
+    /// The file can't be opened or isn't plain, or a read failed.
+    fn read_plain(&self, path: &str, room: &mut [u8]) -> Result<usize, ReadFault>
+        ensures text { IfOk result (λ count. count < length room.new → is_text path.now (take count room.new)) };
 }
 
 impl OpensPaths for HostRuntime {
-    // No contract of the library says of which path a file is, or why it isn't opened.
+    // No contract of the library says of which path a file is, what a reading of it gives, or why it isn't opened.
     ghost is_at = { λ _ _. Unit {0} };
 
     ghost is_refused = { λ _ _. Unit {0} };
+
+    ghost is_text = { λ _ _. Unit {0} };
 
     fn open_locked(
         &self,
@@ -85,6 +100,10 @@ impl OpensPaths for HostRuntime {
         tenant: usize,
     ) -> Result<File, FileFault> {
         open_locked(self, path, states, tenant)
+    }
+
+    fn read_plain(&self, path: &str, room: &mut [u8]) -> Result<usize, ReadFault> {
+        read_plain(self, path, room)
     }
 }
 

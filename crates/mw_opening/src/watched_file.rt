@@ -1,7 +1,7 @@
 //! A tenant's file as a server has it: it times its calls and counts them, and keeps in a [`FileState`] what is known
 //! of the file.
 //!
-//! Used by: `tenant_disks`, mw_examples. Each call must give what the file's call gave, or an error if the file was
+//! Used by: `tenant_disks`, mw_opening_tests. Each call must give what the file's call gave, or an error if the file was
 //! given up, or others have cut or overwritten it.
 ghost use Rattle.std.specs.Prelude.{◌≡◌};
 

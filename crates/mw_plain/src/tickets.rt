@@ -8,7 +8,6 @@ use mw_words::{Entries, Job, Reply};
 
 /// A change of a tenant that was started and isn't finished. Finishing it uses up the ticket. A ticket isn't `Drop`,
 /// so none gets lost: the change of a lost one would keep its slot and its place.
-#[derive(Debug)]
 pub struct Ticket {
     pub(crate) tenant: u8,
     pub(crate) place: Place,
@@ -29,7 +28,6 @@ impl Ticket {
 }
 
 /// How a job started.
-#[derive(Debug)]
 pub enum Start {
     /// The job is done, and this is its reply.
     Done(Reply),
@@ -38,7 +36,7 @@ pub enum Start {
 }
 
 /// A job for a tenant.
-#[derive(Debug, Drop)]
+#[derive(Drop)]
 pub struct Task {
     /// The tenant's number.
     pub tenant: u8,

@@ -7,7 +7,7 @@ ghost use Rattle.mw_pool.specs.Moves.{Says, after_admit};
 use mw_words::Door;
 
 /// The answer of a tenant's door to one change more.
-#[derive(Clone, Copy, Debug, PartialEq, Eq)]
+#[derive(Clone, Copy, PartialEq, Eq)]
 pub enum Admission {
     /// The tenant's file has failed.
     Fault,

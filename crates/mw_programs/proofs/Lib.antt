@@ -1,1 +1,2 @@
+mod LentWriters
 mod ScriptSessions

@@ -1,7 +1,8 @@
 -- Defines what the clients of a server are promised: an engine answers them that was made of the files which a start opened.
 -- Used by: src/services.rt, src/serving.rt, mwserve. A change here changes what mwserve may serve its clients with.
-use Rattle.std.specs.Prelude.{◌≡◌, ℕ, Bool, List, map, Option, Vec}
+use Rattle.std.specs.Prelude.{◌≡◌, ℕ, Bool, List, map, Option, Vec, string_bytes}
 use Rattle.std.specs.declared.alloc.Global.{Global}
+use Rattle.mw_config.specs.declared.command_line.Args.{Args}
 use Rattle.mw_config.specs.declared.lines.TenantLine.{TenantLine}
 use Rattle.mw_disk.specs.Facts.{Facts}
 use Rattle.mw_file.specs.declared.tenant_file.TenantFile.{TenantFile}
@@ -10,6 +11,7 @@ use Rattle.mw_engine.specs.Brand.{Identity}
 use Rattle.mw_engine.specs.Passes.{IsPassOf}
 use Rattle.mw_opening.specs.FromBelow.{DeviceCall, disks_read, line_read, openings_read}
 use Rattle.mw_opening.specs.SyncedOpenings.{AreOfLines}
+use Rattle.mw_opening.specs.TenantsAtPath.{AreReadAt}
 use Rattle.mw_opening.specs.declared.file_fault.FileFault.{FileFault}
 use Rattle.mw_server_pages.specs.FromHttp as page
 use Rattle.mw_server_pages.specs.Shown.{Gives}
@@ -20,11 +22,16 @@ use Rattle.mw_programs.specs.Copies.{IsCopyOf}
 abbrev pub ShowsOne : {D : Type 0} → (D → Facts) → Identity → Pass → page.Call → Pass → Type 0
 ShowsOne facts identity old call new = (version : List ℕ) × Gives (Answers identity) (λ files name copy left. (left ≡ files) × IsCopyOf facts identity name copy) version old (tt {0}) call new (tt {0})
 
-module _ {D : Type 0} (facts : D → Facts) (makes : DeviceCall → Bool → D → D → Type 0) (is_over : List ℕ → D → Type 0) (is_refused : List ℕ → FileFault → Type 0) where
+module _ {D : Type 0} (facts : D → Facts) (makes : DeviceCall → Bool → D → D → Type 0) (is_over : List ℕ → D → Type 0) (is_refused : List ℕ → FileFault → Type 0)
+    (is_text : List ℕ → List ℕ → Type 0) where
   -- The engine of this identity has the tenants of these lines, and begins with the words and places of files that were opened, each of
-  -- its own tenant's line. Its disks at the start are those of these files.
+  -- its own tenant's line. Its disks at the start are those of these files. The lines are those of the text that was read at a path,
+  -- that of some arguments: no clause says that these are the server's.
   pub record IsOfStart (identity : Identity) : Type 0 where
+    -- the arguments
+    pub args : Args
     pub lines : List TenantLine
+    pub read : AreReadAt is_text (string_bytes args.tenants) args.pool lines
     pub files : List (Option (TenantFile D × Vec ℕ Global))
     pub opened : AreOfLines facts makes is_over is_refused lines files
     pub named : identity.lines ≡ map line_read lines
@@ -48,5 +55,6 @@ pub record Promises {D : Type 0} (facts : D → Facts) (identity : Identity) (ke
 
 -- The same of each engine that begins with the files which a start opened: what is promised of its own answers.
 abbrev pub PromisesOfStart : {D : Type 0} → (D → Facts) → (DeviceCall → Bool → D → D → Type 0) → (List ℕ → D → Type 0) → (List ℕ → FileFault → Type 0)
-    → (Identity → List Call → Type 0) → (Identity → List page.Call → Type 0) → Type 0
-PromisesOfStart facts makes is_over is_refused kept_by shown_by = (identity : Identity) → IsOfStart facts makes is_over is_refused identity → Promises facts identity (kept_by identity) (shown_by identity)
+    → (List ℕ → List ℕ → Type 0) → (Identity → List Call → Type 0) → (Identity → List page.Call → Type 0) → Type 0
+PromisesOfStart facts makes is_over is_refused is_text kept_by shown_by = (identity : Identity) → IsOfStart facts makes is_over is_refused is_text identity
+    → Promises facts identity (kept_by identity) (shown_by identity)

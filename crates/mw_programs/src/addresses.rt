@@ -1,7 +1,7 @@
 //! Opens the addresses of a server, and tells where it listens.
 //!
 //! `clients` opens them once all services are made, and then serves. docs/OPERATING tells what is printed, and the
-//! notes; mw_examples, scripts/check-limits and check-sockets expect them: change them together.
+//! notes; scripts/check-stories, check-limits and check-sockets expect them: change them together.
 
 use crate::console::{Address, Console};
 use crate::pages::{LIMITS, PagesEnd};

@@ -1,13 +1,14 @@
 //! The standard output of a server: where it listens, or what a script's session is told.
 //!
-//! Used by: `serving`, `services`, `clients`, `addresses`; mwserve and mw_examples, which give `serve` a [`Printed`].
-//! docs/OPERATING tells what is printed: change both together. Scripts and mw_examples (`outputs.rt`) read the words
-//! `ready`, `admin` and `http`.
-ghost use Rattle.std.specs.Prelude.{List};
+//! Used by: `serving`, `services`, `clients`, `addresses`; mwserve, which gives `serve` a [`Printed`].
+//! docs/OPERATING tells what is printed: change both together. Scripts read the words `ready`,
+//! `admin` and `http`.
+ghost use Rattle.std.specs.Prelude.{◌≡◌, ℕ, List, Option};
 ghost use Rattle.mw_session.specs.Talk.{Call};
 ghost use Rattle.mw_service.specs.EngineAnswers.{ByWorker};
 ghost use Rattle.mw_programs.specs.ScriptSession.{IsOfScript};
 
+use crate::lent_writer::LentWriter;
 use crate::promise::{EngineNetwork, ServerPromise};
 use mw_config::ArgFault;
 use mw_disk::Disk;
@@ -60,9 +61,13 @@ pub trait Console {
 
 /// A console that can run a script, which is answered as `Q` promises.
 pub trait ScriptConsole<Q: ServerPromise>: Console {
-    /// Serves one session, which reads the script and writes the replies, by this worker. Gives how the session ended. `keeps`: the
+    // The bytes that it has printed, where they are known.
+    ghost printed: { Self → Option (List ℕ) };
+
+    /// Serves one session, which reads the script and prints the replies, by this worker. Gives how the session ended. `keeps`: the
     /// worker keeps what was promised of the engine `K`, for which the server's network was used up. `session`: the worker served
-    /// just this session. A script may never end, so this may wait for ever.
+    /// this session, and the console printed what it wrote, and nothing else, where their bytes are known. A script may never end,
+    /// so this may wait for ever.
     fn run<N, K, I, J, D, R, T>(
         &mut self,
         alloc: Global,
@@ -78,27 +83,29 @@ pub trait ScriptConsole<Q: ServerPromise>: Console {
         R: Wait,
         T: FaultWatch,
         requires keeps { (calls : List Call) → ByWorker J.identity calls → Q.kept_by K.identity calls }
-        ensures session { IsOfScript (I.remaining script) J.identity worker.old.pass worker.new.pass result };
+        ensures session { IsOfScript (I.remaining script) (printed self.old) (printed self.new) J.identity worker.old.pass worker.new.pass result };
 }
 
-/// A console that prints by a writer.
+/// A console that prints by a writer, which it owns.
 #[derive(Drop)]
-pub struct Printed<'a, W> {
-    out: &'a mut W,
+pub struct Printed<W> {
+    out: W,
 }
 
-impl<'a, W: Write> Printed<'a, W> {
+impl<W: Write> Printed<W> {
     /// Makes a console that prints here.
-    pub fn new(out: &'a mut W) -> Self {
+    pub fn new(out: W) -> Self
+        ensures { result.out ≡ out }
+    {
         Printed { out }
     }
 }
 
-impl<W: Write> Console for Printed<'_, W> {
+impl<W: Write> Console for Printed<W> {
     fn tell(&mut self, which: Address, port: Option<u16>, address: &str) -> io::Result<()> {
         match port {
-            Some(port) => tell_line(self.out, which.word(), &port),
-            None => tell_line(self.out, which.word(), &address),
+            Some(port) => tell_line(&mut self.out, which.word(), &port),
+            None => tell_line(&mut self.out, which.word(), &address),
         }
     }
 
@@ -108,7 +115,9 @@ impl<W: Write> Console for Printed<'_, W> {
     }
 }
 
-impl<W: Write, Q: ServerPromise> ScriptConsole<Q> for Printed<'_, W> {
+impl<W: Write, Q: ServerPromise> ScriptConsole<Q> for Printed<W> {
+    ghost printed = { λ console. W.contents console.out };
+
     fn run<N, K, I, J, D, R, T>(
         &mut self,
         alloc: Global,
@@ -124,9 +133,11 @@ impl<W: Write, Q: ServerPromise> ScriptConsole<Q> for Printed<'_, W> {
         R: Wait,
         T: FaultWatch,
     {
+        // The script is lent too: of a stream that owns it, the proof doesn't know at the end what the writer took.
+        let mut script = script;
         let mut stream = RecordedStream::new(Duplex {
-            reader: script,
-            writer: &mut *self.out,
+            reader: &mut script,
+            writer: LentWriter { out: &mut self.out },
         });
         worker.run(alloc, &mut stream)
     }

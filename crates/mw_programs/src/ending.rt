@@ -1,6 +1,6 @@
 //! Ends a server while its threads run, so that the system takes the locks of its files.
 //!
-//! `mwserve` has a thread of its own serve, and waits for the [`ServerEnd`]; mw_examples has one too. `fault_notes` ends
+//! `mwserve` has a thread of its own serve, and waits for the [`ServerEnd`]. `fault_notes` ends
 //! the server. docs/OPERATING tells the exit status: change both together.
 
 use mw_config::{Mode, read_args};

@@ -3,10 +3,10 @@
 //! - *What a contract says*: [`serve`] requires that an engine of files which a start opened keeps what the network
 //!   and the console promise. No other can serve (`promise.rt`).
 //! - *Proved*: a page's copy of a file is the engine's (`specs/Copies`).
-//! - *Tested only*: sockets, waits, `--admin`, what is printed and noted, and exit statuses (mw_examples,
+//! - *Tested only*: sockets, waits, `--admin`, what is printed and noted, and exit statuses (`scripts/check-stories`,
 //!   `scripts/check-programs`).
 //!
-//! Used by: mwserve, mw_examples. docs/OPERATING describes the program for users: change them together.
+//! Used by: mwserve. docs/OPERATING describes the program for users: change them together.
 #![tactic(auto)]
 
 mod addresses;
@@ -17,6 +17,7 @@ mod copies;
 mod descriptors;
 mod ending;
 mod fault_notes;
+mod lent_writer;
 mod pages;
 mod promise;
 mod replaced;
@@ -27,7 +28,6 @@ mod standard_error;
 
 pub use console::{Address, Console, Printed, ScriptConsole};
 pub use ending::{ServedApart, ServerEnd, ends_on_failure};
-pub use mw_connections::Anything;
 pub use mw_disk::Disk;
 pub use mw_opening::{LockedFiles, OpensDisks, OpensPaths, TenantDisk};
 pub use promise::{EngineNetwork, ServerNetwork, ServerPromise};

@@ -1,13 +1,13 @@
 //! What a server promises its clients, by the engine that answers them, and the right to listen for them by one engine.
 //!
-//! mwserve and mw_examples give `serve` a [`ServerNetwork`], which `serving` uses up for its engine. Change it with
+//! mwserve gives `serve` a [`ServerNetwork`], which `serving` uses up for its engine. Change it with
 //! docs/PROMISES.
 ghost use Rattle.std.specs.Prelude.{List};
 ghost use Rattle.mw_session.specs.Talk.{Call};
 ghost use Rattle.mw_engine.specs.Brand.{Identity};
 ghost use Rattle.mw_server_pages.specs.FromHttp.{Call as PageCall};
 
-use mw_connections::{Anything, Network, Promise};
+use mw_connections::{Network, Promise};
 use mw_engine::EngineBrand;
 use mw_server_pages::PagesPromise;
 use std::marker::PhantomData;
@@ -20,12 +20,6 @@ pub trait ServerPromise: Send + Sync + Drop {
 
     // So it did these calls of the pages.
     ghost shown_by: { Identity → List PageCall → Type 0 };
-}
-
-impl ServerPromise for Anything {
-    ghost kept_by = { λ _ _. Unit {0} };
-
-    ghost shown_by = { λ _ _. Unit {0} };
 }
 
 /// What `Q` promises, kept by the engine `J` and by no other one. It only names the promise: no value of it is made.
@@ -44,7 +38,7 @@ impl<Q: ServerPromise, J: EngineBrand + Send + Sync> PagesPromise for KeptBy<Q, 
 }
 
 /// The right of one server to listen for clients, if they are served as `Q` promises. Of what `rt` may do with sockets it gives
-/// nothing else. A server has one, for one engine.
+/// nothing else. It is for one engine.
 #[derive(Drop)]
 pub struct ServerNetwork<'a, N, Q> {
     rt: &'a N,
@@ -70,7 +64,7 @@ impl<'a, N, Q> ServerNetwork<'a, N, Q> {
     }
 }
 
-/// The right of one server to listen for clients whom the engine `J` answers, as `Q` promises. There is one at most of a server.
+/// The right of one server to listen for clients whom the engine `J` answers, as `Q` promises. One at most is made of a [`ServerNetwork`].
 #[derive(Drop)]
 pub struct EngineNetwork<'a, N, Q, J> {
     network: Network<'a, N, KeptBy<Q, J>>,

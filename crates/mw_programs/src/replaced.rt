@@ -1,8 +1,8 @@
 //! Looks, while clients are served, whether each tenant's path still leads to the file that was opened, as long as it
 //! must be and with the same front.
 //!
-//! Used by: `clients`, once a second; `fault_notes`, which writes the notes; `beats`, for [`Stop`]; `serving`; `services`;
-//! mw_examples, for [`SeesPaths`]. Change it with `specs/Replaced` and docs/OPERATING.
+//! Used by: `clients`, once a second; `fault_notes`, which writes the notes; `beats`, for [`Stop`]; `serving`; `services`.
+//! Change it with `specs/Replaced` and docs/OPERATING.
 ghost use Rattle.std.specs.Prelude.{◌≡◌, ◌↔◌, false};
 ghost use Rattle.mw_programs.specs.Replaced.{LeadsTo};
 

@@ -1,8 +1,8 @@
 //! Implements `mwserve`: reads the command line, opens the files, and serves the tenants' words.
 //!
-//! mwserve calls `serve`, and so does mw_examples. docs/OPERATING tells its options, notes and statuses: change them
-//! together. mw_examples and scripts expect notes (`git grep`).
-ghost use Rattle.std.specs.Prelude.{◌≡◌, ◌+◌, ◌<◌, ◌≤◌, All, IfOk, length, vec_len};
+//! mwserve calls `serve`. docs/OPERATING tells its options, notes and statuses: change them
+//! together. Scripts expect notes (`git grep`).
+ghost use Rattle.std.specs.Prelude.{◌≡◌, ◌+◌, ◌<◌, ◌≤◌, All, IfOk, length, string_bytes, vec_len};
 ghost use Rattle.mw_config.specs.CommandLine.{ArePermittedArgs};
 ghost use Rattle.mw_config.specs.Limits.{ArePermitted};
 ghost use Rattle.mw_config.specs.declared.command_line.Mode.TheVariants.{Listen};
@@ -10,6 +10,7 @@ ghost use Rattle.mw_words.specs.declared.limits.TheConstants.{MAX_TENANTS, MAX_W
 ghost use Rattle.mw_engine.specs.Passes.{IsNew};
 ghost use Rattle.mw_engine.specs.Parts.{identity_of};
 ghost use Rattle.mw_opening.specs.MadeOfOpened.{AreMadeOfOpened};
+ghost use Rattle.mw_opening.specs.TenantsAtPath.{AreReadAt};
 ghost use Rattle.mw_programs.specs.Promised.{Promises, PromisesOfStart};
 ghost use Rattle.mw_programs.specs.WorkerCount.{one_for, own_workers, served_count, worker_count};
 
@@ -128,7 +129,7 @@ where
         + OpensPaths
         + 'a,
     N: Files<File = File> + Net<Listener = TcpListener, Stream = TcpStream> + Clock + Sync,
-    requires promise { PromisesOfStart ⟦<TenantDisk<'a, R> as Disk>⟧.facts ⟦<TenantDisk<'a, R> as Disk>⟧.made ⟦<LockedFiles<'a, R> as OpensDisks>⟧.is_over ⟦<LockedFiles<'a, R> as OpensDisks>⟧.is_refused Q.kept_by Q.shown_by }
+    requires promise { PromisesOfStart ⟦<TenantDisk<'a, R> as Disk>⟧.facts ⟦<TenantDisk<'a, R> as Disk>⟧.made ⟦<LockedFiles<'a, R> as OpensDisks>⟧.is_over ⟦<LockedFiles<'a, R> as OpensDisks>⟧.is_refused R.is_text Q.kept_by Q.shown_by }
 {
     let args = match read_args(rt.alloc(), args) {
         Ok(args) => args,
@@ -190,7 +191,7 @@ struct Setup<'a> {
 
 impl<'a> Setup<'a> {
     /// Reads the tenants file that the arguments name. Writes a note if it is refused, or the limit of the stack is too low.
-    fn read<R: Files<File = File>, L: Log>(
+    fn read<R: OpensPaths, L: Log>(
         rt: &R,
         args: Args,
         notes: &L,
@@ -199,6 +200,7 @@ impl<'a> Setup<'a> {
         requires { ArePermittedArgs args }
         ensures args { IfOk result (λ setup. ArePermittedArgs setup.args) }
         ensures lines { IfOk result (λ setup. ArePermitted setup.args.pool setup.lines.items) }
+        ensures read { IfOk result (λ setup. AreReadAt R.is_text (string_bytes setup.args.tenants) setup.args.pool setup.lines.items) }
     {
         if !has_stack_for(notes, &args.mode) {
             return Err(ServeFault::Failed);
@@ -235,7 +237,7 @@ where
         + 'a,
     N: Files<File = File> + Net<Listener = TcpListener, Stream = TcpStream> + Clock + Sync,
     requires args { ArePermittedArgs args }
-    requires promise { PromisesOfStart ⟦<TenantDisk<'a, R> as Disk>⟧.facts ⟦<TenantDisk<'a, R> as Disk>⟧.made ⟦<LockedFiles<'a, R> as OpensDisks>⟧.is_over ⟦<LockedFiles<'a, R> as OpensDisks>⟧.is_refused Q.kept_by Q.shown_by }
+    requires promise { PromisesOfStart ⟦<TenantDisk<'a, R> as Disk>⟧.facts ⟦<TenantDisk<'a, R> as Disk>⟧.made ⟦<LockedFiles<'a, R> as OpensDisks>⟧.is_over ⟦<LockedFiles<'a, R> as OpensDisks>⟧.is_refused R.is_text Q.kept_by Q.shown_by }
 {
     match Setup::read(rt, args, notes, end) {
         Ok(setup) => serve_setup(rt, network, &setup, console, notes),
@@ -264,7 +266,8 @@ where
     N: Files<File = File> + Net<Listener = TcpListener, Stream = TcpStream> + Clock + Sync,
     requires args { ArePermittedArgs setup.now.args }
     requires lines { ArePermitted setup.now.args.pool setup.now.lines.items }
-    requires promise { PromisesOfStart ⟦<TenantDisk<'a, R> as Disk>⟧.facts ⟦<TenantDisk<'a, R> as Disk>⟧.made ⟦<LockedFiles<'a, R> as OpensDisks>⟧.is_over ⟦<LockedFiles<'a, R> as OpensDisks>⟧.is_refused Q.kept_by Q.shown_by }
+    requires read { AreReadAt R.is_text (string_bytes setup.now.args.tenants) setup.now.args.pool setup.now.lines.items }
+    requires promise { PromisesOfStart ⟦<TenantDisk<'a, R> as Disk>⟧.facts ⟦<TenantDisk<'a, R> as Disk>⟧.made ⟦<LockedFiles<'a, R> as OpensDisks>⟧.is_over ⟦<LockedFiles<'a, R> as OpensDisks>⟧.is_refused R.is_text Q.kept_by Q.shown_by }
 {
     let (states, meters) = (FileStates::new(setup.args.strict), Meters::new(rt));
     let disks = LockedFiles::new(rt, &states, counted_in(&setup.args.mode, &meters));
@@ -286,14 +289,15 @@ fn serve_files<D, P, R, N, Q, C, L>(
 where
     D: Disk + Drop + Send + Sync,
     P: OpensDisks<Device = D>,
-    R: Files<File = File> + AllocGlobal + Threads + Wait + Clock + Sync + SeesPaths,
+    R: Files<File = File> + AllocGlobal + Threads + Wait + Clock + Sync + SeesPaths + OpensPaths,
     N: Files<File = File> + Net<Listener = TcpListener, Stream = TcpStream> + Clock + Sync,
     Q: ServerPromise,
     C: ScriptConsole<Q>,
     L: Log + Sync,
     requires args { ArePermittedArgs setup.now.args }
     requires lines { ArePermitted setup.now.args.pool setup.now.lines.items }
-    requires promise { PromisesOfStart D.facts D.made P.is_over P.is_refused Q.kept_by Q.shown_by }
+    requires read { AreReadAt R.is_text (string_bytes setup.now.args.tenants) setup.now.args.pool setup.now.lines.items }
+    requires promise { PromisesOfStart D.facts D.made P.is_over P.is_refused R.is_text Q.kept_by Q.shown_by }
 {
     let opened = open_parts(
         rt.alloc(),
@@ -366,7 +370,7 @@ fn for_further(listening: &Listening) -> u8
     u8::from(listening.admin.is_some()) + u8::from(listening.http.is_some())
 }
 
-/// Serves the tenants with these lines, by an engine whose parts are made of the files that `P` opened. A tenant whose file
+/// Serves the tenants of the tenants file, by an engine whose parts are made of the files that `P` opened. A tenant whose file
 /// isn't open answers FAULT. If `--strict` was given, it serves only if all files are open and the limit of descriptors
 /// leaves room.
 fn serve_opened<D, P, R, N, Q, C, L>(
@@ -382,17 +386,18 @@ fn serve_opened<D, P, R, N, Q, C, L>(
 where
     D: Disk + Drop + Send + Sync,
     P: OpensDisks<Device = D>,
-    R: Files<File = File> + AllocGlobal + Threads + Wait + Clock + Sync + SeesPaths,
+    R: Files<File = File> + AllocGlobal + Threads + Wait + Clock + Sync + SeesPaths + OpensPaths,
     N: Files<File = File> + Net<Listener = TcpListener, Stream = TcpStream> + Clock + Sync,
     Q: ServerPromise,
     C: ScriptConsole<Q>,
     L: Log + Sync,
     requires args { ArePermittedArgs setup.now.args }
     requires tenants { length setup.now.lines.items ≤ MAX_TENANTS }
+    requires read { AreReadAt R.is_text (string_bytes setup.now.args.tenants) setup.now.args.pool setup.now.lines.items }
     requires opened { AreMadeOfOpened D.facts D.made P.is_over P.is_refused setup.now.lines.items opened.are_open.items opened.made }
     requires new { IfOk opened.made (λ made. All (IsNew (identity_of made.0)) made.1.items) }
     requires some { IfOk opened.made (λ made. 0 < vec_len made.1) }
-    requires promise { PromisesOfStart D.facts D.made P.is_over P.is_refused Q.kept_by Q.shown_by }
+    requires promise { PromisesOfStart D.facts D.made P.is_over P.is_refused R.is_text Q.kept_by Q.shown_by }
 {
     if !may_serve(notes, setup, &opened.are_open) {
         return Err(ServeFault::Failed);

@@ -1,5 +1,5 @@
 -- The first test that a file fails gives its damage, and a file has no damage exactly if it passes all tests.
--- Used by: decode, mw_file_text, mw_file, mw_show.
+-- Used by: decode, mw_file_text, mw_file, mwshow.
 use Rattle.std.proofs.Common.{◌≡◌, ℕ, Bool, true, false, cond, Option, Some, None, List, length, slice_get, drop, ◌<◌, ◌≤◌, refl, sym, ap, ◌∙◌, subst, inl, inr, arith, zero-add}
 use Rattle.std.proofs.lemmas.Bool.{cases_Bool, cond-true, cond-false, and_parts, and_from, leb-true, le-leb}
 use Rattle.std.proofs.lemmas.List.FromFn.{length-map-range_with_len, get_or-map-range_with_len}

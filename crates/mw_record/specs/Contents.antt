@@ -1,5 +1,5 @@
 -- Defines which words the bytes of a layout, and those of a whole file, represent.
--- Used by: mw_file, mw_world_file, mw_engine, mw_show, laws.rt. A change here changes which words a file is said to have.
+-- Used by: mw_file, mw_world_file, mw_engine, mwshow, laws.rt. A change here changes which words a file is said to have.
 use Rattle.std.specs.Prelude.{◌≡◌, ◌<◌, ◌≤◌, ℕ, Bool, true, false, Some, List, length, drop, slice_index}
 use Rattle.mw_words.specs.declared.limits.TheConstants.{MAX_VALUE, MAX_WORDS}
 use Rattle.mw_record.specs.declared.layout.Layout.{Layout}

@@ -2,7 +2,7 @@
 -- in the head is set, a second layout is in use, at the offset that the head tells; otherwise the first, with which a file
 -- begins.
 -- Used by: many crates from mw_file_text on, damages.rt, images.rt, laws.rt. A new Damage needs a case here, in
--- src/damages.rt and in mw_show.
+-- src/damages.rt and in mwshow.
 use Rattle.std.specs.Prelude.{◌≡◌, ℕ, ◌*◌, ◌==◌, ◌&&◌, nat_le, if◌then◌else◌, Bool, Option, Some, None, List, [], ◌∷◌, drop, slice_index, is_none}
 use Rattle.mw_record.specs.declared.layout.Layout.{Layout}
 use Rattle.mw_record.specs.declared.layout.Layout.TheVariants.{First, Second}

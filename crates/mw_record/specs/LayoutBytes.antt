@@ -1,5 +1,5 @@
 -- Defines what the bytes of one layout say: its sizes, its records, its words, and what can be wrong with it.
--- Used by: mw_file_text, mw_file, mw_world_file, mw_show, images.rt. A change here changes which files are taken for damaged.
+-- Used by: mw_file_text, mw_file, mw_world_file, mwshow, images.rt. A change here changes which files are taken for damaged.
 use Rattle.std.specs.Prelude.{ℕ, ◌&&◌, nat_eq, nat_le, Bool, List, [], ◌∷◌, length, map, unwrap_or}
 use Rattle.std.specs.List.{range_with_len, starts_with}
 use Rattle.mw_words.specs.declared.limits.TheConstants.{MAX_WORDS}

@@ -1,7 +1,7 @@
 //! The kinds of damage that a file may have, each with its number.
 //!
-//! Used by: `decode`, which finds them; mw_file, which refuses such a file; mw_show. A new damage needs a number in
-//! `specs/Damages`, a byte in mw_show (`damaged.rt`, and `byte_of` in `specs/Places`), a row in docs/OPERATING, and a
+//! Used by: `decode`, which finds them; mw_file, which refuses such a file; mwshow. A new damage needs a number in
+//! `specs/Damages`, a byte in mwshow (`damaged.rt`, and `byte_of` in `specs/Places`), a row in docs/OPERATING, and a
 //! case in scripts/files_parts/reader.py.
 ghost use Rattle.std.specs.Prelude.{◌≡◌};
 ghost use Rattle.mw_record.specs.Damages as spec;

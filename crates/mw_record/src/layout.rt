@@ -11,7 +11,7 @@ use byteorder::{ByteOrder, LittleEndian};
 use mw_words::{MAX_ENTRIES, MAX_PLACES, MAX_WORDS};
 
 /// One of the two layouts of a file's bytes.
-#[derive(Clone, Copy, Debug, PartialEq, Eq)]
+#[derive(Clone, Copy, PartialEq, Eq)]
 pub enum Layout {
     /// The layout of a new file, from its first byte on. A record has up to [`FIRST_ENTRIES`] entries.
     First,

@@ -33,8 +33,8 @@
 //! - *Tested only*: that docs/FILES says the same (`scripts/check-files`). Other damage isn't found: there are no
 //!   checksums.
 //!
-//! Used by: many crates from mw_file_text on. mw_file reads and writes files by it, mw_init makes new ones, and
-//! mw_show prints them. CONTRIBUTING says under *Limits of the file* which of it may change without a new layout.
+//! Used by: many crates from mw_file_text on. mw_file reads and writes files by it, mwinit makes new ones, and
+//! mwshow prints them. CONTRIBUTING says under *Limits of the file* which of it may change without a new layout.
 #![tactic(auto)]
 
 mod damages;

@@ -1,6 +1,6 @@
 //! Makes the bytes that are written to a file: a head, a whole second layout, and the body of a record.
 //!
-//! Used by: mw_file, mw_world_file, mw_show; mw_init, for the [`header`] of a new file. A reader of today must
+//! Used by: mw_file, mw_world_file, mwshow; mwinit, for the [`header`] of a new file. A reader of today must
 //! understand what is written: docs/FILES.
 ghost use Rattle.std.specs.Prelude.{◌≡◌, ◌≤◌, ◌<◌, ◌^◌, length, replicate};
 ghost use Rattle.mw_record.specs.Layout as spec;

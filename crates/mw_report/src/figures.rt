@@ -7,7 +7,7 @@ use arrayvec::ArrayVec;
 use mw_words::{MAX_TENANTS, Name};
 
 /// The figures of one tenant.
-#[derive(Debug, Default, PartialEq, Eq, Drop)]
+#[derive(Default, PartialEq, Eq, Drop)]
 pub struct TenantFigures {
     /// The tenant's name.
     pub name: Name,
@@ -25,7 +25,7 @@ pub struct TenantFigures {
 }
 
 /// The figures of all tenants, in their order, and of the pool.
-#[derive(Debug, PartialEq, Eq, Drop)]
+#[derive(PartialEq, Eq, Drop)]
 pub struct Figures {
     /// The figures of each tenant.
     pub tenants: ArrayVec<TenantFigures, MAX_TENANTS>,

@@ -8,7 +8,7 @@ ghost use Rattle.mw_rule.specs.Ways as spec;
 use mw_look::{Kind, Shape};
 
 /// How a step changes the bits of a word.
-#[derive(Clone, Copy, Debug, PartialEq, Eq)]
+#[derive(Clone, Copy, PartialEq, Eq)]
 pub enum Way {
     /// If the word has the expected bits, exchanges them for other bits.
     Exchange,

@@ -1,6 +1,6 @@
 -- Defines which schedules (texts of what happens to a world) can be played: the limits of their worlds, workers, tenants and
 -- stops.
--- Used by: src/commands.rt, src/config.rt, src/olds.rt, src/reader.rt, src/restarts.rt, mw_player, mw_player_tests.
+-- Used by: src/commands.rt, src/config.rt, src/olds.rt, src/reader.rt, src/restarts.rt, mwreplay.
 use Rattle.std.specs.Prelude.{ℕ, ◌≡◌, ◌≢◌, ◌≤◌, ◌<◌, All, IfSome, IsTrue, List, None, Option, sum_by}
 use Rattle.std.specs.List.{AllPairs}
 use Rattle.mw_words.specs.declared.limits.TheConstants.{MAX_QUOTA, MAX_WORDS, MAX_WORKERS}

@@ -1,5 +1,5 @@
 -- Defines which kind a step is of, among those that a schedule can name.
--- Used by: StepKind::of (src/steps.rt), mw_player. A new Op or StepKind needs a case here.
+-- Used by: StepKind::of (src/steps.rt), mwreplay. A new Op or StepKind needs a case here.
 use Rattle.mw_look.specs.declared.steps.Op.{Op}
 use Rattle.mw_look.specs.declared.steps.Op.TheVariants as op
 use Rattle.mw_schedule.specs.declared.steps.StepKind.{StepKind}

@@ -1,7 +1,7 @@
 //! Reads the lines of a schedule that say what happens.
 //!
 //! Used by: `reader`; `restarts`, for the numbers of tenants and workers. A new command needs a case here, in
-//! `schedule`, `forms`, `first_words`, `specs/Forms` and `specs/Playable`, in mw_player, and in docs/SCHEDULES.
+//! `schedule`, `forms`, `first_words`, `specs/Forms` and `specs/Playable`, in mwreplay, and in docs/SCHEDULES.
 ghost use Rattle.std.specs.Prelude.{◌≡◌, ◌<◌, IfOk, IfSome};
 ghost use Rattle.mw_words.specs.declared.limits.TheConstants.{MAX_WORKERS as most_workers};
 ghost use Rattle.mw_world.specs.Definition.State.{tenants_of};

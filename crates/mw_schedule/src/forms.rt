@@ -1,8 +1,8 @@
 //! Tells which rule the first wrong line of a schedule breaks.
 //!
-//! mw_player tells it after the line's number. It decides that text alone, and not which line is wrong. A new command
+//! mwreplay tells it after the line's number. It decides that text alone, and not which line is wrong. A new command
 //! needs its form here and in `specs/Forms`. The texts repeat the limits that `config`, `olds`, `commands` and
-//! `restarts` check; docs/SCHEDULES has them too, and mw_player_tests expects some of the texts.
+//! `restarts` check; docs/SCHEDULES has them too, and scripts/check-texts expects the texts.
 ghost use Rattle.std.specs.Prelude.{◌≡◌};
 ghost use Rattle.mw_schedule.specs.Forms as spec;
 

@@ -1,7 +1,7 @@
 //! Reads schedules. A schedule is a text that describes a world, and then says line by line which worker takes
 //! which step. It plays the same each time.
 //!
-//! Used by: mw_world_trials, mw_player, mw_player_tests.
+//! Used by: mwreplay.
 #![tactic(auto)]
 
 mod commands;

@@ -1,6 +1,6 @@
 //! Reads a whole schedule: first its configuration, then what happens.
 //!
-//! mw_player reads each schedule by `read_schedule`. docs/SCHEDULES.md describes the text: change both
+//! mwreplay reads each schedule by `read_schedule`. docs/SCHEDULES.md describes the text: change both
 //! together.
 ghost use Rattle.std.specs.Prelude.{◌≡◌, IfOk};
 ghost use Rattle.mw_schedule.specs.Playable.{ArePlayable, IsSchedule};

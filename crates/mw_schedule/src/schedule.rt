@@ -1,7 +1,7 @@
 //! The types of a schedule: the configuration of a world, and what happens to it, line by line.
 //!
-//! Used by: `reader`, `commands`, mw_player. A new command needs a case in `commands` and in `Player::obey` of
-//! mw_player.
+//! Used by: `reader`, `commands`, mwreplay. A new command needs a case in `commands` and in `Player::obey` of
+//! mwreplay.
 
 use crate::steps::StepKind;
 use mw_words::Job;

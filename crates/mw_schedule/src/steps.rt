@@ -1,15 +1,15 @@
 //! The kinds of step that a schedule can name, and which kind a step is.
 //!
-//! Used by: `commands`, mw_player. A new kind needs a case here, in `specs/Steps`, and in docs/SCHEDULES. docs/STEPS,
-//! mw_player_tests and mw_world_trials have the names too.
+//! Used by: `commands`, mwreplay. A new kind needs a case here, in `specs/Steps`, and in docs/SCHEDULES. docs/STEPS
+//! and scripts/text_parts have the names too.
 ghost use Rattle.std.specs.Prelude.{◌≡◌};
 ghost use Rattle.mw_schedule.specs.Steps as spec;
 
 use mw_look::{Call, Kind, Op};
-use std::fmt::{self, Display, Formatter, Write};
+use std::fmt::{self, Debug, Display, Formatter, Write};
 
 /// A kind of step that a worker makes by itself.
-#[derive(Clone, Copy, Debug, PartialEq, Eq)]
+#[derive(Clone, Copy, PartialEq, Eq)]
 pub enum StepKind {
     /// It reads a shared word.
     Load,
@@ -49,6 +49,12 @@ impl StepKind {
                 .map(StepKind::Change)
                 .or(call_named(name).map(StepKind::File)),
         }
+    }
+}
+
+impl Debug for StepKind {
+    fn fmt<W: Write>(&self, f: &mut Formatter<W>) -> Result<(), fmt::Error> {
+        f.write_str(self.name())
     }
 }
 

@@ -29,7 +29,7 @@ use std::alloc::Global;
 use std::sync::Wait;
 
 /// How a session ended.
-#[derive(Clone, Copy, Debug, PartialEq, Eq)]
+#[derive(Clone, Copy, PartialEq, Eq)]
 pub enum Ended {
     /// The peer said `QUIT`. What it sent after that isn't looked at.
     Quit,

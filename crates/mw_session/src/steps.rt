@@ -16,7 +16,7 @@ use mw_line::{ErrCode, Request, read_line};
 use mw_words::{Job, Name};
 
 /// For whom a session speaks.
-#[derive(Clone, Copy, Debug, PartialEq, Eq)]
+#[derive(Clone, Copy, PartialEq, Eq)]
 pub enum Bound {
     /// For nobody yet.
     Nobody,
@@ -27,7 +27,7 @@ pub enum Bound {
 }
 
 /// What a session does at a line.
-#[derive(Debug, PartialEq, Eq, Drop)]
+#[derive(PartialEq, Eq, Drop)]
 pub enum Step {
     /// Say what is wrong with the line.
     Refuse(ErrCode),

@@ -1,6 +1,6 @@
 -- A simulated world that always had numbers left serves each tenant as its store alone (the reference model) would, because
 -- every such run does.
--- Used by: World::new, run, marks, step, mw_player.
+-- Used by: World::new, run, marks, step, mwreplay.
 use Rattle.std.specs.Prelude.{ℕ, ◌≡◌, ◌<◌, List, IsSome, Option, Some, Result, Ok, Err, IfOk}
 use Rattle.std.proofs.Common.{refl, sym, ap, subst, ◌∙◌}
 use Rattle.mw_lone.specs.declared.marks.Mark.{Mark}

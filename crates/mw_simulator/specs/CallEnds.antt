@@ -1,5 +1,5 @@
 -- Defines how a call on a tenant's file ends in a simulated world.
--- Used by: src/world/calls.rt, src/world/stopped_calls.rt, mw_player.
+-- Used by: src/world/calls.rt, src/world/stopped_calls.rt, mwreplay.
 use Rattle.std.specs.Prelude.{ℕ, ◌≡◌, ◌⊎◌, Bool, true, false, length, Option, Some, None, Result, Ok, Err}
 use Rattle.mw_words.specs.declared.places.At.TheVariants.{Door as AtDoor, Status as AtStatus}
 use Rattle.mw_words.specs.declared.statuses.Status.{Status}

@@ -1,5 +1,5 @@
 -- Defines what each event does to a simulated world, and what a run of events does.
--- Used by: src/laws.rt, src/world/events.rt, src/world/new_worlds.rt, src/world/restarts.rt, mw_player, mw_table_tests.
+-- Used by: src/laws.rt, src/world/events.rt, src/world/new_worlds.rt, src/world/restarts.rt, mwreplay, mw_table_tests.
 use Rattle.std.specs.Prelude.{ℕ, ◌≡◌, ◌<◌, ◌==◌, ◌&&◌, ◌⊎◌, Bool, true, false, not, List, [], ◌∷◌, ◌++◌, length, take, nat_lt, slice_get, Option, Some, None, Result, Ok, Err}
 use Rattle.std.specs.List.{list_any, find}
 use Rattle.std.specs.Option.{unwrap_or}

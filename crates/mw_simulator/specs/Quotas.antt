@@ -1,4 +1,4 @@
--- Defines the quotas that a start gives the tenants of a simulated world. Used by: src/world/restarts.rt, mw_player.
+-- Defines the quotas that a start gives the tenants of a simulated world. Used by: src/world/restarts.rt, mwreplay.
 use Rattle.std.specs.Prelude.{ℕ, ◌≡◌, ◌≤◌, List, slice_get, Option, Some}
 use Rattle.std.specs.Option.{option_map_or, unwrap_or}
 use Rattle.mw_world_file.specs.Books.{places_of_file}

@@ -1,6 +1,6 @@
 -- Defines which world of the definition (mw_world) a simulated world represents.
 -- Used by: src/world/calls.rt, src/world/events.rt, src/world/restarts.rt, src/world/stopped_calls.rt, src/world/turns.rt,
--- mw_player, mw_table_tests.
+-- mwreplay, mw_table_tests.
 use Rattle.std.specs.Prelude.{ℕ, ◌≡◌, ◌<◌, ◌≤◌, length, slice_get, Option, Some, None, Result, Ok, Err}
 use Rattle.mw_actor.specs.ActorState.{ActorState}
 use Rattle.mw_world_file.specs.Books.{Represents as ShowsFile, places_of_file, quota_of}

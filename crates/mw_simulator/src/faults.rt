@@ -1,6 +1,6 @@
 //! The reasons for which the simulator refuses an event.
 //!
-//! mw_player and mw_world_trials make their own faults of it (`PlayFault`, `Fault`). A new kind needs a case there
+//! mwreplay and mw_world_trials make their own faults of it (`PlayFault`, `Fault`). A new kind needs a case there
 //! and in `specs/Events`.
 
 use mw_world_file::BookFault;

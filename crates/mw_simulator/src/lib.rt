@@ -12,9 +12,9 @@
 //!   of what was played (`serves`).
 //! - *Proved*: a crash leaves the words of the tenant's store alone, with the change in doubt or without
 //!   ([`every_image_is_of_store`]).
-//! - *Tested only*: that a start goes by the image of the cut call's own bytes (`torn-gate` of mw_player_tests).
+//! - *Tested only*: that a start goes by the image of the cut call's own bytes (`torn-gate` of scripts/text_parts).
 //!
-//! Used by: mw_world_trials, mw_table_tests, mw_player.
+//! Used by: mw_world_trials, mw_table_tests, mwreplay.
 #![tactic(auto)]
 
 mod faults;

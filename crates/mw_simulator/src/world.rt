@@ -1,6 +1,6 @@
 //! A simulated world: a server's tenants, workers and files as one value in memory.
 //!
-//! Used by: mw_player, mw_table_tests, mw_world_trials. `specs/Representation` says which world of the definition it
+//! Used by: mwreplay, mw_table_tests, mw_world_trials. `specs/Representation` says which world of the definition it
 //! represents: change it with a field.
 ghost use Rattle.std.specs.Prelude.{◌≡◌, length};
 ghost use Rattle.mw_world.specs.Definition.State.{IsConfig};

@@ -1,5 +1,5 @@
-//! Tests a tenant's store alone, the plain store, what a server is started with, and what is shown of a tenant's
-//! file. The tests are apart from the crates that they test, so that those are proved once.
+//! Tests a tenant's store alone, the plain store, and which command lines start a server. The tests are apart from the
+//! crates that they test, so that those are proved once.
 #![tactic(auto)]
 
 #[cfg(test)]
@@ -10,5 +10,3 @@ mod lone_tests;
 mod plain_tests;
 #[cfg(test)]
 mod same;
-#[cfg(test)]
-mod show_tests;

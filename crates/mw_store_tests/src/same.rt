@@ -24,8 +24,3 @@ pub(crate) const MEMORY: &str = "memory";
 pub(crate) fn same_text<R: Abort>(rt: &R, row: &str, found: &str, wanted: &str) {
     assert!(rt; found == wanted, "{row}: {found:?} in place of {wanted:?}");
 }
-
-/// Checks that something is so, in this row of a test.
-pub(crate) fn holds<R: Abort>(rt: &R, row: &str, is_so: bool) {
-    assert!(rt; is_so, "{row}");
-}

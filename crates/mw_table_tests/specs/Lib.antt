@@ -1,5 +1,4 @@
 pub mod Reached
 pub mod Readers
 pub mod ReadRequests
-pub mod Ready
 pub mod Worlds

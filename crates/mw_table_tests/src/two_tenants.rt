@@ -1,4 +1,6 @@
-//! The configuration of two small tenants, on which tests and measurements of the table run.
+//! The configuration of two small tenants, with which a table begins.
+//!
+//! Used by: `making_tests`.
 
 ghost use Rattle.std.specs.Prelude.{◌≡◌, [], ◌∷◌};
 ghost use Rattle.mw_world.specs.Definition.State.{IsConfig, no_tenant};

@@ -1,18 +1,14 @@
 //! What tests of other crates share. Peers of sessions: a reader and a writer that fail when they are told to, sweeps over
-//! each place of failure, a service in memory, and clients over sockets. New folders. They are here, on few libraries,
-//! because a function takes longer to prove over many.
+//! each place of failure, and a service in memory. They are here, on few libraries, because a function takes longer to
+//! prove over many.
 //!
-//! Used by: mw_examples, mw_serving_tests, mw_http_tests, mw_engine_tests.
+//! Used by: mw_serving_tests, mw_http_tests, mw_engine_tests.
 #![tactic(auto)]
 
-mod callers;
-mod folders;
 mod peers;
 mod shelf;
 mod sweeps;
 
-pub use callers::{Caller, Habit, Place, come_and_go};
-pub use folders::new_folder;
 pub use peers::{Failure, Page, Sender};
 pub use shelf::{Clerk, Shelf};
 pub use sweeps::{INPUT, OUTPUT, replied};

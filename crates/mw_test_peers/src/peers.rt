@@ -1,6 +1,6 @@
 //! A reader and a writer that fail when they are told to, for tests of sessions.
 //!
-//! Used by: mw_engine_tests, mw_http_tests, mw_serving_tests. It may change with these crates.
+//! Used by: mw_engine_tests, mw_serving_tests. It may change with these crates.
 ghost use Rattle.std.specs.Prelude.{Some};
 
 use arrayvec::ArrayVec;

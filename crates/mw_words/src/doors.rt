@@ -12,7 +12,7 @@ ghost use Rattle.mw_words.specs.Patterns.{IsDoorInRange, IsDoorOf, packed_door, 
 const FAULT: u32 = 63;
 
 /// The door of a tenant.
-#[derive(Clone, Copy, Debug, PartialEq, Eq)]
+#[derive(Clone, Copy, PartialEq, Eq)]
 pub struct Door {
     /// Whether the tenant's file has failed.
     pub fault: bool,

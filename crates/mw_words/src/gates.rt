@@ -17,7 +17,7 @@ const TAKEN: u32 = 63;
 const PINS: u32 = 48;
 
 /// The gate of a slot. A gate that isn't taken has no pins.
-#[derive(Clone, Copy, Debug, PartialEq, Eq)]
+#[derive(Clone, Copy, PartialEq, Eq)]
 pub struct Gate {
     /// Whether a worker has taken the slot for a change.
     pub taken: bool,

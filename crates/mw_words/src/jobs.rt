@@ -10,7 +10,7 @@ use crate::limits::{MAX_ENTRIES, MAX_VALUE};
 use arrayvec::ArrayVec;
 
 /// One word's part in a change: the word's address, the value that it must have, and its new value.
-#[derive(Clone, Copy, Debug, Default, PartialEq, Eq)]
+#[derive(Clone, Copy, Default, PartialEq, Eq)]
 pub struct Entry {
     /// The word's address.
     pub addr: u16,
@@ -24,7 +24,7 @@ pub struct Entry {
 pub type Entries = ArrayVec<Entry, MAX_ENTRIES>;
 
 /// What a tenant asks for: a read or a change.
-#[derive(Debug, PartialEq, Eq, Drop)]
+#[derive(PartialEq, Eq, Drop)]
 pub enum Job {
     /// The value of the word at this address.
     Get(u16),

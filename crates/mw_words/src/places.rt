@@ -3,10 +3,10 @@
 //!
 //! Used by: many crates from mw_look on. A new place needs its values in `specs/Places` of mw_look, its index in the
 //! table (`index_of` of mw_rule), and a case in mw_look (`observations.rt`), mw_table (`places.rt`, `at_start.rt`),
-//! mw_world_memory (`cells.rt`) and mw_player (`player.rt`).
+//! mw_world_memory (`cells.rt`) and mwreplay (`player.rt`).
 
 /// The place of a shared word: its owner, and which of the owner's words it is.
-#[derive(Clone, Copy, Debug, PartialEq, Eq)]
+#[derive(Clone, Copy, PartialEq, Eq)]
 pub enum At {
     /// The door of a tenant.
     Door(u8),

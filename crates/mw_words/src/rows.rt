@@ -15,7 +15,7 @@ const SLOT: u32 = 56;
 const ENTRY: u32 = 48;
 
 /// What a worker's latest attempt is for: an entry of a slot's change.
-#[derive(Clone, Copy, Debug, PartialEq, Eq)]
+#[derive(Clone, Copy, PartialEq, Eq)]
 pub struct Row {
     /// The slot.
     pub slot: u8,

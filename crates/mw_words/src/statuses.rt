@@ -17,7 +17,7 @@ const STATE: u32 = 60;
 const ENTRY: u32 = 48;
 
 /// How far the change of a slot has come.
-#[derive(Clone, Copy, Debug, PartialEq, Eq)]
+#[derive(Clone, Copy, PartialEq, Eq)]
 pub enum Status {
     /// Its worker writes the change into the slot. Nobody else works on it yet.
     Draft,

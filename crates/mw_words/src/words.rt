@@ -15,7 +15,7 @@ const KIND: u32 = 62;
 const OWNER: u32 = 48;
 
 /// A tenant's word: its value, or a reference in its place while a change works on the word.
-#[derive(Clone, Copy, Debug, PartialEq, Eq)]
+#[derive(Clone, Copy, PartialEq, Eq)]
 pub enum Word {
     /// A value, at most [`MAX_VALUE`].
     Plain(u64),

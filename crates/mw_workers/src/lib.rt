@@ -16,7 +16,7 @@
 //!   listener's promise.
 //! - *Proved*: [`serve_all`] and [`serve_beside`] ask for as many connections as are wanted.
 //! - *Tested only*: [`crossbeam_channel`]'s queue between them: that a connection comes out of it once (`crowd_tests`
-//!   of mw_serving_tests). Also that all workers begin, waits and turns (`desk_tests`, `scripts/check-crowd`).
+//!   of mw_serving_tests). Also that all workers begin, waits and turns (`scripts/check-scenes`, `scripts/check-crowd`).
 //!
 //! Used by: mw_programs. The proofs are about which connection is put where, and what its session read and wrote; of
 //! threads they say nothing. Change it with docs/PROTOCOL and docs/OPERATING.

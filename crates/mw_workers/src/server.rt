@@ -23,7 +23,7 @@ use std::time::Clock;
 pub const QUEUE: usize = 64;
 
 /// Tells how serving ended.
-#[derive(Clone, Copy, Debug, PartialEq, Eq)]
+#[derive(Clone, Copy, PartialEq, Eq)]
 pub enum ServeEnd {
     /// As many connections were taken as were asked for, and all of them were served.
     Served,

@@ -1,5 +1,5 @@
 -- The world's invariant (what holds at every moment of a run) holds at every start, and a new world is a world at a start.
--- Used by: starts_keep_the_invariant, new_worlds_start, mw_table, mw_simulator, mw_player.
+-- Used by: starts_keep_the_invariant, new_worlds_start, mw_table, mw_simulator, mwreplay.
 use Rattle.std.specs.Prelude.{◌+◌, ◌&&◌, if◌then◌else◌, List, [], ◌∷◌, length, nat_le, replicate, slice_index_or, sum_by, IsTrue, Option, Some, None}
 use Rattle.std.specs.List.{list_all}
 use Rattle.std.proofs.Common.{◌≡◌, ◌∙◌, ℕ, zero, suc, refl, subst, sym, inl, inr, arith}

@@ -7,7 +7,7 @@ use arrayvec::ArrayVec;
 use mw_words::{Entries, MAX_TENANTS, Name};
 
 /// A tenant of a world.
-#[derive(Debug, Default, Drop)]
+#[derive(Default, Drop)]
 pub struct Tenant {
     /// Its name.
     pub name: Name,
@@ -25,7 +25,7 @@ pub struct Tenant {
 
 /// The configuration of a world. In a new world each tenant has the quota that its [`Tenant`] tells, and its
 /// first file. The quotas together are at most `pool`, here and after each start.
-#[derive(Debug, Drop)]
+#[derive(Drop)]
 pub struct Config {
     /// How many slots there are, 1 to `MAX_POOL`.
     pub pool: u16,

@@ -1,7 +1,7 @@
 //! The events of a world: a request comes, a worker makes a step or a call on a file, a reply is handed out, a
 //! restart.
 //!
-//! Used by: mw_simulator, mw_schedule, mw_world_trials, mw_player, tests. `specs/Definition/Events` has the same
+//! Used by: mw_simulator, mw_schedule, mw_world_trials, mwreplay, tests. `specs/Definition/Events` has the same
 //! events for proofs: a new kind needs a case there, in `specs/Definition/World`, and in `World::step` of
 //! mw_simulator.
 
@@ -9,7 +9,7 @@ use mw_words::Job;
 pub use mw_world_file::Outcome;
 
 /// A call on a file that was interrupted: it never came to its end.
-#[derive(Clone, Copy, Debug, PartialEq, Eq)]
+#[derive(Clone, Copy, PartialEq, Eq)]
 pub struct Interrupted {
     /// The worker whose next step is the call.
     pub worker: u8,

@@ -8,7 +8,7 @@ use mw_actor::Slot;
 use mw_words::Status;
 
 /// What one change has done to one of its words. A word goes through these phases in order, and may skip some.
-#[derive(Clone, Copy, Debug)]
+#[derive(Clone, Copy)]
 pub enum Phase {
     /// The change never held the word.
     Fresh,
@@ -22,7 +22,7 @@ pub enum Phase {
 
 /// What a step means. For what a request's marks mean, see [`Mark`](mw_lone::Mark): they are marks of the
 /// tenant's store alone.
-#[derive(Clone, Copy, Debug)]
+#[derive(Clone, Copy)]
 pub enum StepLabel {
     /// The step means nothing.
     Nothing,

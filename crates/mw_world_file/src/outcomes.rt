@@ -4,7 +4,7 @@
 //! `specs/Definition/Calls` of mw_world.
 
 /// How the device takes a call on a file.
-#[derive(Clone, Copy, Debug, PartialEq, Eq)]
+#[derive(Clone, Copy, PartialEq, Eq)]
 pub enum Outcome {
     /// No device call fails.
     Good,

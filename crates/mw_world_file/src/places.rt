@@ -10,7 +10,7 @@ use mw_words::{Entries, copy_of};
 use std::alloc::{AllocError, Global};
 
 /// A place of a file, and the change in it.
-#[derive(Debug, Drop)]
+#[derive(Drop)]
 pub(crate) enum Place {
     /// It has no change.
     Empty,

@@ -13,7 +13,7 @@ use mw_world::StepLabel;
 use std::alloc::{AllocError, Global};
 
 /// A slot was claimed for a request.
-#[derive(Clone, Copy, Debug)]
+#[derive(Clone, Copy)]
 struct Claim {
     /// The slot, with the sequence number of the claim.
     own: Slot,
@@ -25,7 +25,7 @@ struct Claim {
 /// the reply [`Fault`] was decided for it.
 ///
 /// [`Fault`]: mw_words::Reply::Fault
-#[derive(Debug, Drop)]
+#[derive(Drop)]
 pub struct ClaimLog {
     /// The claims, the latest last.
     claims: Vec<Claim>,

@@ -20,7 +20,7 @@ use std::mem;
 
 /// The marks of a tenant: those up to and including the last start, and the lines since. A line is a mark, or a
 /// reserved place without a mark.
-#[derive(Debug, Drop)]
+#[derive(Drop)]
 pub struct Lines {
     closed: Vec<Mark>,
     lines: Vec<Option<Mark>>,

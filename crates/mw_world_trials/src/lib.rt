@@ -1,4 +1,4 @@
-//! Tests random runs of worlds, and which schedules a player takes.
+//! Tests random runs of worlds, and runs that are written out event by event.
 //!
 //! In a trial of a small world workers take turns in any order, device calls fail, and all stops and starts again,
 //! also with other quotas, or from an old file. Then each tenant's marks are given to a new store alone with its
@@ -24,8 +24,6 @@ mod judge;
 mod larger;
 #[cfg(test)]
 mod run;
-#[cfg(test)]
-mod schedule_tests;
 #[cfg(test)]
 mod shares;
 #[cfg(test)]

@@ -1,11 +1,17 @@
-//! `mwreplay [--trace] FILE` plays a schedule.
+//! `mwreplay [--trace] FILE` plays a schedule: each line on a world in memory, and prints the replies.
 //!
-//! mw_player does the work (`replay_args`). Here are only the program's name, and what it says if it can't begin:
-//! change that with docs/SCHEDULES, and `memory` with `scripts/fail-each-allocation` too.
+//! `program` does the work. Here are only the program's name, and what it says if it can't begin: change that with
+//! docs/SCHEDULES and scripts/text_parts, and `memory` with `scripts/fail-each-allocation` too.
 #![tactic(auto)]
 
+mod lines;
+mod player;
+mod program;
+mod reasons;
+mod restarts;
+
+use crate::program::replay_args;
 use mw_main::{Program, run};
-use mw_player::replay_args;
 use std::process::ExitCode;
 
 const PROGRAM: Program = Program {

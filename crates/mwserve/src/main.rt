@@ -30,12 +30,11 @@ fn main(rt: HostRuntime) -> ExitCode {
             let mut errors = PromptErrors::new(rt.stderr());
             let network: ServerNetwork<'_, HostRuntime, EngineServes> = ServerNetwork::new(&rt);
             let end = ServerEnd::new();
-            let mut out = rt.stdout();
             return serve(
                 &rt,
                 network,
                 args,
-                &mut Printed::new(&mut out),
+                &mut Printed::new(rt.stdout()),
                 &mut errors,
                 &end,
             );
@@ -51,7 +50,7 @@ fn main(rt: HostRuntime) -> ExitCode {
                     &own,
                     network,
                     &apart.args,
-                    &mut Printed::new(&mut own.stdout()),
+                    &mut Printed::new(own.stdout()),
                     &mut errors,
                     &apart.end,
                 );

@@ -1,6 +1,6 @@
 //! Gives a request's next step: one operation on a shared word, or one call on its tenant's file.
 //!
-//! mw_core, mw_simulator, mw_player and mw_world_trials call `Actor::ask` before each step. A new point needs a case
+//! mw_core, mw_simulator, mwreplay and mw_world_trials call `Actor::ask` before each step. A new point needs a case
 //! here, in `specs/Asks` and in `specs/Parts`, and what `points.rt` names.
 ghost use Rattle.std.specs.Prelude.{IfSome, ◌≡◌, ◌<◌};
 ghost use Rattle.mw_words.specs.declared.limits.TheConstants.{WORN_NUMBER};

@@ -1,7 +1,7 @@
 //! Makes one call on a tenant's file under its lock: the call of the worker's own request, or of another one's.
 //!
 //! Only functions here and in `file_lock` take a file's lock. Each releases it before it returns, and makes nothing
-//! but calls on the file meanwhile (`specs/Errands`). So no atomic step is made under the lock.
+//! but calls on the file meanwhile (`specs/Errands`). So no other step is made under the lock.
 //!
 //! Used by: `serving`, which calls `combine`; `combiner`, which makes calls for others; it and tests call `file`.
 //! Change it with `specs/Errands`, `specs/FileCalls`, `specs/History`, `specs/Passes`, `specs/Replies` and

@@ -84,7 +84,7 @@ got_on first all place one begins at = ap (λ (ones : List SealedChange). slice_
 -- What a view that fits a run knows of a tenant's sealed changes.
 module _ (config : Config) (openings : ℕ → TenantStart) (before events : List WorldEvent) (state : State) (view : View) (tenant : ℕ) (played : IsExecution config openings (before ++ events) state)
     (known : ExtendsKnownRun view.known_run (Some (known_run_of config openings before events))) (fits : Fits config openings state events view) (there : tenant < tenants_of config) where
-  sealed_of_view : (more : List Entry) → AreNoStarts events → IsAskedChange state tenant more → AreSealed view tenant more (sealed_of openings state tenant)
+  unfoldable pub sealed_of_view : (more : List Entry) → AreNoStarts events → IsAskedChange state tenant more → AreSealed view tenant more (sealed_of openings state tenant)
   sealed_of_view more none stake =
       let right = sealed_are_right config openings (before ++ events) state tenant played there in
       record {

@@ -1,6 +1,6 @@
 //! Makes the events of a simulated world, and tells its state: the public calls.
 //!
-//! Used by: mw_player, mw_table_tests, mw_world_trials. Its contracts are in `specs/Events`, `specs/ServiceAlone`,
+//! Used by: mwreplay, mw_table_tests, mw_world_trials. Its contracts are in `specs/Events`, `specs/ServiceAlone`,
 //! `specs/Crashes`, `specs/DisksOfCalls`, `specs/UnchangedParts` and `specs/Invariant`. PROMISES, THEOREM and
 //! HOW-IT-IS-PROVED cite `step` or `run`.
 ghost use Rattle.std.specs.Prelude.{◌≡◌, ◌<◌, ◌++◌, List, Some, None, IfOk, IsTrue, MatchOption, OnErr, slice_get, length};

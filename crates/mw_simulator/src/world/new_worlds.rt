@@ -1,6 +1,6 @@
 //! Makes a new world: no worker has a request, and each file is new or an old one.
 //!
-//! mw_player and tests begin with `World::new`. `restarts.rt` uses the rest. Change it with `specs/Invariant`,
+//! mwreplay and tests begin with `World::new`. `restarts.rt` uses the rest. Change it with `specs/Invariant`,
 //! `specs/Events`, `specs/ServiceAlone` and `specs/Starts`.
 ghost use Rattle.std.specs.Prelude.{◌≡◌, ℕ, ◌≤◌, [], All, Bool, IfOk, IsTrue, List, length};
 ghost use Rattle.mw_world.specs.Definition.State as spec;

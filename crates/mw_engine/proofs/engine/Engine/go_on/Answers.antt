@@ -1,6 +1,7 @@
 -- Goals of `Engine::go_on` (src/serving.rt).
 use Rattle.mw_engine.proofs.Branded.{still_of}
 use Rattle.mw_engine.proofs.StepOrFileCall.{stepped_files, stepped_same, stepped_serves, stepped_way}
+use Rattle.mw_engine.proofs.TurnsOfRequests.{stepped_turn}
 use Rattle.mw_engine.proofs.engine.Engine.go_on.Goals as goal
 
 pub returns-then-has_planted-clause-call : goal.returns-then-has_planted-clause-call
@@ -46,3 +47,13 @@ pub returns-else-was_planting-clause-request : goal.returns-else-was_planting-cl
 returns-else-was_planting-clause-request g c =
     let step = c.step in
     stepped_same c.args.pass.now step.new.pass c.args.actor.now step.new.actor step.result c.requires.running step.ensures.steps
+
+pub returns-then-has_planted-clause-turn : goal.returns-then-has_planted-clause-turn
+returns-then-has_planted-clause-turn g c =
+    let step = c.step in
+    stepped_turn g.D.Disk.facts g.J.EngineBrand.identity c.args.pass.now step.new.pass c.args.actor.now step.new.actor step.result step.ensures.steps
+
+pub returns-else-was_planting-clause-turn : goal.returns-else-was_planting-clause-turn
+returns-else-was_planting-clause-turn g c =
+    let step = c.step in
+    stepped_turn g.D.Disk.facts g.J.EngineBrand.identity c.args.pass.now step.new.pass c.args.actor.now step.new.actor step.result step.ensures.steps

@@ -11,6 +11,7 @@ use Rattle.mw_engine.proofs.Histories.{begun_serves, served_stands}
 use Rattle.mw_engine.proofs.RepliesOfJobs.{begins_way, first_way}
 use Rattle.mw_engine.proofs.RequestsMayCome.{made_may_come}
 use Rattle.mw_engine.proofs.RequestAfterFileCall.{answered_so}
+use Rattle.mw_engine.proofs.TurnsOfRequests.{just_came, one_more_turn}
 use Rattle.mw_engine.proofs.engine.Engine.serve.Goals as goal
 
 pub begin-requires-clause-may : goal.begin-requires-clause-may
@@ -39,6 +40,22 @@ loop-init g c =
       way = begins_way old new actor next begins serves (subst (λ (one : ActorState). IsOnItsWay one.job one.point) (sym is) (first_way c.args.tenant c.copy.result));
       carried = c.begin.ensures.carried;
       call = serves;
+      turns = just_came g.D.Disk.facts identity old new c.args.tenant c.args.job.now c.copy.result actor next c.copy.ensures is begins;
+    }
+
+pub loop-preserved : goal.loop-preserved
+loop-preserved g c =
+    let inv = c.loop.invariant in
+    let gone = c.go_on.ensures in
+    record {
+      own = gone.own;
+      worker = gone.worker ∙ inv.worker;
+      its = gone.request.same_tenant ∙ inv.its;
+      same_job = gone.request.same_job ∙ inv.same_job;
+      way = gone.way inv.way;
+      carried = gone.carried;
+      call = gone.call c.args.pass.now.seat.me.0 inv.call;
+      turns = one_more_turn g.D.Disk.facts g.J.EngineBrand.identity c.args.pass.now c.args.tenant c.args.job.now c.loop.pass c.loop.actor c.go_on.new.pass c.go_on.new.actor inv.turns gone.turn;
     }
 
 pub returns-in-Some-reply-clause-answered : goal.returns-in-Some-reply-clause-answered
@@ -52,3 +69,12 @@ returns-in-Some-reply-clause-answered g c =
     subst (λ (one : Option Reply). OutcomeAs one first pass.seat.me.0 actor) (sym c.reply.ensures ∙ c.in-Some-reply.is) (served_stands first pass.seat.me.0 actor inv.call) in
     subst (λ (view : View). IsAnswered first view c.args.tenant c.args.job.now reply) (λ i. (sym c.rest.ensures.rested.same_seat i).me.0)
     (answered_so first pass.seat.me.0 actor c.args.tenant c.args.job.now reply inv.its inv.same_job answered)
+
+pub returns-in-Some-reply-clause-calls : goal.returns-in-Some-reply-clause-calls
+returns-in-Some-reply-clause-calls g c = record {
+  last = c.loop.pass;
+  actor = c.loop.actor;
+  brought = c.loop.invariant.turns;
+  has_reply = sym c.reply.ensures ∙ c.in-Some-reply.is;
+  rests = c.rest.ensures.rested;
+}

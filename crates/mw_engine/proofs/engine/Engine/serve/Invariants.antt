@@ -4,6 +4,7 @@ use Rattle.mw_core.specs.FromTable.{IsCarried, IsOfSameWorker}
 use Rattle.mw_engine.specs.History.{IsInProgress}
 use Rattle.mw_engine.specs.Passes.{IsPassOf}
 use Rattle.mw_engine.specs.Replies.{IsOnItsWay}
+use Rattle.mw_engine.specs.RequestTurns.{IsBroughtTo}
 use Rattle.mw_engine.proofs.engine.Engine.serve.Given as goal
 
 -- the request has come, and is under way or has its reply
@@ -16,4 +17,5 @@ invariant-loop g l = record {
   way : IsOnItsWay l.actor.job l.actor.point;
   carried : IsCarried l.pass l.actor;
   call : IsInProgress l.fn.pass.seat.me.0 l.pass.seat.me.0 l.actor;
+  turns : IsBroughtTo g.D.Disk.facts g.J.EngineBrand.identity l.fn.pass l.tenant l.job l.pass l.actor;
 }

@@ -7,7 +7,7 @@ invariant_of-self g c =
     let old = c.args.self.now in
     let copied = c.copy_bytes in
     record {
-      kept = still_keeps g.D.Disk.facts g.J.EngineBrand.identity old.book copied.new.self old.file_pass old.tenant copied.ensures.read copied.ensures.represents old.kept;
+      kept = still_keeps g.D.Disk.facts g.J.EngineBrand.identity old.book copied.new.self old.file_pass old.tenant copied.result copied.ensures.read copied.ensures.represents copied.ensures.ends old.kept;
     }
 
 pub returns : goal.returns

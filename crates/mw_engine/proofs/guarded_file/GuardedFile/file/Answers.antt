@@ -26,8 +26,8 @@ invariant_of-self g c =
     let taken = sym c.take.ensures.value ∙ c.in-Some.is in
     record {
       kept = keeps_some facts identity made.new.book made.result old.tenant
-          (kept_over facts c.args.core.now.shared identity c.requires.engine _ c.args.pass.now made.new.pass c.args.actor.now made.new.actor old.book made.new.book file_pass made.result (old.kept.kept file_pass taken)
-          made.ensures.files made.ensures.file_pass made.ensures.whose made.ensures.agrees)
+          (kept_over facts c.args.core.now.shared identity c.requires.engine _ c.args.pass.now made.new.pass c.args.actor.now made.new.actor old.book made.new.book file_pass made.result c.requires.own c.requires.carried
+          (old.kept.its file_pass taken ∙ c.requires.whose) (old.kept.kept file_pass taken) made.ensures.files made.ensures.file_pass made.ensures.whose made.ensures.follows made.ensures.known made.ensures.agrees)
           (made.ensures.whose ∙ old.kept.its file_pass taken);
     }
 
@@ -47,8 +47,8 @@ returns-clause-files g c =
       file_pass = file_pass;
       returned = made.result;
       kept_before = kept;
-      kept_after = kept_over facts c.args.core.now.shared identity c.requires.engine _ c.args.pass.now made.new.pass c.args.actor.now made.new.actor old.book made.new.book file_pass made.result kept
-          made.ensures.files made.ensures.file_pass made.ensures.whose made.ensures.agrees;
+      kept_after = kept_over facts c.args.core.now.shared identity c.requires.engine _ c.args.pass.now made.new.pass c.args.actor.now made.new.actor old.book made.new.book file_pass made.result c.requires.own c.requires.carried
+          its kept made.ensures.files made.ensures.file_pass made.ensures.whose made.ensures.follows made.ensures.known made.ensures.agrees;
       its = its;
       its_still = made.ensures.whose ∙ its;
       follows = made.ensures.follows;

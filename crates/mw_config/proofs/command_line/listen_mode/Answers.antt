@@ -1,0 +1,7 @@
+-- Goals of `listen_mode` (src/command_line.rt).
+use Rattle.std.proofs.Common.{refl}
+use Rattle.mw_config.proofs.command_line.listen_mode.Goals as goal
+
+-- the address is the one that was given
+pub returns-clause-listens : goal.returns-clause-listens
+returns-clause-listens c = (_, refl, c.in_ok-address.ensures.address)

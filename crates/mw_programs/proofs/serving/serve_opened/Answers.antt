@@ -1,0 +1,19 @@
+-- Goals of `serve_opened` (src/serving.rt).
+use Rattle.std.proofs.Common.{rules}
+use Rattle.mw_engine.specs.Parts.{identity_of}
+use Rattle.mw_programs.proofs.serving.serve_opened.Goals as goal
+
+-- the engine begins with the files that the start opened, for the lines that it read
+pub serve_engine-requires-clause-promise : goal.serve_engine-requires-clause-promise
+serve_engine-requires-clause-promise g c κs within =
+    let start = c.requires.opened in
+    c.requires.promise (identity_of c.in_ok-parts.parts) (record {
+      args = c.args.setup.now.args;
+      lines = c.args.setup.now.lines.items;
+      read = c.requires.read;
+      files = start.files;
+      opened = start.opened;
+      named = search rules;
+      begins = search rules;
+      disks = search rules;
+    })

@@ -1,0 +1,16 @@
+//! Tests the table of shared words, and two threads that drive requests on one. The tests are apart from the crates
+//! that they test, so that those are proved once.
+#![tactic(auto)]
+
+#[cfg(test)]
+mod making_tests;
+#[cfg(test)]
+mod race_tests;
+#[cfg(test)]
+mod reading_tests;
+#[cfg(test)]
+mod two_tenants;
+#[cfg(test)]
+mod world_table;
+#[cfg(test)]
+mod worlds;
