@@ -6,5 +6,6 @@ mod Made
 pub mod MakesLaws
 pub mod Plans
 pub mod Remembered
+mod Repeated
 pub mod RunLaws
 pub mod TornBytes

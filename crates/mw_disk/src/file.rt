@@ -1,21 +1,24 @@
 //! Implements the disk of a served tenant: a file of the system, read, written and synced.
 //!
-//! Used by: mw_opening, which opens each tenant's file as one; mw_opening_tests. By `specs/Unknown` contracts promise
-//! nothing of its bytes. It must keep the contracts of `device.rt`.
-ghost use Rattle.std.specs.Prelude.{◌≡◌, ◌+◌, min, is_ok, IsErr, MatchResult, if◌then◌else◌};
+//! Used by: mw_opening, which opens each tenant's file as one; mw_opening_tests. Contracts promise nothing of its bytes
+//! (`specs/Unknown`), but which calls it makes on the file (`specs/FileCalls`). It must keep the contracts of `device.rt`.
+ghost use Rattle.std.specs.Prelude.{◌≡◌, ◌+◌, ◌<◌, ◌≤◌, ◌^◌, true, false, length, min, is_ok, IsErr, MatchResult, if◌then◌else◌};
+ghost use Rattle.mw_disk.specs.DeviceCalls.{ReadAt, WriteAt, Sync, Length};
 ghost use Rattle.mw_disk.specs.Facts.{most_counted};
+ghost use Rattle.mw_disk.specs.FileCalls.{IsMadeOnFile};
 ghost use Rattle.mw_disk.specs.Unknown.{unknown};
 
 use crate::device::{Disk, DiskFault};
-use std::fs::{Metadata, OpenFile};
+use crate::disk_file::DiskFile;
+use std::fs::Metadata;
 use std::io;
 use std::io::ErrorKind;
-use std::os::unix::fs::FileExt;
 
 /// A disk over a file, such as a `std::fs::File`. No contract knows its bytes. Its calls take no memory.
 ///
-/// It continues a read or a write that stops short, and makes an interrupted call again. A range that ends
-/// past `2^63 - 1`, the greatest size of a file, is a fault.
+/// It makes a sync or a question of the length again if it was interrupted. A range that ends past `2^63 - 1`, the greatest
+/// size of a file, is a fault. It makes only the call that it is asked for, and tells how it went ([`Disk`]'s clause `made`,
+/// by `specs/FileCalls`).
 #[derive(Drop)]
 pub struct FileDisk<F> {
     file: F,
@@ -53,38 +56,30 @@ impl<F> FileDisk<F> {
     }
 }
 
-impl<F: FileExt + OpenFile> Disk for FileDisk<F> {
+impl<F: DiskFile> Disk for FileDisk<F> {
     ghost facts = { λ d. unknown d.faults };
 
-    ghost made = { λ _ _ _ _. Unit {0} };
+    ghost made = { λ call well old new. IsMadeOnFile F.made call well old.file new.file };
 
     fn read_at(&mut self, at: u64, out: &mut [u8]) -> Result<(), DiskFault> {
-        let read = if is_in_file(at, out.len()) {
-            self.file.read_exact_at(out, at)
-        } else {
-            Err(io::Error::from(ErrorKind::InvalidInput))
-        };
+        let read = read(&mut self.file, at, out);
         self.ended(read)
     }
 
     fn write_at(&mut self, at: u64, bytes: &[u8]) -> Result<(), DiskFault> {
-        let written = if is_in_file(at, bytes.len()) {
-            self.file.write_all_at(bytes, at)
-        } else {
-            Err(io::Error::from(ErrorKind::InvalidInput))
-        };
+        let written = write(&mut self.file, at, bytes);
         self.ended(written)
     }
 
     fn sync(&mut self) -> Result<(), DiskFault> {
-        let synced = sync_data(&self.file);
+        let synced = sync(&mut self.file);
         self.ended(synced)
     }
 
     fn len(&mut self) -> Result<u64, DiskFault> {
-        let metadata = metadata(&self.file);
-        match self.ended(metadata) {
-            Ok(metadata) => Ok(metadata.len()),
+        let told = ask(&mut self.file);
+        match self.ended(told) {
+            Ok(told) => Ok(told.len()),
             Err(fault) => Err(fault),
         }
     }
@@ -95,31 +90,68 @@ impl<F: FileExt + OpenFile> Disk for FileDisk<F> {
 }
 
 // Tells whether a file may have a range of so many bytes at this offset.
-fn is_in_file(at: u64, len: usize) -> bool {
+fn is_in_file(at: u64, len: usize) -> bool
+    ensures within { result ≡ true → at + len < 2 ^ 63 }
+    ensures past { result ≡ false → 2 ^ 63 ≤ at + len }
+{
     match at.checked_add(len as u64) {
         Some(end) => end <= i64::MAX as u64,
         None => false,
     }
 }
 
-// Does what `OpenFile::sync_data` does, and does it again if it is interrupted.
-fn sync_data(file: &impl OpenFile) -> io::Result<()> {
-    for _ in 0..u64::MAX {
-        match file.sync_data() {
-            Err(error) if error.kind() == ErrorKind::Interrupted => {}
-            done => return done,
-        }
+// Fills the slice with the bytes from `at` on.
+fn read<F: DiskFile>(file: &mut F, at: u64, out: &mut [u8]) -> io::Result<()>
+    ensures made { IsMadeOnFile F.made (ReadAt at (length out.old)) (is_ok result) file.old file.new }
+{
+    if !is_in_file(at, out.len()) {
+        return Err(io::Error::from(ErrorKind::InvalidInput));
     }
-    Err(io::Error::from(ErrorKind::Interrupted))
+    file.read_all(out, at)
 }
 
-// Does what `OpenFile::metadata` does, and does it again if it is interrupted.
-fn metadata(file: &impl OpenFile) -> io::Result<Metadata> {
+// Writes the bytes from `at` on.
+fn write<F: DiskFile>(file: &mut F, at: u64, bytes: &[u8]) -> io::Result<()>
+    ensures made { IsMadeOnFile F.made (WriteAt at bytes.now) (is_ok result) file.old file.new }
+{
+    if !is_in_file(at, bytes.len()) {
+        return Err(io::Error::from(ErrorKind::InvalidInput));
+    }
+    file.write_all(bytes, at)
+}
+
+// Makes what was written durable, and tries again if that is interrupted.
+fn sync<F: DiskFile>(file: &mut F) -> io::Result<()>
+    ensures made { IsMadeOnFile F.made Sync (is_ok result) file.old file.new }
+{
     for _ in 0..u64::MAX {
-        match file.metadata() {
-            Err(error) if error.kind() == ErrorKind::Interrupted => {}
-            done => return done,
+        let synced = file.sync_once();
+        if !is_interrupted(&synced) {
+            return synced;
         }
     }
-    Err(io::Error::from(ErrorKind::Interrupted))
+    file.sync_once()
+}
+
+// Asks what the system tells of the file, and tries again if that is interrupted.
+fn ask<F: DiskFile>(file: &mut F) -> io::Result<Metadata>
+    ensures made { IsMadeOnFile F.made Length (is_ok result) file.old file.new }
+{
+    for _ in 0..u64::MAX {
+        let told = file.told();
+        if !is_interrupted(&told) {
+            return told;
+        }
+    }
+    file.told()
+}
+
+// Tells whether a call was interrupted, so that it must be made again.
+fn is_interrupted<T>(outcome: &io::Result<T>) -> bool
+    ensures { result ≡ true → is_ok outcome.now ≡ false }
+{
+    match outcome {
+        Ok(_) => false,
+        Err(error) => error.kind() == ErrorKind::Interrupted,
+    }
 }

@@ -21,6 +21,10 @@ module _ (words : TenantWords) (identity : Identity) (same : identity_on words.c
   pub same_lines : lines_told words ≡ identity.lines
   same_lines = ap (λ (one : Identity). one.lines) same
 
+  -- with the identity's own lines, the shared words have just this identity
+  pub with_own_lines : identity_on words.core.shared identity.lines identity.disks ≡ identity
+  with_own_lines = subst (λ (lines : List Line). identity_on words.core.shared lines identity.disks ≡ identity) same_lines same
+
   same_config : config_of words.core.shared.table.shared.key ≡ identity.config
   same_config = ap (λ (one : Identity). one.config) same
 

@@ -2,3 +2,4 @@ pub mod MadeOfOpened
 pub mod SyncedOpenings
 pub mod TenantsAtPath
 pub mod FromBelow
+pub mod WatchedCalls

@@ -222,11 +222,6 @@ impl FileState {
         let end = offset.saturating_add(bytes.len() as u64);
         self.size.fetch_max(end, Ordering::SeqCst);
     }
-
-    /// Keeps that the file was given this size.
-    pub(crate) fn keep_size(&self, size: u64) {
-        self.size.store(size, Ordering::SeqCst);
-    }
 }
 
 /// Fails, as of a file that was replaced, if this holds.

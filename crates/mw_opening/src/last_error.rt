@@ -25,14 +25,17 @@ impl LastError {
         }
     }
 
-    /// Keeps the error of an outcome, and gives the outcome back. An interrupted call is made again, so its error isn't kept.
+    /// Keeps the error of an outcome, if the system told it, and gives the outcome back. An interrupted call is made again, so its
+    /// error isn't kept.
     pub(crate) fn keep<T: Drop>(&self, outcome: io::Result<T>) -> io::Result<T>
         ensures { result ≡ outcome }
     {
         if let Err(error) = &outcome {
-            if error.kind() != ErrorKind::Interrupted {
-                self.0
-                    .store(error.raw_os_error().unwrap_or(0), Ordering::SeqCst);
+            match error.raw_os_error() {
+                Some(code) if error.kind() != ErrorKind::Interrupted => {
+                    self.0.store(code, Ordering::SeqCst);
+                }
+                _ => {}
             }
         }
         outcome

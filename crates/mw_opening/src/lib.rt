@@ -3,11 +3,12 @@
 //! [`read_tenants_file`] reads the tenants. [`open_parts`] opens their files, each on a disk that [`LockedFiles`]
 //! opens, and makes an engine's parts of them. [`sync_folders`] syncs their folders. Such a file is a
 //! [`WatchedFile`], which times its calls and counts them, and keeps in a [`FileState`] what is known of it.
-//! [`open_plain`] opens a file only if it is plain. [`Notes`] writes notes.
+//! [`OpensPaths::open_plain`] opens a file only if it is plain. [`Notes`] writes notes.
 //!
 //! - *What a contract says*: [`open_parts`] makes the parts of just the files that it opened, each synced before and
 //!   fit for its line. A tenant has none only for a cause. [`read_tenants_file`] gives the tenants of the text at its path.
-//! - *Proved*: each disk is over what the runtime opened at the line's path, and the text is what the runtime read.
+//! - *Proved*: each disk is over what the runtime opened at the line's path, and the text is what the runtime read. A
+//!   [`WatchedFile`] makes no call below but its own, and before a write a question of the length.
 //! - *Tested only*: what the system has there, refusals, locks, folders, notes (`scripts/check-stories`, `scripts/check-locks`,
 //!   `scripts/check-refusals`, `scripts/check-new-file`).
 //!
@@ -35,6 +36,6 @@ pub use lease_file::{LeaseFault, LeaseFile};
 pub use notes::{NoteForm, Notes, note_cause, note_place, note_why};
 pub use opened_parts::{OpenedParts, are_all_open, open_parts};
 pub use opening::{TenantsFault, read_tenants_file};
-pub use plain_file::{ReadFault, open_plain, read_plain};
+pub use plain_file::{ReadFault, read_plain};
 pub use tenant_disks::{LockedFiles, Opened, OpensDisks, OpensPaths, TenantDisk};
 pub use watched_file::WatchedFile;

@@ -1,6 +1,6 @@
 //! Opens the tenants file or the script, if it is a plain file, and reads the first.
 //!
-//! Used by: `opening`, `tenant_disks`; mw_programs. scripts/check-stories and scripts/check-refusals expect its text. Of a file
+//! Used by: `opening`, `tenant_disks`. scripts/check-stories and scripts/check-refusals expect its text. Of a file
 //! of the system no contract says what a reading gives; that of `fill` is for any reader.
 ghost use Rattle.std.specs.Io.KnownBytes.{Consumes, IsAtEnd};
 ghost use Rattle.std.specs.Prelude.{◌≡◌, ◌<◌, ◌≤◌, length, take, IfOk};

@@ -11,14 +11,14 @@ ghost use Rattle.mw_opening.specs.declared.file_fault.FileFault.{FileFault as Fa
 use crate::file_fault::FileFault;
 use crate::file_state::{FileStates, SeenFile};
 use crate::last_error::LastError;
-use crate::plain_file::{ReadFault, read_plain};
+use crate::plain_file::{ReadFault, open_plain, read_plain};
 use crate::watched_file::WatchedFile;
 use mw_disk::{Disk, FileDisk};
 use mw_file::TenantFile;
 use mw_metrics::{Meters, TenantCounters};
 use mw_words::MAX_TENANTS;
 use std::fs::{File, OpenOptions, TryLockError};
-use std::io;
+use std::io::{self, Read};
 use std::os::fd::AsRawFd;
 use std::rt::Files;
 use std::time::Clock;
@@ -50,14 +50,20 @@ pub trait OpensDisks {
         requires { tenant < MAX_TENANTS };
 }
 
-/// Opens the file at a path, under a lock, and reads a plain one. A server's code is for any runtime that does, so it has what a ghost
-/// member says only from a call. The other bounds of a runtime give it files of which nothing is known.
+/// Opens the file at a path, under a lock, and opens or reads a plain one. A server's code is for any runtime that does, so it has what a
+/// ghost member says only from a call. The other bounds of a runtime give it files of which nothing is known.
 pub trait OpensPaths {
+    /// A plain file that was opened for reading.
+    type Plain: Read + Drop;
+
     // This is the file at this path, which is given by its bytes.
     ghost is_at: { List ℕ → SystemFile → Type 0 };
 
     // The file at this path was not opened, for this fault.
     ghost is_refused: { List ℕ → Fault → Type 0 };
+
+    // This is the plain file at this path, and nothing of it was read yet.
+    ghost is_plain: { List ℕ → Self.Plain → Type 0 };
 
     // A reading of the file at this path gave this text, from the file's first byte to its end.
     ghost is_text: { List ℕ → List ℕ → Type 0 };
@@ -75,6 +81,14 @@ pub trait OpensPaths {
         ensures at { IfOk result (λ file. is_at path.now file) }
         ensures refused { IfErr result (λ fault. is_refused path.now fault) };
 
+    /// Opens the plain file at this path for reading.
+    ///
+    /// # Errors
+    ///
+    /// There is no file, it may not be read, or it isn't plain.
+    fn open_plain(&self, path: &str) -> Result<Self::Plain, ReadFault>
+        ensures plain { IfOk result (λ file. is_plain path.now file) };
+
     /// Reads the plain file at this path to its end, or until the room is full. Gives how many bytes it has read. If the room has more
     /// bytes, these are the whole text.
     ///
@@ -86,10 +100,14 @@ pub trait OpensPaths {
 }
 
 impl OpensPaths for HostRuntime {
+    type Plain = File;
+
     // No contract of the library says of which path a file is, what a reading of it gives, or why it isn't opened.
     ghost is_at = { λ _ _. Unit {0} };
 
     ghost is_refused = { λ _ _. Unit {0} };
+
+    ghost is_plain = { λ _ _. Unit {0} };
 
     ghost is_text = { λ _ _. Unit {0} };
 
@@ -100,6 +118,10 @@ impl OpensPaths for HostRuntime {
         tenant: usize,
     ) -> Result<File, FileFault> {
         open_locked(self, path, states, tenant)
+    }
+
+    fn open_plain(&self, path: &str) -> Result<File, ReadFault> {
+        open_plain(self, path)
     }
 
     fn read_plain(&self, path: &str, room: &mut [u8]) -> Result<usize, ReadFault> {

@@ -3,17 +3,19 @@
 //!
 //! Used by: `tenant_disks`, mw_opening_tests. Each call must give what the file's call gave, or an error if the file was
 //! given up, or others have cut or overwritten it.
-ghost use Rattle.std.specs.Prelude.{◌≡◌};
+ghost use Rattle.std.specs.Prelude.{◌≡◌, true, is_ok};
+ghost use Rattle.mw_disk.specs.DeviceCalls.{WriteAt, Length};
+ghost use Rattle.mw_opening.specs.WatchedCalls.{IsOnce, IsWatched};
 
 use crate::file_state::{FileState, SeenFile};
+use mw_disk::DiskFile;
 use mw_metrics::{DeviceCall, Stopwatch, TenantCounters};
-use std::fs::{Metadata, OpenFile};
+use std::fs::Metadata;
 use std::io::{self, ErrorKind};
-use std::os::unix::fs::FileExt;
 use std::time::Clock;
 
 /// A file of whose calls a state keeps the last error, which file it is, how long it must be, and how it must begin. Each call
-/// is one call of the file below, and gives what that gave.
+/// is one call of the file below, and gives what that gave. By `specs/WatchedCalls` it goes well only if that did.
 ///
 /// If the file was given up, the call fails, and none is made below. A call that asks for the length fails too if the file is
 /// shorter than it must be, or others have replaced, cut or overwritten it. So does a read at the front that gives other bytes
@@ -72,12 +74,25 @@ impl<'a, F, K: Clock> WatchedFile<'a, F, K> {
     }
 }
 
-impl<F: OpenFile, K: Clock> WatchedFile<'_, F, K> {
+impl<F: DiskFile, K: Clock> WatchedFile<'_, F, K> {
     /// Asks the file below for what the system tells of it, and keeps that.
-    fn ask(&self) -> io::Result<Metadata> {
-        let told = self.state.last_error().keep(self.file.metadata())?;
-        self.state.keep_seen(SeenFile::of(&told))?;
-        Ok(told)
+    fn ask(&mut self) -> io::Result<Metadata>
+        ensures { IsOnce F.made Length (is_ok result) self.old.file self.new.file }
+    {
+        let told = self.file.told();
+        keep_told(self.state, told)
+    }
+
+    /// Writes these bytes to the file below, and keeps that.
+    fn write_once(&mut self, bytes: &[u8], at: u64) -> io::Result<()>
+        ensures { F.made (WriteAt at bytes.now) (is_ok result) self.old.file self.new.file }
+    {
+        let started = self.start();
+        let written = self.file.write_all(bytes, at);
+        if written.is_ok() {
+            self.state.keep_written(at, bytes);
+        }
+        self.ended(DeviceCall::Write, started, written)
     }
 }
 
@@ -89,57 +104,70 @@ fn has_failed<T>(outcome: &io::Result<T>) -> bool {
     }
 }
 
-impl<F: FileExt + OpenFile, K: Clock> FileExt for WatchedFile<'_, F, K> {
-    fn read_at(&self, buf: &mut [u8], offset: u64) -> io::Result<usize> {
-        self.state.may_be_called()?;
-        let started = self.start();
-        let read = self.file.read_at(buf, offset);
-        let read = self.ended(DeviceCall::Read, started, read)?;
-        self.state.keep_read(offset, &buf[..read.min(buf.len())])?;
-        Ok(read)
-    }
-
-    fn write_at(&self, buf: &[u8], offset: u64) -> io::Result<usize> {
-        self.state.may_be_called()?;
-        if self.state.must_be_asked() {
-            self.ask()?;
-            self.state.keep_asked();
-        }
-        let started = self.start();
-        let written = self.file.write_at(buf, offset);
-        let written = self.ended(DeviceCall::Write, started, written)?;
-        self.state
-            .keep_written(offset, &buf[..written.min(buf.len())]);
-        Ok(written)
+/// Keeps what the system told of the file, or its error.
+fn keep_told(state: &FileState, told: io::Result<Metadata>) -> io::Result<Metadata>
+    ensures { is_ok result ≡ true → is_ok told ≡ true }
+{
+    match state.last_error().keep(told) {
+        Ok(told) => match state.keep_seen(SeenFile::of(&told)) {
+            Ok(()) => Ok(told),
+            Err(error) => Err(error),
+        },
+        Err(error) => Err(error),
     }
 }
 
-impl<F: OpenFile, K: Clock> OpenFile for WatchedFile<'_, F, K> {
-    fn metadata(&self) -> io::Result<Metadata> {
-        self.state.may_be_called()?;
+/// Keeps the bytes that a read gave, if it went well.
+fn keep_read(state: &FileState, at: u64, bytes: &[u8], read: io::Result<()>) -> io::Result<()>
+    ensures { is_ok result ≡ true → is_ok read ≡ true }
+{
+    match read {
+        Ok(()) => state.keep_read(at, bytes),
+        Err(error) => Err(error),
+    }
+}
+
+impl<F: DiskFile, K: Clock> DiskFile for WatchedFile<'_, F, K> {
+    ghost made = { λ call well old new. IsWatched F.made call well old.file new.file };
+
+    fn read_all(&mut self, out: &mut [u8], at: u64) -> io::Result<()> {
+        if let Err(error) = self.state.may_be_called() {
+            return Err(error);
+        }
+        let started = self.start();
+        let read = self.file.read_all(out, at);
+        let read = self.ended(DeviceCall::Read, started, read);
+        keep_read(self.state, at, out, read)
+    }
+
+    fn write_all(&mut self, bytes: &[u8], at: u64) -> io::Result<()> {
+        if let Err(error) = self.state.may_be_called() {
+            return Err(error);
+        }
+        if self.state.must_be_asked() {
+            if let Err(error) = self.ask() {
+                return Err(error);
+            }
+            self.state.keep_asked();
+            return self.write_once(bytes, at);
+        }
+        self.write_once(bytes, at)
+    }
+
+    fn sync_once(&mut self) -> io::Result<()> {
+        if let Err(error) = self.state.may_be_called() {
+            return Err(error);
+        }
+        let started = self.start();
+        let synced = self.file.sync_once();
+        self.state.keep_synced();
+        self.ended(DeviceCall::Sync, started, synced)
+    }
+
+    fn told(&mut self) -> io::Result<Metadata> {
+        if let Err(error) = self.state.may_be_called() {
+            return Err(error);
+        }
         self.ask()
-    }
-
-    fn set_len(&self, size: u64) -> io::Result<()> {
-        self.state.may_be_called()?;
-        self.state.last_error().keep(self.file.set_len(size))?;
-        self.state.keep_size(size);
-        Ok(())
-    }
-
-    fn sync_all(&self) -> io::Result<()> {
-        self.state.may_be_called()?;
-        let started = self.start();
-        let synced = self.file.sync_all();
-        self.state.keep_synced();
-        self.ended(DeviceCall::Sync, started, synced)
-    }
-
-    fn sync_data(&self) -> io::Result<()> {
-        self.state.may_be_called()?;
-        let started = self.start();
-        let synced = self.file.sync_data();
-        self.state.keep_synced();
-        self.ended(DeviceCall::Sync, started, synced)
     }
 }

@@ -1,13 +1,13 @@
 -- Defines what a console did with a script: it had a worker serve one session, which read a beginning of the script, and
--- printed its replies.
--- Used by: console.rt. A change here changes what is promised of a script: change docs/PROMISES and docs/JOINTS with it.
+-- printed its replies. Defines also when a server has run a script.
+-- Used by: console.rt, serving.rt. A change here changes what is promised of a script: change docs/PROMISES and docs/JOINTS with it.
 use Rattle.std.specs.Prelude.{◌≡◌, ℕ, List, Option}
 use Rattle.std.specs.Io.KnownBytes.{Appends, Consumes, IsAtEnd}
 use Rattle.mw_session.specs.StreamRecords.{ReadRecord, WriteRecord, no_reads, no_writes}
 use Rattle.mw_session.specs.declared.session.Ended.{Ended}
-use Rattle.mw_session.specs.declared.session.Ended.TheVariants.{PeerEnd}
+use Rattle.mw_session.specs.declared.session.Ended.TheVariants.{Memory, PeerEnd, Quit, ReadFault, TooLong, WriteFault}
 use Rattle.mw_engine.specs.Brand.{Identity}
-use Rattle.mw_engine.specs.Passes.{IsPassOf}
+use Rattle.mw_engine.specs.Passes.{IsNew, IsPassOf}
 use Rattle.mw_service.specs.EngineAnswers.{Pass}
 use Rattle.mw_service.specs.Served.{IsSession}
 
@@ -26,3 +26,24 @@ pub record IsOfScript (script printed now_printed : Option (List ℕ)) (identity
   pub is_read : Consumes script left reads.bytes
   pub at_end : ended ≡ PeerEnd → IsAtEnd left
   pub is_printed : Appends printed now_printed writes.bytes
+
+-- a session that ended by `QUIT`, with the script, or at a line that was too long
+abbrev pub EndedWell : Ended → Type 0
+EndedWell Quit = Unit {0}
+EndedWell PeerEnd = Unit {0}
+EndedWell TooLong = Unit {0}
+EndedWell ReadFault = ⊥
+EndedWell (WriteFault count) = ⊥
+EndedWell Memory = ⊥
+
+-- One session of the engine of this identity, by a worker with a new pass, was of the script that was opened at this path
+-- (`IsOfScript`), and ended well. `remaining` tells what a script has to give.
+pub record RunsScript {S : Type 0} (is_plain : List ℕ → S → Type 0) (remaining : S → Option (List ℕ)) (path : List ℕ) (printed now_printed : Option (List ℕ)) (identity : Identity) : Type 0 where
+  pub script : S
+  pub opened : is_plain path script
+  pub old : Pass
+  pub new : Pass
+  pub begins : IsNew identity old
+  pub ended : Ended
+  pub well : EndedWell ended
+  pub session : IsOfScript (remaining script) printed now_printed identity old new ended

@@ -38,15 +38,18 @@ pub(crate) struct HeldLease<'a> {
 }
 
 impl<'a> HeldLease<'a> {
-    /// Takes the lease of these terms, and beats it once. Writes a note if it can't be had.
+    /// Takes the lease of these terms, if there are some, and beats it once. Writes a note if it can't be had.
     pub(crate) fn take<R: Files<File = File> + Wait + Clock, L: Log>(
         rt: &R,
-        terms: &'a LeaseTerms,
+        terms: Option<&'a LeaseTerms>,
         meters: &'a Meters,
         notes: &L,
-    ) -> Result<Self, ServeFault> {
+    ) -> Result<Option<Self>, ServeFault> {
+        let Some(terms) = terms else {
+            return Ok(None);
+        };
         match HeldLease::begun(rt, terms, meters) {
-            Ok(held) => Ok(held),
+            Ok(held) => Ok(Some(held)),
             Err(fault) => Err(cannot_take(notes, terms.path.as_str(), &fault)),
         }
     }

@@ -301,6 +301,7 @@ pub(crate) fn first_worker<'a, J: EngineBrand, D: Disk, H, R, T>(
     watch: &'a T,
 ) -> Result<Worker<'a, J, D, H, R, T>, AllocError>
     requires { All (IsNew J.identity) passes.items }
+    ensures { IfOk result (λ worker. IsNew J.identity worker.pass) }
 {
     match passes.into_iter().next() {
         Some(pass) => Ok(Worker::new(engine, pass, rt, watch)),

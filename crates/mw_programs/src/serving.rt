@@ -2,16 +2,17 @@
 //!
 //! mwserve calls `serve`. docs/OPERATING tells its options, notes and statuses: change them
 //! together. Scripts expect notes (`git grep`).
-ghost use Rattle.std.specs.Prelude.{◌≡◌, ◌+◌, ◌<◌, ◌≤◌, All, IfOk, length, string_bytes, vec_len};
-ghost use Rattle.mw_config.specs.CommandLine.{ArePermittedArgs};
+ghost use Rattle.std.specs.Prelude.{◌≡◌, ◌+◌, ◌<◌, ◌≤◌, All, IfOk, IsOk, OnOk, length, map, string_bytes, vec_len};
+ghost use Rattle.mw_config.specs.CommandLine.{ArePermittedArgs, AreTaken, IsRefused};
 ghost use Rattle.mw_config.specs.Limits.{ArePermitted};
-ghost use Rattle.mw_config.specs.declared.command_line.Mode.TheVariants.{Listen};
+ghost use Rattle.mw_config.specs.declared.command_line.Mode.TheVariants.{Listen, Script};
 ghost use Rattle.mw_words.specs.declared.limits.TheConstants.{MAX_TENANTS, MAX_WORKERS};
 ghost use Rattle.mw_engine.specs.Passes.{IsNew};
-ghost use Rattle.mw_engine.specs.Parts.{identity_of};
+ghost use Rattle.mw_engine.specs.Parts.{identity_of, world_read};
 ghost use Rattle.mw_opening.specs.MadeOfOpened.{AreMadeOfOpened};
 ghost use Rattle.mw_opening.specs.TenantsAtPath.{AreReadAt};
-ghost use Rattle.mw_programs.specs.Promised.{Promises, PromisesOfStart};
+ghost use Rattle.mw_programs.specs.Promised.{HasServed, Promises, PromisesOfStart, ServesScript};
+ghost use Rattle.mw_programs.specs.ScriptSession.{EndedWell, RunsScript};
 ghost use Rattle.mw_programs.specs.WorkerCount.{one_for, own_workers, served_count, worker_count};
 
 use crate::beats::HeldLease;
@@ -31,7 +32,7 @@ use mw_engine::{Engine, EngineBrand, EngineParts, NoHold, Pass};
 use mw_metrics::Meters;
 use mw_opening::{
     FileStates, LockedFiles, NoteForm, Notes, OpenedParts, OpensDisks, OpensPaths, TenantDisk,
-    are_all_open, note_why, open_parts, open_plain, read_tenants_file, sync_folders,
+    are_all_open, note_why, open_parts, read_tenants_file, sync_folders,
 };
 use mw_service::FaultWatch;
 use mw_session::Ended;
@@ -60,7 +61,9 @@ pub(crate) enum ServeFault {
 
 impl ServeFault {
     /// Writes a note if memory was refused. Gives the exit status of this fault.
-    fn tell<L: Log>(self, notes: &L) -> u8 {
+    fn tell<L: Log>(self, notes: &L) -> u8
+        ensures { 1 ≤ result }
+    {
         match self {
             ServeFault::Refused => 2,
             ServeFault::Failed => 1,
@@ -99,6 +102,10 @@ impl From<AllocError> for ServeFault {
 ///   can listen at an address, or if memory was refused;
 /// - 2 if the command line or the tenants file is wrong.
 ///
+/// `script`: if clap takes the words of the command line, and they ask for a script, it gives 0 only after a session of that script ended
+/// well, of an engine that begins with the files which the start opened. Where its bytes are known, the console printed what this session
+/// wrote, and nothing else.
+///
 /// `network` is where it listens. `promise`: what its clients were promised is kept if one engine serves them all that begins with
 /// files which a start opened. Of other services nothing is known, so no other can serve them.
 ///
@@ -130,6 +137,8 @@ where
         + 'a,
     N: Files<File = File> + Net<Listener = TcpListener, Stream = TcpStream> + Clock + Sync,
     requires promise { PromisesOfStart ⟦<TenantDisk<'a, R> as Disk>⟧.facts ⟦<TenantDisk<'a, R> as Disk>⟧.made ⟦<LockedFiles<'a, R> as OpensDisks>⟧.is_over ⟦<LockedFiles<'a, R> as OpensDisks>⟧.is_refused R.is_text Q.kept_by Q.shown_by }
+    ensures script { result ≡ 0 → AreTaken (map string_bytes args.now)
+        → HasServed ⟦<TenantDisk<'a, R> as Disk>⟧.facts ⟦<TenantDisk<'a, R> as Disk>⟧.made ⟦<LockedFiles<'a, R> as OpensDisks>⟧.is_over ⟦<LockedFiles<'a, R> as OpensDisks>⟧.is_refused R.is_text R.is_plain R.Plain.remaining (map string_bytes args.now) (C.printed console.old) (C.printed console.new) }
 {
     let args = match read_args(rt.alloc(), args) {
         Ok(args) => args,
@@ -141,12 +150,20 @@ where
         times: args.times,
     };
     let notes = Notes::new(rt, err, form);
-    let status = match serve_args(rt, network, args, console, &notes, end) {
-        Ok(()) => 0,
-        Err(fault) => fault.tell(&notes),
-    };
+    let ended = serve_args(rt, network, args, console, &notes, end);
+    let status = status_of(&notes, ended);
     notes.finish();
     status
+}
+
+/// Gives the exit status of a server that ended so. Writes a note if memory was refused.
+fn status_of<L: Log>(notes: &L, ended: Result<(), ServeFault>) -> u8
+    ensures { result ≡ 0 → IsOk ended }
+{
+    match ended {
+        Ok(()) => 0,
+        Err(fault) => fault.tell(notes),
+    }
 }
 
 /// Gives what stands before the text on a wrong command line: the level of an error, if it asks for levels.
@@ -160,7 +177,9 @@ fn front_of(args: &[String]) -> &'static str {
 }
 
 /// Writes why a command line isn't served, with this before it, or what it asks to be told. Gives the exit status.
-fn refuse<C: Console, E: Write>(fault: &ArgFault, front: &str, console: &mut C, err: &mut E) -> u8 {
+fn refuse<C: Console, E: Write>(fault: &ArgFault, front: &str, console: &mut C, err: &mut E) -> u8
+    ensures { result ≡ 0 → IsRefused fault.now }
+{
     match fault {
         ArgFault::Refused(text) if !text.use_stderr() => u8::from(console.help(fault).is_err()),
         ArgFault::Refused(_) => {
@@ -199,6 +218,7 @@ impl<'a> Setup<'a> {
     ) -> Result<Self, ServeFault>
         requires { ArePermittedArgs args }
         ensures args { IfOk result (λ setup. ArePermittedArgs setup.args) }
+        ensures given { IfOk result (λ setup. setup.args ≡ args) }
         ensures lines { IfOk result (λ setup. ArePermitted setup.args.pool setup.lines.items) }
         ensures read { IfOk result (λ setup. AreReadAt R.is_text (string_bytes setup.args.tenants) setup.args.pool setup.lines.items) }
     {
@@ -238,6 +258,7 @@ where
     N: Files<File = File> + Net<Listener = TcpListener, Stream = TcpStream> + Clock + Sync,
     requires args { ArePermittedArgs args }
     requires promise { PromisesOfStart ⟦<TenantDisk<'a, R> as Disk>⟧.facts ⟦<TenantDisk<'a, R> as Disk>⟧.made ⟦<LockedFiles<'a, R> as OpensDisks>⟧.is_over ⟦<LockedFiles<'a, R> as OpensDisks>⟧.is_refused R.is_text Q.kept_by Q.shown_by }
+    ensures script { (path : _) → args.mode ≡ Script path → OnOk result (ServesScript ⟦<TenantDisk<'a, R> as Disk>⟧.facts ⟦<TenantDisk<'a, R> as Disk>⟧.made ⟦<LockedFiles<'a, R> as OpensDisks>⟧.is_over ⟦<LockedFiles<'a, R> as OpensDisks>⟧.is_refused R.is_text R.is_plain R.Plain.remaining args (string_bytes path) (C.printed console.old) (C.printed console.new)) }
 {
     match Setup::read(rt, args, notes, end) {
         Ok(setup) => serve_setup(rt, network, &setup, console, notes),
@@ -268,6 +289,7 @@ where
     requires lines { ArePermitted setup.now.args.pool setup.now.lines.items }
     requires read { AreReadAt R.is_text (string_bytes setup.now.args.tenants) setup.now.args.pool setup.now.lines.items }
     requires promise { PromisesOfStart ⟦<TenantDisk<'a, R> as Disk>⟧.facts ⟦<TenantDisk<'a, R> as Disk>⟧.made ⟦<LockedFiles<'a, R> as OpensDisks>⟧.is_over ⟦<LockedFiles<'a, R> as OpensDisks>⟧.is_refused R.is_text Q.kept_by Q.shown_by }
+    ensures script { (path : _) → setup.now.args.mode ≡ Script path → OnOk result (ServesScript ⟦<TenantDisk<'a, R> as Disk>⟧.facts ⟦<TenantDisk<'a, R> as Disk>⟧.made ⟦<LockedFiles<'a, R> as OpensDisks>⟧.is_over ⟦<LockedFiles<'a, R> as OpensDisks>⟧.is_refused R.is_text R.is_plain R.Plain.remaining setup.now.args (string_bytes path) (C.printed console.old) (C.printed console.new)) }
 {
     let (states, meters) = (FileStates::new(setup.args.strict), Meters::new(rt));
     let disks = LockedFiles::new(rt, &states, counted_in(&setup.args.mode, &meters));
@@ -298,6 +320,7 @@ where
     requires lines { ArePermitted setup.now.args.pool setup.now.lines.items }
     requires read { AreReadAt R.is_text (string_bytes setup.now.args.tenants) setup.now.args.pool setup.now.lines.items }
     requires promise { PromisesOfStart D.facts D.made P.is_over P.is_refused R.is_text Q.kept_by Q.shown_by }
+    ensures script { (path : _) → setup.now.args.mode ≡ Script path → OnOk result (ServesScript D.facts D.made P.is_over P.is_refused R.is_text R.is_plain R.Plain.remaining setup.now.args (string_bytes path) (C.printed console.old) (C.printed console.new)) }
 {
     let opened = open_parts(
         rt.alloc(),
@@ -395,9 +418,11 @@ where
     requires tenants { length setup.now.lines.items ≤ MAX_TENANTS }
     requires read { AreReadAt R.is_text (string_bytes setup.now.args.tenants) setup.now.args.pool setup.now.lines.items }
     requires opened { AreMadeOfOpened D.facts D.made P.is_over P.is_refused setup.now.lines.items opened.are_open.items opened.made }
+    requires config { IfOk opened.made (λ made. (identity_of made.0).config ≡ world_read setup.now.args.pool (worker_count setup.now.args) setup.now.lines.items) }
     requires new { IfOk opened.made (λ made. All (IsNew (identity_of made.0)) made.1.items) }
     requires some { IfOk opened.made (λ made. 0 < vec_len made.1) }
     requires promise { PromisesOfStart D.facts D.made P.is_over P.is_refused R.is_text Q.kept_by Q.shown_by }
+    ensures script { (path : _) → setup.now.args.mode ≡ Script path → OnOk result (ServesScript D.facts D.made P.is_over P.is_refused R.is_text R.is_plain R.Plain.remaining setup.now.args (string_bytes path) (C.printed console.old) (C.printed console.new)) }
 {
     if !may_serve(notes, setup, &opened.are_open) {
         return Err(ServeFault::Failed);
@@ -503,13 +528,15 @@ fn serve_engine<
     meters: &Meters,
 ) -> Result<(), ServeFault>
 where
-    R: Files<File = File> + AllocGlobal + Threads + Wait + Clock + Sync,
+    R: Files<File = File> + AllocGlobal + Threads + Wait + Clock + Sync + OpensPaths,
     N: Files<File = File> + Net<Listener = TcpListener, Stream = TcpStream> + Clock + Sync,
     requires identity { identity_of parts ≡ J.identity }
     requires new { All (IsNew J.identity) passes.items }
     requires some { 0 < vec_len passes }
     requires args { ArePermittedArgs setup.now.args }
     requires promise { Promises D.facts J.identity (Q.kept_by J.identity) (Q.shown_by J.identity) }
+    ensures script { (path : _) → setup.now.args.mode ≡ Script path
+        → OnOk result (RunsScript R.is_plain R.Plain.remaining (string_bytes path) (C.printed console.old) (C.printed console.new) J.identity) }
 {
     let engine = parts.into_engine::<J>(rt.alloc())?;
     let network = network.for_engine::<J>();
@@ -525,10 +552,7 @@ where
             watch,
         ),
         Mode::Listen(listening) => {
-            let held = match &listening.lease {
-                Some(terms) => Some(HeldLease::take(rt, terms, meters, notes)?),
-                None => None,
-            };
+            let held = HeldLease::take(rt, listening.lease.as_ref(), meters, notes)?;
             let server = Server {
                 rt,
                 network: network.network(),
@@ -566,10 +590,11 @@ fn run_script<
     watch: &'e T,
 ) -> Result<(), ServeFault>
 where
-    R: Files<File = File> + AllocGlobal + Wait + Clock,
+    R: OpensPaths + AllocGlobal + Wait + Clock,
     requires new { All (IsNew J.identity) passes.items }
     requires some { 0 < vec_len passes }
     requires promise { Promises D.facts J.identity (Q.kept_by K.identity) (Q.shown_by K.identity) }
+    ensures script { OnOk result (RunsScript R.is_plain R.Plain.remaining path.now (C.printed console.old) (C.printed console.new) J.identity) }
 {
     let script = open_script(rt, path, notes)?;
     let mut worker = first_worker(rt, engine, passes, watch)?;
@@ -577,12 +602,10 @@ where
 }
 
 /// Opens a script. Writes a note if it can't be read.
-fn open_script<R: Files<File = File>, L: Log>(
-    rt: &R,
-    path: &str,
-    notes: &L,
-) -> Result<File, ServeFault> {
-    match open_plain(rt, path) {
+fn open_script<R: OpensPaths, L: Log>(rt: &R, path: &str, notes: &L) -> Result<R::Plain, ServeFault>
+    ensures { IfOk result (λ script. R.is_plain path.now script) }
+{
+    match rt.open_plain(path) {
         Ok(script) => Ok(script),
         Err(fault) => {
             error!(notes; "mwserve: cannot read");
@@ -593,7 +616,9 @@ fn open_script<R: Files<File = File>, L: Log>(
 }
 
 /// Tells whether a script's session ended well. A fault that ended it has no note.
-fn outcome(ended: Ended) -> Result<(), ServeFault> {
+fn outcome(ended: Ended) -> Result<(), ServeFault>
+    ensures { OnOk result (EndedWell ended) }
+{
     match ended {
         Ended::Quit | Ended::PeerEnd | Ended::TooLong => Ok(()),
         Ended::ReadFault | Ended::WriteFault(_) | Ended::Memory => Err(ServeFault::Failed),

@@ -22,7 +22,7 @@
 //! - *Tested only*: tickets of passes, that reads use the passes for reads and changes the others, notes on failed
 //!   files (`scripts/check-crowd`), counts and times.
 //!
-//! Used by: mw_programs; mw_law_threads has laws about it. `must-fail` edits some bodies.
+//! Used by: mw_programs; mw_law_threads has laws about it. `wrong-bodies` edits some bodies.
 #![tactic(auto)]
 
 mod borrower;

@@ -33,6 +33,7 @@ impl<'a, J: EngineBrand, D: Disk, H, R, T> Worker<'a, J, D, H, R, T> {
     pub fn new(engine: &'a Engine<J, D, H>, pass: Pass, rt: &'a R, watch: &'a T) -> Self
         requires own { IsPassOf J.identity pass }
         requires idle { pass.idle ≡ true }
+        ensures { result.pass ≡ pass }
     {
         Worker {
             engine,

@@ -6,6 +6,26 @@ use Rattle.mw_engine.specs.OpenedFiles.{AreMadeOf, FitLines}
 use Rattle.mw_engine.proofs.OpenedParts.{made_all, made_more, next_of}
 use Rattle.mw_engine.proofs.new_parts.opened.Goals as goal
 
+-- nothing is made yet, and all lines and files are left
+pub loop-file-init : goal.loop-file-init
+loop-file-init g c =
+    let facts = g.D.Disk.facts in
+    let lines = c.args.lines.now in
+    let files = c.args.files.items in
+    let openings = c.in_ok-openings.openings.items in
+    let books = c.in_ok-books.books.items in
+    let all = c.into_iter-file-iterator.ensures.into_iter_gives.0 in
+    let none = c.in_ok-openings.ensures.items in
+    let count = ap length none in
+    record {
+      fit = subst (λ fs. FitLines facts (drop (length openings) lines) fs) (sym all) (subst (λ os. FitLines facts (drop (length os) lines) files) (sym none) c.requires.fit);
+      made = λ os bs others. subst (λ one. AreMadeOf facts lines files (one ++ os) (books ++ bs)) (sym none)
+          (subst (λ one. AreMadeOf facts lines files ([] ++ os) (one ++ bs)) (sym c.in_ok-books.ensures.items)
+          (subst (λ fs. AreMadeOf facts lines fs os bs) all
+          (subst (λ one. AreMadeOf facts (drop (length one) lines) (into_iter_items c.into_iter-file-iterator.result) os bs) none others)));
+      few = omega (arith, count);
+    }
+
 pub opened_one-opening-requires : goal.opened_one-opening-requires
 opened_one-opening-requires g c =
     let openings = c.loop-file.openings in

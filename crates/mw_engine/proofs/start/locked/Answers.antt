@@ -51,3 +51,10 @@ loop-book-preserved g c =
       even = omega (arith, even, of_books, of_file_passes);
       all = omega (arith, all, of_books, more);
     }
+
+-- no book is left, so there is a lock for each
+pub returns : goal.returns
+returns g c =
+    let all = c.loop-book.invariant.all in
+    let none : length (into_iter_items c.loop-book.book-iterator) ≡ 0 = sym c.loop-book.book-iterator.rest.ok.0 ∙ c.in-None.ensures.steps.0 in
+    omega (arith, all, none)

@@ -3,9 +3,35 @@ use Rattle.std.specs.Prelude.{◌≡◌, ◌+◌, [], ◌∷◌, length, List}
 use Rattle.std.specs.Vec.Iter.{into_iter_items}
 use Rattle.std.proofs.Common.{ap, sym, ◌∙◌, length-append, arith}
 use Rattle.mw_engine.specs.Identity.{Line}
-use Rattle.mw_engine.proofs.Branded.{same_lines}
-use Rattle.mw_engine.proofs.Disks.{one_more}
+use Rattle.mw_engine.proofs.Branded.{same_lines, with_own_lines}
+use Rattle.mw_engine.proofs.Disks.{none_given, one_more}
 use Rattle.mw_engine.proofs.engine.Engine.into_disks.Goals as goal
+
+-- no memory for the list of disks
+pub returns-in_default : goal.returns-in_default
+returns-in_default g c = tt
+
+-- a file of another tenant
+pub returns-then-from-len : goal.returns-then-from-len
+returns-then-from-len g c = tt
+
+-- no memory for one more disk
+pub returns-in_default-push : goal.returns-in_default-push
+returns-in_default-push g c = tt
+
+pub loop-book-init : goal.loop-book-init
+loop-book-init g c =
+    let none = ap length c.in-Ok.ensures.items in
+    let gives = c.into_iter-book-iterator.ensures.into_iter_gives in
+    let same = ap length gives.0 in
+    record {
+      all = omega (arith, none, same);
+      each = none_given g.D.Disk.facts g.J.EngineBrand.identity c.in-Ok.disks.items c.in-Ok.ensures.items;
+    }
+
+-- the core is the engine's
+pub into_disk-requires : goal.into_disk-requires
+into_disk-requires g c = record { engine = with_own_lines c.args.self.words g.J.EngineBrand.identity c.args.self.same }
 
 pub loop-book-preserved : goal.loop-book-preserved
 loop-book-preserved g c =

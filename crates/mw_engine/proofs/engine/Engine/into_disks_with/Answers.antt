@@ -3,7 +3,7 @@ use Rattle.std.specs.Prelude.{◌≡◌, ◌+◌, [], ◌∷◌, length, List}
 use Rattle.std.specs.Vec.Iter.{into_iter_items}
 use Rattle.std.proofs.Common.{ap, sym, ◌∙◌, length-append, arith}
 use Rattle.mw_engine.specs.Identity.{Line}
-use Rattle.mw_engine.proofs.Branded.{same_lines}
+use Rattle.mw_engine.proofs.Branded.{same_lines, with_own_lines}
 use Rattle.mw_engine.proofs.Disks.{none_given_seen, one_more_seen, same_still, same_twice, sees_all, sees_on}
 use Rattle.mw_engine.proofs.engine.Engine.into_disks_with.Goals as goal
 
@@ -41,9 +41,63 @@ loop-book-preserved g c =
           (sym (sym c.from.ensures ∙ (c.if-from-len.false ∙ (c.len-in-loop-book.ensures ∙ disks.ok.0)))) inv.sees c.into_disk_with.ensures.sees inv.each c.into_disk_with.ensures.given;
     }
 
+-- no memory for the list of disks: the pass is as it came
+pub returns-in_default-clause-own : goal.returns-in_default-clause-own
+returns-in_default-clause-own g c = c.requires.own
+
+pub returns-in_default-clause-stays : goal.returns-in_default-clause-stays
+returns-in_default-clause-stays g c = same_still c.args.pass.now
+
+pub returns-in_default-clause-sees : goal.returns-in_default-clause-sees
+returns-in_default-clause-sees g c = sees_all c.args.pass.now.seat.me.0
+
+pub returns-in_default-clause-given : goal.returns-in_default-clause-given
+returns-in_default-clause-given g c = tt
+
+-- a file of another tenant: the pass is as the loop had it
+pub returns-then-from-len-clause-own : goal.returns-then-from-len-clause-own
+returns-then-from-len-clause-own g c = c.loop-book.invariant.own
+
+pub returns-then-from-len-clause-stays : goal.returns-then-from-len-clause-stays
+returns-then-from-len-clause-stays g c = c.loop-book.invariant.stays
+
+pub returns-then-from-len-clause-sees : goal.returns-then-from-len-clause-sees
+returns-then-from-len-clause-sees g c = c.loop-book.invariant.sees
+
+pub returns-then-from-len-clause-given : goal.returns-then-from-len-clause-given
+returns-then-from-len-clause-given g c = tt
+
+-- the core is the engine's, and so is the pass
+pub into_disk_with-requires-clause-engine : goal.into_disk_with-requires-clause-engine
+into_disk_with-requires-clause-engine g c = with_own_lines c.args.self.words g.J.EngineBrand.identity c.args.self.same
+
+pub into_disk_with-requires-clause-own : goal.into_disk_with-requires-clause-own
+into_disk_with-requires-clause-own g c = c.loop-book.invariant.own
+
+-- no memory for one more disk: the pass has seen that file too
+pub returns-in_default-push-clause-own : goal.returns-in_default-push-clause-own
+returns-in_default-push-clause-own g c = c.into_disk_with.ensures.own
+
+pub returns-in_default-push-clause-stays : goal.returns-in_default-push-clause-stays
+returns-in_default-push-clause-stays g c =
+    same_twice c.args.pass.now c.loop-book.pass c.into_disk_with.new.pass c.loop-book.invariant.stays c.into_disk_with.ensures.stays
+
+pub returns-in_default-push-clause-given : goal.returns-in_default-push-clause-given
+returns-in_default-push-clause-given g c = tt
+
 pub returns-in_default-push-clause-sees : goal.returns-in_default-push-clause-sees
 returns-in_default-push-clause-sees g c =
     sees_on c.args.pass.now.seat.me.0 c.loop-book.pass.seat.me.0 c.into_disk_with.new.pass.seat.me.0 c.loop-book.invariant.sees c.into_disk_with.ensures.sees
+
+-- all files are given: the pass is as the loop left it
+pub returns-clause-own : goal.returns-clause-own
+returns-clause-own g c = c.loop-book.invariant.own
+
+pub returns-clause-stays : goal.returns-clause-stays
+returns-clause-stays g c = c.loop-book.invariant.stays
+
+pub returns-clause-sees : goal.returns-clause-sees
+returns-clause-sees g c = c.loop-book.invariant.sees
 
 pub returns-clause-given : goal.returns-clause-given
 returns-clause-given g c =
