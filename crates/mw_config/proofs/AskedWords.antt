@@ -1,23 +1,23 @@
 -- What clap reads of the words that were given is what they ask for.
 -- Used by: read_args.
 use Rattle.std.proofs.Common.{◌≡◌, ◌∙◌, ℕ, ap, codes, map, sym, refl, subst, drop, string_bytes, List, Option, Some, true}
-use Rattle.clap.proofs.WalkLemmas.{first_value-rows}
+use Rattle.clap.proofs.WalkLemmas.{first_value-rows, one_text-rows}
 use Rattle.clap.specs.Simple.{on_top}
-use Rattle.clap.specs.Words.{App, HasMatchesOf, Rule, built, first_of, first_value, found_of, is_simple, kind_of, new_app, takes}
+use Rattle.clap.specs.Words.{App, HasMatchesOf, Rule, built, first_of, first_value, found_of, is_simple, kind_of, new_app, one_of, one_text, takes}
 use Rattle.clap.specs.declared.error.Error.{Error}
 use Rattle.clap.specs.declared.error.kind.ErrorKind.TheVariants.{OutOfMemory}
 use Rattle.clap.specs.declared.parser.matches.ArgMatches.{ArgMatches}
 use Rattle.mw_command_line.proofs.GivenValues.{values_given}
 use Rattle.mw_command_line.specs.Commands.{command_of, rule_of_argument}
 use Rattle.mw_command_line.specs.declared.command_line.CommandLine.{CommandLine}
-use Rattle.mw_config.specs.CommandLine.{AreAsked, AreAskedBy, AreTaken, IsModeAsked, server_command, value_asked}
+use Rattle.mw_config.specs.CommandLine.{AreAsked, AreAskedBy, AreTaken, IsModeAsked, IsNumberOf, server_command, text_asked, value_asked}
 use Rattle.mw_config.specs.declared.command_line.Args.{Args}
 use Rattle.mw_config.specs.declared.command_line.Mode.{Mode}
 use Rattle.mw_config.specs.declared.command_line.Mode.TheVariants.{Listen, Script}
 use Rattle.mw_config.specs.ServerOptions.{server_rules}
 
 mode_same : (value other : List ℕ → Option (List ℕ)) → ((name : List ℕ) → other name ≡ value name) → (mode : Mode) → IsModeAsked value mode → IsModeAsked other mode
-mode_same value other same (Listen listening) asked = (same _ ∙ asked.0, same _ ∙ asked.1)
+mode_same value other same (Listen listening) asked = (same _ ∙ asked.0, same _ ∙ asked.1, same _ ∙ asked.2, same _ ∙ asked.3)
 mode_same value other same (Script path) asked = (same _ ∙ asked.0, same _ ∙ asked.1)
 
 -- a command line of this name with these arguments is the server's
@@ -30,22 +30,28 @@ simple : is_simple server_command ≡ true
 simple = refl
 
 -- what the matches have is what the words ask for
-asked_by : (words : List (List ℕ)) (matches : ArgMatches) (args : Args) → HasMatchesOf server_command words matches → AreAskedBy (first_value (found_of matches)) args
-    → AreAsked words args
+asked_by : (words : List (List ℕ)) (matches : ArgMatches) (args : Args) → HasMatchesOf server_command words matches
+    → AreAskedBy (first_value (found_of matches)) (one_text (found_of matches)) args → AreAsked words args
 asked_by words matches args has asked =
     let same : (name : List ℕ) → value_asked words name ≡ first_value (found_of matches) name =
     λ name. sym (first_value-rows (found_of matches) name ∙ ap (first_of name) (has simple).0) in
+    let read : (name : List ℕ) → one_text (found_of matches) name ≡ text_asked words name =
+    λ name. one_text-rows (found_of matches) name ∙ ap (one_of name) (has simple).0 in
+    let number : (name : List ℕ) (number : ℕ) → IsNumberOf (one_text (found_of matches) name) number → IsNumberOf (text_asked words name) number =
+    λ name number is. subst (λ (text : Option (List ℕ)). IsNumberOf text number) (read name) is in
     let tenants : value_asked words (codes "tenants") ≡ Some (string_bytes args.tenants) = same _ ∙ asked.tenants in
     record {
       read = record {
         tenants = tenants;
+        pool = number _ _ asked.pool;
+        workers = number _ _ asked.workers;
         mode = mode_same (first_value (found_of matches)) (value_asked words) same args.mode asked.mode;
       };
       tenants = values_given (codes "tenants") (built server_command).top.rules refl (drop 1 words) (string_bytes args.tenants) tenants;
     }
 
 pub asked_of : (line : CommandLine) (words : List (List ℕ)) (matches : ArgMatches) (args : Args) → line.name.now ≡ codes "mwserve" → map rule_of_argument line.arguments.now ≡ server_rules
-    → HasMatchesOf (command_of line) words matches → AreAskedBy (first_value (found_of matches)) args → AreAsked words args
+    → HasMatchesOf (command_of line) words matches → AreAskedBy (first_value (found_of matches)) (one_text (found_of matches)) args → AreAsked words args
 asked_of line words matches args called listed has asked =
     asked_by words matches args (subst (λ (app : App). HasMatchesOf app words matches) (is_servers line called listed) has) asked
 

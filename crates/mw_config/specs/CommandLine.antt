@@ -1,9 +1,11 @@
 -- Defines what the command line of `mwserve` may ask for: connections, clients, limits of time, file modes, pool and workers. Defines also
--- which words ask for a tenants file, a script and an address.
+-- which words ask for a tenants file, a script, addresses, a pool and workers.
 -- Used by: mw_programs, command_line.rt, lease_terms.rt. Change it with the program's help and docs/OPERATING.
 use Rattle.std.specs.Prelude.{◌≡◌, ℕ, ◌≤◌, ◌<◌, codes, drop, IfSome, List, None, Option, Some, string_bytes, true, vec_len}
+use Rattle.std.specs.Option.{option_map}
+use Rattle.std.specs.Str.Parse.{digits_value, without_leading_plus}
 use Rattle.clap.specs.Simple.{on_top}
-use Rattle.clap.specs.Words.{App, first_of, matches_of, new_app, takes}
+use Rattle.clap.specs.Words.{App, first_of, matches_of, new_app, one_of, takes}
 use Rattle.mw_command_line.specs.Commands.{IsGiven}
 use Rattle.mw_words.specs.declared.limits.TheConstants.{MAX_POOL, MAX_WORKERS, MAX_CONNECTIONS}
 use Rattle.mw_config.specs.declared.command_line.TheConstants.{MAX_CLIENTS, MAX_FAULTS, MAX_HTTP_NAMES, MAX_IDLE, MAX_SOCKET_MODE}
@@ -67,20 +69,34 @@ AreTaken words = takes server_command words ≡ true
 abbrev pub value_asked : List (List ℕ) → List ℕ → Option (List ℕ)
 value_asked words name = first_of name (matches_of server_command words)
 
--- An address is asked for and no script, or a script and no address. `value` tells which value an option has.
+-- the text of the option of this name that clap reads a number of: that of its first value or, if none was given, of its default
+abbrev pub text_asked : List (List ℕ) → List ℕ → Option (List ℕ)
+text_asked words name = one_of name (matches_of server_command words)
+
+-- There is a text. If it is decimal digits, which may have a plus before them, this is their number.
+abbrev pub IsNumberOf : Option (List ℕ) → ℕ → Type 0
+IsNumberOf (Some text) number = number ≡ digits_value 10 (without_leading_plus text)
+IsNumberOf None number = ⊥
+
+-- An address is asked for and no script, or a script and no address. Beside the first address just those of the administrator and of the
+-- pages are asked for that are given. `value` tells which value an option has.
 abbrev pub IsModeAsked : (List ℕ → Option (List ℕ)) → Mode → Type 0
-IsModeAsked value (Listen listening) = (value (codes "listen") ≡ Some (string_bytes listening.address)) × (value (codes "script") ≡ None)
+IsModeAsked value (Listen listening) =
+    (value (codes "listen") ≡ Some (string_bytes listening.address)) × (value (codes "script") ≡ None)
+    × (value (codes "admin") ≡ option_map string_bytes listening.admin) × (value (codes "http") ≡ option_map string_bytes listening.http)
 IsModeAsked value (Script path) = (value (codes "listen") ≡ None) × (value (codes "script") ≡ Some (string_bytes path))
 
--- This tenants file and this mode are asked for.
-pub record AreAskedBy (value : List ℕ → Option (List ℕ)) (args : Args) : Type 0 where
+-- This tenants file, this mode, and so many slots and workers are asked for. `text` tells of which text an option's number is read.
+pub record AreAskedBy (value text : List ℕ → Option (List ℕ)) (args : Args) : Type 0 where
   pub tenants : value (codes "tenants") ≡ Some (string_bytes args.tenants)
+  pub pool : IsNumberOf (text (codes "pool")) args.pool
+  pub workers : IsNumberOf (text (codes "workers")) args.workers
   pub mode : IsModeAsked value args.mode
 
--- The words of a command line, of which the first is the program's own name, ask for this tenants file and this mode: clap reads
--- them so. The path of the tenants file is in the word after `--tenants`, or `--tenants=PATH` is a word.
+-- The words of a command line, of which the first is the program's own name, ask for this tenants file, this mode, and so many slots and
+-- workers: clap reads them so if it takes them. The path of the tenants file is in the word after `--tenants`, or `--tenants=PATH` is a word.
 pub record AreAsked (words : List (List ℕ)) (args : Args) : Type 0 where
-  pub read : AreAskedBy (value_asked words) args
+  pub read : AreAskedBy (value_asked words) (text_asked words) args
   pub tenants : IsGiven (codes "tenants") (drop 1 words) (string_bytes args.tenants)
 
 -- the fault is clap's

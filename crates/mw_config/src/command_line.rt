@@ -4,11 +4,12 @@
 //! mw_programs, a clause in `specs/CommandLine` if it has limits, and its row in docs/OPERATING. Change a limit there and in
 //! docs/PROTOCOL too, an option's name in contrib and scripts (`git grep`), a text of [`ArgFault`] in scripts/text_parts
 //! and scripts/check-sockets.
+ghost use Rattle.std.specs.Option.{option_map};
 ghost use Rattle.std.specs.Prelude.{ℕ, ◌≡◌, ◌≤◌, codes, IfErr, IfOk, IfSome, length, map, string_bytes, vec_len};
-ghost use Rattle.clap.specs.Words.{first_value, found_of, kind_of};
+ghost use Rattle.clap.specs.Words.{first_value, found_of, kind_of, one_text};
 ghost use Rattle.clap.specs.declared.error.kind.ErrorKind.TheVariants.{OutOfMemory};
 ghost use Rattle.mw_config.specs.CommandLine.{AreAsked, AreAskedBy, ArePermittedArgs, AreSharedWell, AreTaken, IsModeAsked};
-ghost use Rattle.mw_config.specs.CommandLine.{IsPermittedMode, IsRefused, IsUpTo, SuitsWorkers};
+ghost use Rattle.mw_config.specs.CommandLine.{IsNumberOf, IsPermittedMode, IsRefused, IsUpTo, SuitsWorkers};
 ghost use Rattle.mw_config.specs.declared.command_line.Mode.TheVariants.{Listen};
 
 use crate::lease_terms::{LeaseTerms, lease_of};
@@ -221,8 +222,8 @@ impl From<OptionFault> for ArgFault {
 /// - M is 1 to [`MAX_CLIENTS`]. R is at least 1 and below N; if it isn't given, a quarter of N, and at least 1.
 /// - MODE has octal digits, is at most [`MAX_SOCKET_MODE`], and 0600 if it isn't given.
 ///
-/// - `asked`: the words ask for the tenants file, the script or the address that it gives. The path of the tenants file is
-///   in the word after `--tenants`, or `--tenants=PATH` is a word.
+/// - `asked`: the words ask for the tenants file, the pool, the workers, and the script or the addresses that it gives. The
+///   path of the tenants file is in the word after `--tenants`, or `--tenants=PATH` is a word.
 /// - `taken`: if clap takes the words, the fault is another one than clap's.
 ///
 /// # Errors
@@ -248,7 +249,7 @@ pub fn read_args(alloc: Global, args: &[String]) -> Result<Args, ArgFault>
 /// Gives what the options ask for.
 fn args_of(alloc: Global, matches: &ArgMatches<'_>) -> Result<Args, OptionFault>
     ensures permitted { IfOk result (λ args. ArePermittedArgs args) }
-    ensures asked { IfOk result (λ args. AreAskedBy (first_value (found_of matches.now)) args) }
+    ensures asked { IfOk result (λ args. AreAskedBy (first_value (found_of matches.now)) (one_text (found_of matches.now)) args) }
 {
     let (Some(tenants), Some(pool), Some(workers)) = (
         matches.get_str("tenants"),
@@ -310,7 +311,9 @@ fn listen_mode(
     workers: u8,
 ) -> Result<Mode, OptionFault>
     requires { 1 ≤ workers }
-    ensures listens { IfOk result (λ mode. (listening : _) × (mode ≡ Listen listening) × (string_bytes listening.address ≡ address.now)) }
+    ensures listens { IfOk result (λ mode. (listening : _) × (mode ≡ Listen listening) × (string_bytes listening.address ≡ address.now)
+        × (first_value (found_of matches.now) (codes "admin") ≡ option_map string_bytes listening.admin)
+        × (first_value (found_of matches.now) (codes "http") ≡ option_map string_bytes listening.http)) }
     ensures permitted { IfOk result (λ mode. IsPermittedMode mode) }
     ensures suits { IfOk result (λ mode. SuitsWorkers workers mode) }
 {
@@ -361,6 +364,8 @@ fn places_of(
 ) -> Result<Places, AllocError>
     ensures names { IfOk result (λ places. vec_len places.http_names ≡ length names.now) }
     ensures address { IfOk result (λ places. string_bytes places.address ≡ address.now) }
+    ensures admin { IfOk result (λ places. first_value (found_of matches.now) (codes "admin") ≡ option_map string_bytes places.admin) }
+    ensures http { IfOk result (λ places. first_value (found_of matches.now) (codes "http") ≡ option_map string_bytes places.http) }
 {
     Ok(Places {
         address: String::from_str(alloc, address)?,
@@ -449,17 +454,20 @@ fn socket_mode_of(text: Option<&str>) -> Result<u32, OptionFault>
 }
 
 /// Copies a text, if there is one.
-fn copy_of(alloc: Global, text: Option<&str>) -> Result<Option<String>, AllocError> {
+fn copy_of(alloc: Global, text: Option<&str>) -> Result<Option<String>, AllocError>
+    ensures { IfOk result (λ copy. option_map (λ bytes. bytes.now) text.entry ≡ option_map string_bytes copy) }
+{
     match text {
         Some(text) => Ok(Some(String::from_str(alloc, text)?)),
         None => Ok(None),
     }
 }
 
-/// Gives the number of an option, if it was given or has a default. It is 1 to `most`; the option's parser
-/// checks the range too.
+/// Gives the number of an option, if it was given or has a default: that of the text which clap has for it. It is 1 to `most`;
+/// the option's parser checks the range too.
 pub(crate) fn number_of(matches: &ArgMatches<'_>, name: &str, most: u32) -> Option<u32>
-    ensures { IfSome result (λ number. IsUpTo most number) }
+    ensures range { IfSome result (λ number. IsUpTo most number) }
+    ensures read { IfSome result (λ number. IsNumberOf (one_text (found_of matches.now) name.now) number) }
 {
     match matches.get_one::<u32>(name) {
         Some(number) if (1..=most).contains(&number) => Some(number),

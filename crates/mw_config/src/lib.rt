@@ -1,8 +1,8 @@
 //! Reads what a server is started with: the tenants file and the command line.
 //!
 //! - *What a contract says*: [`read_tenants`] gives the lines of a tenants file, within all limits, or the first rule
-//!   that is broken. [`read_args`] gives only what is in its range, and the tenants file, script or address that the words
-//!   ask for.
+//!   that is broken. [`read_args`] gives only what is in its range, and the tenants file, pool, workers, script or addresses
+//!   that the words ask for.
 //! - *Proved*: a text has one answer ([`one_answer`]).
 //! - *Tested only*: all else of a command line, and the texts of refusals (`config_tests` of mw_store_tests,
 //!   scripts/check-texts).

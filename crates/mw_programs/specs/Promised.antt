@@ -42,15 +42,17 @@ module _ {D : Type 0} (facts : D → Facts) (makes : DeviceCall → Bool → D �
     pub begins : identity.openings ≡ openings_read lines files
     pub disks : identity.disks ≡ disks_read facts files
 
-  -- The same for some arguments, of which nothing more is told.
-  pub record IsOfStart (identity : Identity) : Type 0 where
+  -- The same for the arguments that these words of a command line ask for.
+  pub record IsOfStart (words : List (List ℕ)) (identity : Identity) : Type 0 where
     pub args : Args
+    pub asked : AreAsked words args
     pub start : IsStartOf args identity
 
   -- The calls of the pages, in order, were answered with one pass of the engine of this identity, which begins with the files that a
-  -- start opened.
+  -- start for some words opened.
   pub record AreShown (identity : Identity) (calls : List page.Call) : Type 0 where
-    pub start : IsOfStart identity
+    pub words : List (List ℕ)
+    pub start : IsOfStart words identity
     pub old : Pass
     pub new : Pass
     pub own : IsPassOf identity old
@@ -62,7 +64,7 @@ module _ {D : Type 0} (facts : D → Facts) (makes : DeviceCall → Bool → D �
     pub start : IsStartOf args identity
     pub run : RunsScript is_plain remaining path printed now_printed identity
 
-  -- The words of a command line ask for this tenants file and this mode. If that is a script, a server ran it.
+  -- The words of a command line ask for these arguments. If they have a script, a server ran it.
   pub record HasServed {S : Type 0} (is_plain : List ℕ → S → Type 0) (remaining : S → Option (List ℕ)) (words : List (List ℕ)) (printed now_printed : Option (List ℕ)) : Type 0 where
     pub args : Args
     pub asked : AreAsked words args
@@ -74,8 +76,14 @@ pub record Promises {D : Type 0} (facts : D → Facts) (identity : Identity) (ke
   pub borrowers : (calls : List Call) → ByBorrower identity calls → kept calls
   pub pages : (old new : Pass) (calls : List page.Call) → IsPassOf identity old → page.AreAnswered (ShowsOne facts identity) old new calls → shown calls
 
--- The same of each engine that begins with the files which a start opened: what is promised of its own answers.
+-- The same of each engine that begins with the files which a start for these words opened: what is promised of its own answers.
 abbrev pub PromisesOfStart : {D : Type 0} → (D → Facts) → (DeviceCall → Bool → D → D → Type 0) → (List ℕ → D → Type 0) → (List ℕ → FileFault → Type 0)
-    → (List ℕ → List ℕ → Type 0) → (Identity → List Call → Type 0) → (Identity → List page.Call → Type 0) → Type 0
-PromisesOfStart facts makes is_over is_refused is_text kept_by shown_by = (identity : Identity) → IsOfStart facts makes is_over is_refused is_text identity
+    → (List ℕ → List ℕ → Type 0) → List (List ℕ) → (Identity → List Call → Type 0) → (Identity → List page.Call → Type 0) → Type 0
+PromisesOfStart facts makes is_over is_refused is_text words kept_by shown_by = (identity : Identity) → IsOfStart facts makes is_over is_refused is_text words identity
+    → Promises facts identity (kept_by identity) (shown_by identity)
+
+-- The same of a start with these arguments.
+abbrev pub PromisesOfArgs : {D : Type 0} → (D → Facts) → (DeviceCall → Bool → D → D → Type 0) → (List ℕ → D → Type 0) → (List ℕ → FileFault → Type 0)
+    → (List ℕ → List ℕ → Type 0) → Args → (Identity → List Call → Type 0) → (Identity → List page.Call → Type 0) → Type 0
+PromisesOfArgs facts makes is_over is_refused is_text args kept_by shown_by = (identity : Identity) → IsStartOf facts makes is_over is_refused is_text args identity
     → Promises facts identity (kept_by identity) (shown_by identity)

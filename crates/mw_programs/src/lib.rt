@@ -1,8 +1,8 @@
 //! Implements `mwserve`: serves tenants' words, from a script or to the clients that connect.
 //!
 //! - *What a contract says*: [`serve`] requires that an engine of files which a start opened keeps what the network
-//!   and the console promise. No other can serve (`promise.rt`). It gives 0 for a script only after one session of it
-//!   ended well.
+//!   and the console promise. No other can serve (`promise.rt`). It gives 0 for a script that clap takes only after
+//!   a session of it ended well.
 //! - *Proved*: a page's copy of a file is the engine's (`specs/Copies`).
 //! - *Tested only*: sockets, waits, `--admin`, what is printed and noted, and exit statuses (`scripts/check-stories`,
 //!   `scripts/check-programs`).

@@ -11,7 +11,7 @@ ghost use Rattle.mw_engine.specs.Passes.{IsNew};
 ghost use Rattle.mw_engine.specs.Parts.{identity_of, world_read};
 ghost use Rattle.mw_opening.specs.MadeOfOpened.{AreMadeOfOpened};
 ghost use Rattle.mw_opening.specs.TenantsAtPath.{AreReadAt};
-ghost use Rattle.mw_programs.specs.Promised.{HasServed, Promises, PromisesOfStart, ServesScript};
+ghost use Rattle.mw_programs.specs.Promised.{HasServed, Promises, PromisesOfArgs, PromisesOfStart, ServesScript};
 ghost use Rattle.mw_programs.specs.ScriptSession.{EndedWell, RunsScript};
 ghost use Rattle.mw_programs.specs.WorkerCount.{one_for, own_workers, served_count, worker_count};
 
@@ -103,11 +103,12 @@ impl From<AllocError> for ServeFault {
 /// - 2 if the command line or the tenants file is wrong.
 ///
 /// `script`: if clap takes the words of the command line, and they ask for a script, it gives 0 only after a session of that script ended
-/// well, of an engine that begins with the files which the start opened. Where its bytes are known, the console printed what this session
+/// well, of an engine that begins with files which a start opened. Where its bytes are known, the console printed what this session
 /// wrote, and nothing else.
 ///
 /// `network` is where it listens. `promise`: what its clients were promised is kept if one engine serves them all that begins with
-/// files which a start opened. Of other services nothing is known, so no other can serve them.
+/// files which a start opened, for the tenants file, the pool and the workers that the words ask for. Of other services nothing is
+/// known, so no other can serve them.
 ///
 /// Writes to `err` what went wrong before the first session, and why. It also writes a note on each tenant whose
 /// file doesn't open, is in use or fails, and a note when there is no room for connections. With `--listen` it tells before
@@ -136,7 +137,7 @@ where
         + OpensPaths
         + 'a,
     N: Files<File = File> + Net<Listener = TcpListener, Stream = TcpStream> + Clock + Sync,
-    requires promise { PromisesOfStart ⟦<TenantDisk<'a, R> as Disk>⟧.facts ⟦<TenantDisk<'a, R> as Disk>⟧.made ⟦<LockedFiles<'a, R> as OpensDisks>⟧.is_over ⟦<LockedFiles<'a, R> as OpensDisks>⟧.is_refused R.is_text Q.kept_by Q.shown_by }
+    requires promise { PromisesOfStart ⟦<TenantDisk<'a, R> as Disk>⟧.facts ⟦<TenantDisk<'a, R> as Disk>⟧.made ⟦<LockedFiles<'a, R> as OpensDisks>⟧.is_over ⟦<LockedFiles<'a, R> as OpensDisks>⟧.is_refused R.is_text (map string_bytes args.now) Q.kept_by Q.shown_by }
     ensures script { result ≡ 0 → AreTaken (map string_bytes args.now)
         → HasServed ⟦<TenantDisk<'a, R> as Disk>⟧.facts ⟦<TenantDisk<'a, R> as Disk>⟧.made ⟦<LockedFiles<'a, R> as OpensDisks>⟧.is_over ⟦<LockedFiles<'a, R> as OpensDisks>⟧.is_refused R.is_text R.is_plain R.Plain.remaining (map string_bytes args.now) (C.printed console.old) (C.printed console.new) }
 {
@@ -257,7 +258,7 @@ where
         + 'a,
     N: Files<File = File> + Net<Listener = TcpListener, Stream = TcpStream> + Clock + Sync,
     requires args { ArePermittedArgs args }
-    requires promise { PromisesOfStart ⟦<TenantDisk<'a, R> as Disk>⟧.facts ⟦<TenantDisk<'a, R> as Disk>⟧.made ⟦<LockedFiles<'a, R> as OpensDisks>⟧.is_over ⟦<LockedFiles<'a, R> as OpensDisks>⟧.is_refused R.is_text Q.kept_by Q.shown_by }
+    requires promise { PromisesOfArgs ⟦<TenantDisk<'a, R> as Disk>⟧.facts ⟦<TenantDisk<'a, R> as Disk>⟧.made ⟦<LockedFiles<'a, R> as OpensDisks>⟧.is_over ⟦<LockedFiles<'a, R> as OpensDisks>⟧.is_refused R.is_text args Q.kept_by Q.shown_by }
     ensures script { (path : _) → args.mode ≡ Script path → OnOk result (ServesScript ⟦<TenantDisk<'a, R> as Disk>⟧.facts ⟦<TenantDisk<'a, R> as Disk>⟧.made ⟦<LockedFiles<'a, R> as OpensDisks>⟧.is_over ⟦<LockedFiles<'a, R> as OpensDisks>⟧.is_refused R.is_text R.is_plain R.Plain.remaining args (string_bytes path) (C.printed console.old) (C.printed console.new)) }
 {
     match Setup::read(rt, args, notes, end) {
@@ -288,7 +289,7 @@ where
     requires args { ArePermittedArgs setup.now.args }
     requires lines { ArePermitted setup.now.args.pool setup.now.lines.items }
     requires read { AreReadAt R.is_text (string_bytes setup.now.args.tenants) setup.now.args.pool setup.now.lines.items }
-    requires promise { PromisesOfStart ⟦<TenantDisk<'a, R> as Disk>⟧.facts ⟦<TenantDisk<'a, R> as Disk>⟧.made ⟦<LockedFiles<'a, R> as OpensDisks>⟧.is_over ⟦<LockedFiles<'a, R> as OpensDisks>⟧.is_refused R.is_text Q.kept_by Q.shown_by }
+    requires promise { PromisesOfArgs ⟦<TenantDisk<'a, R> as Disk>⟧.facts ⟦<TenantDisk<'a, R> as Disk>⟧.made ⟦<LockedFiles<'a, R> as OpensDisks>⟧.is_over ⟦<LockedFiles<'a, R> as OpensDisks>⟧.is_refused R.is_text setup.now.args Q.kept_by Q.shown_by }
     ensures script { (path : _) → setup.now.args.mode ≡ Script path → OnOk result (ServesScript ⟦<TenantDisk<'a, R> as Disk>⟧.facts ⟦<TenantDisk<'a, R> as Disk>⟧.made ⟦<LockedFiles<'a, R> as OpensDisks>⟧.is_over ⟦<LockedFiles<'a, R> as OpensDisks>⟧.is_refused R.is_text R.is_plain R.Plain.remaining setup.now.args (string_bytes path) (C.printed console.old) (C.printed console.new)) }
 {
     let (states, meters) = (FileStates::new(setup.args.strict), Meters::new(rt));
@@ -319,7 +320,7 @@ where
     requires args { ArePermittedArgs setup.now.args }
     requires lines { ArePermitted setup.now.args.pool setup.now.lines.items }
     requires read { AreReadAt R.is_text (string_bytes setup.now.args.tenants) setup.now.args.pool setup.now.lines.items }
-    requires promise { PromisesOfStart D.facts D.made P.is_over P.is_refused R.is_text Q.kept_by Q.shown_by }
+    requires promise { PromisesOfArgs D.facts D.made P.is_over P.is_refused R.is_text setup.now.args Q.kept_by Q.shown_by }
     ensures script { (path : _) → setup.now.args.mode ≡ Script path → OnOk result (ServesScript D.facts D.made P.is_over P.is_refused R.is_text R.is_plain R.Plain.remaining setup.now.args (string_bytes path) (C.printed console.old) (C.printed console.new)) }
 {
     let opened = open_parts(
@@ -421,7 +422,7 @@ where
     requires config { IfOk opened.made (λ made. (identity_of made.0).config ≡ world_read setup.now.args.pool (worker_count setup.now.args) setup.now.lines.items) }
     requires new { IfOk opened.made (λ made. All (IsNew (identity_of made.0)) made.1.items) }
     requires some { IfOk opened.made (λ made. 0 < vec_len made.1) }
-    requires promise { PromisesOfStart D.facts D.made P.is_over P.is_refused R.is_text Q.kept_by Q.shown_by }
+    requires promise { PromisesOfArgs D.facts D.made P.is_over P.is_refused R.is_text setup.now.args Q.kept_by Q.shown_by }
     ensures script { (path : _) → setup.now.args.mode ≡ Script path → OnOk result (ServesScript D.facts D.made P.is_over P.is_refused R.is_text R.is_plain R.Plain.remaining setup.now.args (string_bytes path) (C.printed console.old) (C.printed console.new)) }
 {
     if !may_serve(notes, setup, &opened.are_open) {

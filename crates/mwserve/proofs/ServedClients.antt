@@ -8,9 +8,9 @@ use Rattle.mw_law_threads.proofs.AfterReplyLaws.{served_by_loan, served_by_pass}
 use Rattle.mwserve.specs.Promised.{IsServed}
 
 pub engine_keeps : {D : Type 0} (facts : D → Facts) (makes : DeviceCall → Bool → D → D → Type 0) (is_over : List ℕ → D → Type 0) (is_refused : List ℕ → FileFault → Type 0) (is_text : List ℕ → List ℕ → Type 0)
-    → PromisesOfStart facts makes is_over is_refused is_text (IsServed facts makes is_over is_refused is_text) (AreShown facts makes is_over is_refused is_text)
-engine_keeps facts makes is_over is_refused is_text identity start = record {
-  workers = λ calls by. record { start = start; served = inl (served_by_pass facts identity calls by) };
-  borrowers = λ calls by. record { start = start; served = inr (served_by_loan facts identity calls by) };
-  pages = λ old new calls own goes. record { start = start; old = old; new = new; own = own; answered = goes };
+    → (words : List (List ℕ)) → PromisesOfStart facts makes is_over is_refused is_text words (IsServed facts makes is_over is_refused is_text) (AreShown facts makes is_over is_refused is_text)
+engine_keeps facts makes is_over is_refused is_text words identity start = record {
+  workers = λ calls by. record { words = words; start = start; served = inl (served_by_pass facts identity calls by) };
+  borrowers = λ calls by. record { words = words; start = start; served = inr (served_by_loan facts identity calls by) };
+  pages = λ old new calls own goes. record { words = words; start = start; old = old; new = new; own = own; answered = goes };
 }

@@ -1,6 +1,7 @@
 //! What `mwserve` promises its clients, as a type: `specs/Promised` defines it.
 //!
 //! Used by: `main.rt`, which gives `serve` the network and the console with it. Change it with docs/PROMISES.
+ghost use Rattle.std.specs.Prelude.{ℕ, List};
 ghost use Rattle.mw_programs.specs.Promised.{AreShown, PromisesOfStart};
 ghost use Rattle.mwserve.specs.Promised.{IsServed};
 
@@ -21,5 +22,5 @@ impl ServerPromise for EngineServes {
 /// after a crash is said of honest disks, and `main` serves on the system's files, of which no contract knows whether they are:
 /// so it is said here for all disks.
 pub fn engines_keep_the_promise<D: Disk, P: OpensDisks<Device = D>, R: OpensPaths>()
-    ensures { PromisesOfStart D.facts D.made P.is_over P.is_refused R.is_text (IsServed D.facts D.made P.is_over P.is_refused R.is_text) (AreShown D.facts D.made P.is_over P.is_refused R.is_text) }
+    ensures { (words : List (List ℕ)) → PromisesOfStart D.facts D.made P.is_over P.is_refused R.is_text words (IsServed D.facts D.made P.is_over P.is_refused R.is_text) (AreShown D.facts D.made P.is_over P.is_refused R.is_text) }
 {}

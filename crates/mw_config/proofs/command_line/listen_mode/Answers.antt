@@ -2,6 +2,6 @@
 use Rattle.std.proofs.Common.{refl}
 use Rattle.mw_config.proofs.command_line.listen_mode.Goals as goal
 
--- the address is the one that was given
+-- the addresses are those that were given
 pub returns-clause-listens : goal.returns-clause-listens
-returns-clause-listens c = (_, refl, c.in_ok-address.ensures.address)
+returns-clause-listens c = (_, refl, c.in_ok-address.ensures.address, c.in_ok-address.ensures.admin, c.in_ok-address.ensures.http)

@@ -6,6 +6,10 @@ of_ok : {X E : Type 0} (r : Result X E) (P : Type 0) → IsOk r → OnOk r P →
 of_ok (Ok x) P is holds = holds
 of_ok (Err e) P is holds = absurd (cc)
 
+-- the arguments are those that the words ask for
+pub serve_args-ended-requires-clause-promise : goal.serve_args-ended-requires-clause-promise
+serve_args-ended-requires-clause-promise g c κs within identity start = c.requires.promise identity (record { args = c.in-Ok.args; asked = c.in-Ok.ensures.asked; start = start })
+
 -- words that clap takes are not refused
 pub returns-in-Err : goal.returns-in-Err
 returns-in-Err g c = record { script = λ well taken. absurd (c.in-Err.ensures.taken taken (c.refuse.ensures well)) }

@@ -9,17 +9,14 @@ pub serve_engine-requires-clause-promise : goal.serve_engine-requires-clause-pro
 serve_engine-requires-clause-promise g c κs within =
     let start = c.requires.opened in
     c.requires.promise (identity_of c.in_ok-parts.parts) (record {
-      args = c.args.setup.now.args;
-      start = record {
-        lines = c.args.setup.now.lines.items;
-        read = c.requires.read;
-        files = start.files;
-        opened = start.opened;
-        named = search rules;
-        configured = search rules;
-        begins = search rules;
-        disks = search rules;
-      };
+      lines = c.args.setup.now.lines.items;
+      read = c.requires.read;
+      files = start.files;
+      opened = start.opened;
+      named = search rules;
+      configured = search rules;
+      begins = search rules;
+      disks = search rules;
     })
 
 -- that engine ran the script

@@ -4,4 +4,4 @@ use Rattle.mwserve.proofs.fn.main.run.Goals as goal
 
 -- what is promised is kept by an engine of opened files
 pub serve-requires-clause-promise : goal.serve-requires-clause-promise
-serve-requires-clause-promise c κs within = engine_keeps _ _ _ _ _
+serve-requires-clause-promise c κs within = engine_keeps _ _ _ _ _ _

@@ -4,4 +4,4 @@ use Rattle.mwserve.proofs.fn.main.fn.run.spawn.Goals as goal
 
 -- what is promised is kept by an engine of opened files
 pub serve-status-requires-clause-promise : goal.serve-status-requires-clause-promise
-serve-status-requires-clause-promise c κs within = engine_keeps _ _ _ _ _
+serve-status-requires-clause-promise c κs within = engine_keeps _ _ _ _ _ _
