@@ -39,9 +39,10 @@ class Caller:
     """A client's end of a connection, and when its time began."""
 
     def __init__(self, server: Served, at: str) -> None:
+        # Before it connects: the server's time begins then, and this thread may come late.
+        self.begun = time.monotonic()
         self.socket = connected(server.places[at])
         self.socket.settimeout(PATIENCE)
-        self.begun = time.monotonic()
 
     def hear(self, wanted: bytes) -> None:
         """Wrong unless just this comes next."""
