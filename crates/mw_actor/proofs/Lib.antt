@@ -1,2 +1,3 @@
 pub mod JobLaws
 pub mod RangeLaws
+pub mod PointLaws

@@ -1,18 +1,17 @@
 -- A value that clap reads of an option of one value was given with its name, or in the word after it.
 -- Used by: mw_config.
-use Rattle.std.proofs.Common.{◌≡◌, ◌∙◌, ◌⊎◌, ◌<◌, ◌≤◌, ◌+◌, ◌==◌, ◌&&◌, ◌||◌, ℕ, Bool, not, true, false, zero, suc, refl, sym, ap, subst, arith, List, [], ◌∷◌, ◌++◌, length, drop, take, get_or, append_assoc, append-nil, Option, Some, None, is_some, inl, inr, true≢false, if◌then◌else◌, nat_lt, lt-ltb, le-ltb}
-use Rattle.std.specs.List.{AllByRecursion, after_first, before_first, find, fold, list_all, list_any, position_or_len}
-use Rattle.std.specs.Option.{option_map, option_map_or}
+use Rattle.std.proofs.Common.{◌≡◌, ◌∙◌, ◌⊎◌, ◌≤◌, ◌+◌, ◌==◌, ◌&&◌, ◌||◌, ℕ, Bool, not, true, false, zero, suc, refl, sym, ap, subst, arith, List, [], ◌∷◌, ◌++◌, length, drop, append_assoc, append-nil, Option, Some, None, is_some, inl, inr, true≢false, if◌then◌else◌, nat_lt, le-ltb}
+use Rattle.std.specs.List.{AllByRecursion, find, fold, list_all, list_any}
+use Rattle.std.specs.Option.{option_map_or}
 use Rattle.std.specs.Str.{bytes_eq, chars}
 use Rattle.std.specs.Prelude.{min, encode_utf8, option_and_then, slice_get}
 use Rattle.std.proofs.lemmas.Bool.Decides.{nat_tests}
 use Rattle.std.proofs.lemmas.Slice.Eq.{bytes_eq-Decides}
 use Rattle.clap.proofs.CutLemmas.{Lacks}
 use Rattle.clap.proofs.LexerLemmas.{name_and_value-at, name_and_value-without}
-use Rattle.clap.specs.Lexer.{has_byte, long_of, long_of_rest, name_and_value, short_of, strip_byte}
-use Rattle.clap.specs.Facts.{unwrap_or_range}
+use Rattle.clap.specs.Lexer.{long_of, long_of_rest, name_and_value, short_of, strip_byte}
 use Rattle.clap.specs.Matches.{count_text}
-use Rattle.clap.specs.Walk.{Held, Names, Outcome, done, waits, plain, refused, Row, Rule, Step, next, trailing, subcommand, value, Text, Waiting, idle, option, positional, Walk, action_of, after_flag, after_step, arg_by_id, arg_by_index, arg_by_long, arg_by_short, at_row, attached_value, count_of, bundle, bundle_met, bundle_step, counted, default_rows, finished, first_of, flag_met, has_long, has_row, has_short, is_empty, long_met, long_or_other, long_word, more_values, most_values, new_count, nothing_held, option_met, option_word, pending_count, plain_word, pushed, reacted, reading_by, rows_after, settled, settled_rows, short_met, short_or_plain, short_word, started, subcommand_met, subcommand_or_other, takes_values, to_positional, used, used_as, used_by_id, values_or_missing, walk, walk_from, walked, walked_from, with_count, with_default, with_values, without, word_met}
+use Rattle.clap.specs.Walk.{Held, Outcome, done, waits, plain, refused, Row, Rule, Step, next, trailing, subcommand, value, Text, Waiting, idle, option, positional, Walk, action_of, after_flag, after_step, arg_by_id, arg_by_index, arg_by_long, arg_by_short, at_row, attached_value, count_of, bundle, bundle_met, bundle_step, default_rows, first_of, flag_met, has_long, has_row, has_short, is_empty, long_met, long_or_other, more_values, most_values, new_count, nothing_held, option_met, option_word, pending_count, plain_word, pushed, reacted, reading_by, rows_after, settled, settled_rows, short_met, short_or_plain, short_word, started, subcommand_met, subcommand_or_other, takes_values, to_positional, used, used_as, used_by_id, values_or_missing, walk_from, walked, walked_from, with_count, with_default, with_values, without, word_met}
 use Rattle.clap.specs.declared.builder.action.ArgAction.{ArgAction}
 use Rattle.clap.specs.declared.builder.action.ArgAction.TheVariants.{Set, Append, SetTrue, SetFalse, Count, Help, HelpShort, HelpLong, Version}
 use Rattle.clap.specs.declared.builder.value_parser.Reading.{Reading}

@@ -3,9 +3,9 @@
 //! Used by: `file_command`, mw_config, mwinit, mwbench, mwshow, mwreplay. The texts are clap's: scripts/check-texts and
 //! scripts/check-refusals expect some. What clap reads of a table is in specs/Commands.
 ghost use Rattle.std.specs.List.{AllByRecursion};
-ghost use Rattle.std.specs.Prelude.{◌≡◌, ◌++◌, IfErr, IfOk, OnOk, false, map, string_bytes, true};
+ghost use Rattle.std.specs.Prelude.{◌≡◌, ◌++◌, [], IfErr, IfOk, OnOk, false, map, string_bytes, true};
 ghost use Rattle.clap.specs.Simple.{on_top};
-ghost use Rattle.clap.specs.Words.{HasMatchesOf, app_of, kind_of, new_app, rule_of, takes};
+ghost use Rattle.clap.specs.Words.{HasMatchesOf, app_of, fault_of, is_simple_and_free, kind_of, new_app, rule_of, takes};
 ghost use Rattle.clap.specs.declared.error.kind.ErrorKind.TheVariants.{OutOfMemory};
 ghost use Rattle.mw_command_line.specs.Commands.{command_of, rule_of_argument};
 
@@ -81,8 +81,9 @@ impl CommandLine {
     ///
     /// - `matches`: it gives what clap reads of just these words for the table's arguments.
     /// - `taken`: it refuses words that clap takes only if memory was refused.
+    /// - `faultless`: it gives something only of words in which clap finds no fault.
     ///
-    /// Both are of a table that clap's contracts can read (`is_simple`).
+    /// They are of a table that clap's contracts can read (`is_simple`, `is_simple_and_free`).
     ///
     /// # Errors
     ///
@@ -90,6 +91,7 @@ impl CommandLine {
     pub fn matches<'a>(&self, alloc: Global, args: &'a [String]) -> Result<ArgMatches<'a>, Error>
         ensures matches { IfOk result (HasMatchesOf (command_of self.now) (map string_bytes args.now)) }
         ensures taken { IfErr result (λ fault. takes (command_of self.now) (map string_bytes args.now) ≡ true → kind_of fault ≡ OutOfMemory) }
+        ensures faultless { IfOk result (λ _. is_simple_and_free (command_of self.now) ≡ true → fault_of (command_of self.now) (map string_bytes args.now) ≡ []) }
     {
         match self.command(alloc) {
             Ok(command) => command.try_get_matches_from(args),

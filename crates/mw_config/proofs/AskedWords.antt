@@ -1,9 +1,9 @@
 -- What clap reads of the words that were given is what they ask for.
 -- Used by: read_args.
-use Rattle.std.proofs.Common.{◌≡◌, ◌∙◌, ℕ, ap, codes, map, sym, refl, subst, drop, string_bytes, List, Option, Some, true}
+use Rattle.std.proofs.Common.{◌≡◌, [], ◌∙◌, ℕ, ap, codes, map, sym, refl, subst, drop, string_bytes, List, Option, Some, true}
 use Rattle.clap.proofs.WalkLemmas.{first_value-rows, one_text-rows}
 use Rattle.clap.specs.Simple.{on_top}
-use Rattle.clap.specs.Words.{App, HasMatchesOf, Rule, built, first_of, first_value, found_of, is_simple, kind_of, new_app, one_of, one_text, takes}
+use Rattle.clap.specs.Words.{App, HasMatchesOf, Rule, built, fault_of, first_of, first_value, found_of, is_simple, is_simple_and_free, kind_of, new_app, one_of, one_text, takes}
 use Rattle.clap.specs.declared.error.Error.{Error}
 use Rattle.clap.specs.declared.error.kind.ErrorKind.TheVariants.{OutOfMemory}
 use Rattle.clap.specs.declared.parser.matches.ArgMatches.{ArgMatches}
@@ -29,10 +29,14 @@ is_servers line called has =
 simple : is_simple server_command ≡ true
 simple = refl
 
+free : is_simple_and_free server_command ≡ true
+free = refl
+
 -- what the matches have is what the words ask for
 asked_by : (words : List (List ℕ)) (matches : ArgMatches) (args : Args) → HasMatchesOf server_command words matches
+    → (is_simple_and_free server_command ≡ true → fault_of server_command words ≡ [])
     → AreAskedBy (first_value (found_of matches)) (one_text (found_of matches)) args → AreAsked words args
-asked_by words matches args has asked =
+asked_by words matches args has faultless asked =
     let same : (name : List ℕ) → value_asked words name ≡ first_value (found_of matches) name =
     λ name. sym (first_value-rows (found_of matches) name ∙ ap (first_of name) (has simple).0) in
     let read : (name : List ℕ) → one_text (found_of matches) name ≡ text_asked words name =
@@ -41,6 +45,7 @@ asked_by words matches args has asked =
     λ name number is. subst (λ (text : Option (List ℕ)). IsNumberOf text number) (read name) is in
     let tenants : value_asked words (codes "tenants") ≡ Some (string_bytes args.tenants) = same _ ∙ asked.tenants in
     record {
+      faultless = faultless free;
       read = record {
         tenants = tenants;
         pool = number _ _ asked.pool;
@@ -51,9 +56,12 @@ asked_by words matches args has asked =
     }
 
 pub asked_of : (line : CommandLine) (words : List (List ℕ)) (matches : ArgMatches) (args : Args) → line.name.now ≡ codes "mwserve" → map rule_of_argument line.arguments.now ≡ server_rules
-    → HasMatchesOf (command_of line) words matches → AreAskedBy (first_value (found_of matches)) (one_text (found_of matches)) args → AreAsked words args
-asked_of line words matches args called listed has asked =
-    asked_by words matches args (subst (λ (app : App). HasMatchesOf app words matches) (is_servers line called listed) has) asked
+    → HasMatchesOf (command_of line) words matches
+    → (is_simple_and_free (command_of line) ≡ true → fault_of (command_of line) words ≡ []) → AreAskedBy (first_value (found_of matches)) (one_text (found_of matches)) args → AreAsked words args
+asked_of line words matches args called listed has faultless asked =
+    let same = is_servers line called listed in
+    asked_by words matches args (subst (λ (app : App). HasMatchesOf app words matches) same has)
+    (subst (λ (app : App). is_simple_and_free app ≡ true → fault_of app words ≡ []) same faultless) asked
 
 -- clap refuses words that it takes only if memory is out
 pub taken_of : (line : CommandLine) (words : List (List ℕ)) (fault : Error) → line.name.now ≡ codes "mwserve" → map rule_of_argument line.arguments.now ≡ server_rules

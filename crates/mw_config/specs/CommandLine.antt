@@ -1,11 +1,11 @@
 -- Defines what the command line of `mwserve` may ask for: connections, clients, limits of time, file modes, pool and workers. Defines also
 -- which words ask for a tenants file, a script, addresses, a pool and workers.
 -- Used by: mw_programs, command_line.rt, lease_terms.rt. Change it with the program's help and docs/OPERATING.
-use Rattle.std.specs.Prelude.{◌≡◌, ℕ, ◌≤◌, ◌<◌, codes, drop, IfSome, List, None, Option, Some, string_bytes, true, vec_len}
+use Rattle.std.specs.Prelude.{◌≡◌, ℕ, ◌≤◌, ◌<◌, [], codes, drop, IfSome, List, None, Option, Some, string_bytes, true, vec_len}
 use Rattle.std.specs.Option.{option_map}
 use Rattle.std.specs.Str.Parse.{digits_value, without_leading_plus}
 use Rattle.clap.specs.Simple.{on_top}
-use Rattle.clap.specs.Words.{App, first_of, matches_of, new_app, one_of, takes}
+use Rattle.clap.specs.Words.{App, fault_of, first_of, matches_of, new_app, one_of, takes}
 use Rattle.mw_command_line.specs.Commands.{IsGiven}
 use Rattle.mw_words.specs.declared.limits.TheConstants.{MAX_POOL, MAX_WORKERS, MAX_CONNECTIONS}
 use Rattle.mw_config.specs.declared.command_line.TheConstants.{MAX_CLIENTS, MAX_FAULTS, MAX_HTTP_NAMES, MAX_IDLE, MAX_SOCKET_MODE}
@@ -94,8 +94,9 @@ pub record AreAskedBy (value text : List ℕ → Option (List ℕ)) (args : Args
   pub mode : IsModeAsked value args.mode
 
 -- The words of a command line, of which the first is the program's own name, ask for this tenants file, this mode, and so many slots and
--- workers: clap reads them so if it takes them. The path of the tenants file is in the word after `--tenants`, or `--tenants=PATH` is a word.
+-- workers: clap finds no fault in them, and reads them so. The path of the tenants file is in the word after `--tenants`, or `--tenants=PATH` is a word.
 pub record AreAsked (words : List (List ℕ)) (args : Args) : Type 0 where
+  pub faultless : fault_of server_command words ≡ []
   pub read : AreAskedBy (value_asked words) (text_asked words) args
   pub tenants : IsGiven (codes "tenants") (drop 1 words) (string_bytes args.tenants)
 

@@ -4,6 +4,7 @@ pub mod Images
 mod Left
 mod Made
 pub mod MakesLaws
+pub mod Outcomes
 pub mod Plans
 pub mod Remembered
 mod Repeated

@@ -1,17 +1,17 @@
--- A call that is made again after it failed: what is made from now on leads on from the first call. Used by: file.rt.
-use Rattle.std.specs.Prelude.{zero, suc, Bool, false}
+-- A call that is made again after it was interrupted: what is made from now on leads on from the first call. Used by: file.rt.
+use Rattle.std.specs.Prelude.{zero, suc}
 use Rattle.mw_disk.specs.DeviceCalls.{DeviceCall}
-use Rattle.mw_disk.specs.FileCalls.{IsRepeated}
+use Rattle.mw_disk.specs.FileCalls.{Interrupted, IsRepeated, Went}
 
-module _ {F : Type 0} (made : DeviceCall → Bool → F → F → Type 0) where
+module _ {F : Type 0} (made : DeviceCall → Went → F → F → Type 0) where
   -- However the call is repeated from now on, it was repeated so from the start on.
   abbrev pub LeadsOn : DeviceCall → F → F → Type 0
-  LeadsOn call start now = (well : Bool) (new : F) → IsRepeated made call well now new → IsRepeated made call well start new
+  LeadsOn call start now = (went : Went) (new : F) → IsRepeated made call went now new → IsRepeated made call went start new
 
-  -- a call failed
-  pub leads_on : (call : DeviceCall) (start now mid : F) → LeadsOn call start now → made call false now mid → LeadsOn call start mid
-  leads_on call start now mid on failed well new rest = on well new (suc rest.0, (mid, failed, rest.1))
+  -- a call was interrupted
+  pub leads_on : (call : DeviceCall) (start now mid : F) → LeadsOn call start now → made call Interrupted now mid → LeadsOn call start mid
+  leads_on call start now mid on cut went new rest = on went new (suc rest.0, (mid, cut, rest.1))
 
   -- a call was the last one
-  pub leads_to : (call : DeviceCall) (well : Bool) (start now new : F) → LeadsOn call start now → made call well now new → IsRepeated made call well start new
-  leads_to call well start now new on last = on well new (zero, last)
+  pub leads_to : (call : DeviceCall) (went : Went) (start now new : F) → LeadsOn call start now → made call went now new → IsRepeated made call went start new
+  leads_to call went start now new on last = on went new (zero, last)

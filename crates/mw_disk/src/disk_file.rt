@@ -1,8 +1,9 @@
 //! The trait of the file below a [`FileDisk`](crate::FileDisk). A file says by its own `made` what is known of a call.
 //!
 //! Used by: `file.rt`; mw_opening, whose watched file is one over another. A file of the system says nothing.
-ghost use Rattle.std.specs.Prelude.{Bool, length, is_ok};
+ghost use Rattle.std.specs.Prelude.{length};
 ghost use Rattle.mw_disk.specs.DeviceCalls.{DeviceCall, ReadAt, WriteAt, Sync, Length};
+ghost use Rattle.mw_disk.specs.FileCalls.{Went, went_of};
 
 use std::fs::{Metadata, OpenFile};
 use std::io;
@@ -10,25 +11,25 @@ use std::os::unix::fs::FileExt;
 
 /// A file of which whole ranges are read and written, and which is synced and asked for its length.
 pub trait DiskFile {
-    /// This call was made. It went well (true) or failed (false), and led from one state of the file to another. Code for
-    /// every file that promises such calls has made them.
-    ghost made: { DeviceCall → Bool → Self → Self → Type 0 };
+    /// This call was made. It went so, and led from one state of the file to another. Code for every file that promises such
+    /// calls has made them.
+    ghost made: { DeviceCall → Went → Self → Self → Type 0 };
 
     /// Fills the whole slice with the bytes from `at` on. It goes on if a read stops short, or is interrupted.
     fn read_all(&mut self, out: &mut [u8], at: u64) -> io::Result<()>
-        ensures made { made (ReadAt at (length out.old)) (is_ok result) self.old self.new };
+        ensures made { made (ReadAt at (length out.old)) (went_of result) self.old self.new };
 
     /// Writes all these bytes from `at` on. It goes on if a write stops short, or is interrupted.
     fn write_all(&mut self, bytes: &[u8], at: u64) -> io::Result<()>
-        ensures made { made (WriteAt at bytes.now) (is_ok result) self.old self.new };
+        ensures made { made (WriteAt at bytes.now) (went_of result) self.old self.new };
 
     /// Makes what was written durable. It may be interrupted.
     fn sync_once(&mut self) -> io::Result<()>
-        ensures made { made Sync (is_ok result) self.old self.new };
+        ensures made { made Sync (went_of result) self.old self.new };
 
     /// Gives what the system tells of the file, with its length. It may be interrupted.
     fn told(&mut self) -> io::Result<Metadata>
-        ensures made { made Length (is_ok result) self.old self.new };
+        ensures made { made Length (went_of result) self.old self.new };
 }
 
 impl<F: FileExt + OpenFile> DiskFile for F {

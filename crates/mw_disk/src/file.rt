@@ -5,7 +5,7 @@
 ghost use Rattle.std.specs.Prelude.{◌≡◌, ◌+◌, ◌<◌, ◌≤◌, ◌^◌, true, false, length, min, is_ok, IsErr, MatchResult, if◌then◌else◌};
 ghost use Rattle.mw_disk.specs.DeviceCalls.{ReadAt, WriteAt, Sync, Length};
 ghost use Rattle.mw_disk.specs.Facts.{most_counted};
-ghost use Rattle.mw_disk.specs.FileCalls.{IsMadeOnFile};
+ghost use Rattle.mw_disk.specs.FileCalls.{Interrupted, IsMadeFor, IsMadeOnFile, went_of};
 ghost use Rattle.mw_disk.specs.Unknown.{unknown};
 
 use crate::device::{Disk, DiskFault};
@@ -44,6 +44,8 @@ impl<F> FileDisk<F> {
     // Counts a call that failed.
     fn ended<T: Drop>(&mut self, outcome: io::Result<T>) -> Result<T, DiskFault>
         ensures value { MatchResult outcome (λ value. result ≡ Ok value) (λ _. IsErr result) }
+        ensures same { is_ok result ≡ is_ok outcome }
+        ensures file { self.new.file ≡ self.old.file }
         ensures faults { self.new ≡ (if is_ok outcome then self.old else record self.old { faults = min (self.old.faults + 1) most_counted }) }
     {
         match outcome {
@@ -59,7 +61,7 @@ impl<F> FileDisk<F> {
 impl<F: DiskFile> Disk for FileDisk<F> {
     ghost facts = { λ d. unknown d.faults };
 
-    ghost made = { λ call well old new. IsMadeOnFile F.made call well old.file new.file };
+    ghost made = { λ call well old new. IsMadeFor F.made call well old.file new.file };
 
     fn read_at(&mut self, at: u64, out: &mut [u8]) -> Result<(), DiskFault> {
         let read = read(&mut self.file, at, out);
@@ -102,7 +104,7 @@ fn is_in_file(at: u64, len: usize) -> bool
 
 // Fills the slice with the bytes from `at` on.
 fn read<F: DiskFile>(file: &mut F, at: u64, out: &mut [u8]) -> io::Result<()>
-    ensures made { IsMadeOnFile F.made (ReadAt at (length out.old)) (is_ok result) file.old file.new }
+    ensures made { IsMadeOnFile F.made (ReadAt at (length out.old)) (went_of result) file.old file.new }
 {
     if !is_in_file(at, out.len()) {
         return Err(io::Error::from(ErrorKind::InvalidInput));
@@ -112,7 +114,7 @@ fn read<F: DiskFile>(file: &mut F, at: u64, out: &mut [u8]) -> io::Result<()>
 
 // Writes the bytes from `at` on.
 fn write<F: DiskFile>(file: &mut F, at: u64, bytes: &[u8]) -> io::Result<()>
-    ensures made { IsMadeOnFile F.made (WriteAt at bytes.now) (is_ok result) file.old file.new }
+    ensures made { IsMadeOnFile F.made (WriteAt at bytes.now) (went_of result) file.old file.new }
 {
     if !is_in_file(at, bytes.len()) {
         return Err(io::Error::from(ErrorKind::InvalidInput));
@@ -122,7 +124,7 @@ fn write<F: DiskFile>(file: &mut F, at: u64, bytes: &[u8]) -> io::Result<()>
 
 // Makes what was written durable, and tries again if that is interrupted.
 fn sync<F: DiskFile>(file: &mut F) -> io::Result<()>
-    ensures made { IsMadeOnFile F.made Sync (is_ok result) file.old file.new }
+    ensures made { IsMadeOnFile F.made Sync (went_of result) file.old file.new }
 {
     for _ in 0..u64::MAX {
         let synced = file.sync_once();
@@ -135,7 +137,7 @@ fn sync<F: DiskFile>(file: &mut F) -> io::Result<()>
 
 // Asks what the system tells of the file, and tries again if that is interrupted.
 fn ask<F: DiskFile>(file: &mut F) -> io::Result<Metadata>
-    ensures made { IsMadeOnFile F.made Length (is_ok result) file.old file.new }
+    ensures made { IsMadeOnFile F.made Length (went_of result) file.old file.new }
 {
     for _ in 0..u64::MAX {
         let told = file.told();
@@ -148,7 +150,7 @@ fn ask<F: DiskFile>(file: &mut F) -> io::Result<Metadata>
 
 // Tells whether a call was interrupted, so that it must be made again.
 fn is_interrupted<T>(outcome: &io::Result<T>) -> bool
-    ensures { result ≡ true → is_ok outcome.now ≡ false }
+    ensures { result ≡ true → went_of outcome.now ≡ Interrupted }
 {
     match outcome {
         Ok(_) => false,

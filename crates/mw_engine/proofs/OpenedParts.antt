@@ -37,6 +37,14 @@ module _ {D : Type 0} (facts : D → Facts) where
     | inr past ↦ absurd (subst (λ ls. FitLines facts ls (file ∷ rest)) (drop_all n lines past) (subst (FitLines facts (drop n lines)) next fit))
   ]
 
+  -- a file is left, so its line is too
+  pub line_left : (lines : List TenantLine) (n : ℕ) (left : List (Option (TenantFile D × Vec ℕ Global))) (file : Option (TenantFile D × Vec ℕ Global)) (rest : List (Option (TenantFile D × Vec ℕ Global)))
+      → left ≡ file ∷ rest → FitLines facts (drop n lines) left → n < length lines
+  line_left lines n left file rest next fit = elim (cases_lt n (length lines)) [
+    | inl lt ↦ lt
+    | inr past ↦ absurd (subst (λ ls. FitLines facts ls (file ∷ rest)) (drop_all n lines past) (subst (FitLines facts (drop n lines)) next fit))
+  ]
+
   -- one more tenant's file is opened
   pub made_more : (lines : List TenantLine) (files left rest : List (Option (TenantFile D × Vec ℕ Global))) (openings openings_then : List FileOpening) (books books_then : List (Book D)) (n : ℕ) (line : TenantLine)
       (file : Option (TenantFile D × Vec ℕ Global)) (opening : FileOpening) (book : Book D) → Next lines n line file rest → left ≡ file ∷ rest → IsMadeOf facts line file opening book

@@ -1,3 +1,4 @@
 pub mod DisksOpened
 pub mod FilesFitLines
 pub mod FilesRefused
+pub mod ReplacedFiles

@@ -3,8 +3,10 @@
 //!
 //! Used by: `watched_file`, `tenant_disks`; mw_programs, which looks whether the file was replaced; mw_opening_tests. Many
 //! threads may share it; the calls on one file come one after the other.
-ghost use Rattle.std.specs.Prelude.{◌≡◌, ◌<◌, is_ok, not};
+ghost use Rattle.std.specs.Prelude.{◌≡◌, ◌<◌, IfErr, is_ok, not};
 ghost use Rattle.std.specs.Fs.{metadata_len};
+ghost use Rattle.std.specs.IoError.{error_kind};
+ghost use Rattle.mw_disk.specs.FileCalls.{Failed, went_by};
 ghost use Rattle.mw_words.specs.declared.limits.TheConstants.{MAX_TENANTS};
 
 use crate::last_error::LastError;
@@ -166,7 +168,9 @@ impl FileState {
     /// # Errors
     ///
     /// The file was given up.
-    pub(crate) fn may_be_called(&self) -> io::Result<()> {
+    pub(crate) fn may_be_called(&self) -> io::Result<()>
+        ensures { IfErr result (λ error. went_by (error_kind error) ≡ Failed) }
+    {
         self.last
             .keep(none_if(self.is_given_up.load(Ordering::SeqCst)))
     }
@@ -176,7 +180,9 @@ impl FileState {
     /// # Errors
     ///
     /// The file is shorter than it must be, or it is known that others have replaced, cut or overwritten it.
-    pub(crate) fn keep_seen(&self, seen: SeenFile) -> io::Result<()> {
+    pub(crate) fn keep_seen(&self, seen: SeenFile) -> io::Result<()>
+        ensures { IfErr result (λ error. went_by (error_kind error) ≡ Failed) }
+    {
         self.device.store(seen.device, Ordering::SeqCst);
         self.inode.store(seen.inode, Ordering::SeqCst);
         if seen.size < self.size.fetch_max(seen.size, Ordering::SeqCst) {
@@ -206,7 +212,9 @@ impl FileState {
     /// # Errors
     ///
     /// They are at the front, and not those that the server last read or wrote there: others have overwritten them.
-    pub(crate) fn keep_read(&self, offset: u64, bytes: &[u8]) -> io::Result<()> {
+    pub(crate) fn keep_read(&self, offset: u64, bytes: &[u8]) -> io::Result<()>
+        ensures { IfErr result (λ error. went_by (error_kind error) ≡ Failed) }
+    {
         let is_overwritten = self.front.differs(offset, bytes);
         if is_overwritten {
             self.keep_replaced();
@@ -226,7 +234,8 @@ impl FileState {
 
 /// Fails, as of a file that was replaced, if this holds.
 fn none_if(is_replaced: bool) -> io::Result<()>
-    ensures { is_ok result ≡ not is_replaced }
+    ensures ok { is_ok result ≡ not is_replaced }
+    ensures failed { IfErr result (λ error. went_by (error_kind error) ≡ Failed) }
 {
     if is_replaced {
         return Err(io::Error::from_raw_os_error(REPLACED));

@@ -3,9 +3,10 @@
 //!
 //! Used by: `tenant_disks`, mw_opening_tests. Each call must give what the file's call gave, or an error if the file was
 //! given up, or others have cut or overwritten it.
-ghost use Rattle.std.specs.Prelude.{◌≡◌, true, is_ok};
+ghost use Rattle.std.specs.Prelude.{◌≡◌};
 ghost use Rattle.mw_disk.specs.DeviceCalls.{WriteAt, Length};
-ghost use Rattle.mw_opening.specs.WatchedCalls.{IsOnce, IsWatched};
+ghost use Rattle.mw_disk.specs.FileCalls.{went_of};
+ghost use Rattle.mw_opening.specs.WatchedCalls.{IsOnce, IsShown, IsWatched};
 
 use crate::file_state::{FileState, SeenFile};
 use mw_disk::DiskFile;
@@ -15,7 +16,7 @@ use std::io::{self, ErrorKind};
 use std::time::Clock;
 
 /// A file of whose calls a state keeps the last error, which file it is, how long it must be, and how it must begin. Each call
-/// is one call of the file below, and gives what that gave. By `specs/WatchedCalls` it goes well only if that did.
+/// makes this call of the file below, once at most, and gives what that gave, or fails (`specs/WatchedCalls`).
 ///
 /// If the file was given up, the call fails, and none is made below. A call that asks for the length fails too if the file is
 /// shorter than it must be, or others have replaced, cut or overwritten it. So does a read at the front that gives other bytes
@@ -77,7 +78,7 @@ impl<'a, F, K: Clock> WatchedFile<'a, F, K> {
 impl<F: DiskFile, K: Clock> WatchedFile<'_, F, K> {
     /// Asks the file below for what the system tells of it, and keeps that.
     fn ask(&mut self) -> io::Result<Metadata>
-        ensures { IsOnce F.made Length (is_ok result) self.old.file self.new.file }
+        ensures { IsOnce F.made Length (went_of result) self.old.file self.new.file }
     {
         let told = self.file.told();
         keep_told(self.state, told)
@@ -85,7 +86,7 @@ impl<F: DiskFile, K: Clock> WatchedFile<'_, F, K> {
 
     /// Writes these bytes to the file below, and keeps that.
     fn write_once(&mut self, bytes: &[u8], at: u64) -> io::Result<()>
-        ensures { F.made (WriteAt at bytes.now) (is_ok result) self.old.file self.new.file }
+        ensures { F.made (WriteAt at bytes.now) (went_of result) self.old.file self.new.file }
     {
         let started = self.start();
         let written = self.file.write_all(bytes, at);
@@ -106,7 +107,7 @@ fn has_failed<T>(outcome: &io::Result<T>) -> bool {
 
 /// Keeps what the system told of the file, or its error.
 fn keep_told(state: &FileState, told: io::Result<Metadata>) -> io::Result<Metadata>
-    ensures { is_ok result ≡ true → is_ok told ≡ true }
+    ensures { IsShown (went_of told) (went_of result) }
 {
     match state.last_error().keep(told) {
         Ok(told) => match state.keep_seen(SeenFile::of(&told)) {
@@ -119,7 +120,7 @@ fn keep_told(state: &FileState, told: io::Result<Metadata>) -> io::Result<Metada
 
 /// Keeps the bytes that a read gave, if it went well.
 fn keep_read(state: &FileState, at: u64, bytes: &[u8], read: io::Result<()>) -> io::Result<()>
-    ensures { is_ok result ≡ true → is_ok read ≡ true }
+    ensures { IsShown (went_of read) (went_of result) }
 {
     match read {
         Ok(()) => state.keep_read(at, bytes),
@@ -128,7 +129,7 @@ fn keep_read(state: &FileState, at: u64, bytes: &[u8], read: io::Result<()>) -> 
 }
 
 impl<F: DiskFile, K: Clock> DiskFile for WatchedFile<'_, F, K> {
-    ghost made = { λ call well old new. IsWatched F.made call well old.file new.file };
+    ghost made = { λ call told old new. IsWatched F.made call told old.file new.file };
 
     fn read_all(&mut self, out: &mut [u8], at: u64) -> io::Result<()> {
         if let Err(error) = self.state.may_be_called() {

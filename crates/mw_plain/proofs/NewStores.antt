@@ -33,6 +33,14 @@ module _ {D : Type 0} where
     pub fits : FitsLine line file
     pub fit : FitLines (drop (n + 1) lines) rest
 
+  -- a line is there for the next file
+  pub line_is_there : (lines : List TenantLine) (n : ℕ) (left : List (Option (TenantFile D × Vec ℕ Global))) (file : Option (TenantFile D × Vec ℕ Global)) (rest : List (Option (TenantFile D × Vec ℕ Global)))
+      → left ≡ file ∷ rest → FitLines (drop n lines) left → n < length lines
+  line_is_there lines n left file rest next fit = elim (cases_lt n (length lines)) [
+    | inl lt ↦ lt
+    | inr past ↦ absurd (subst (λ ls. FitLines ls (file ∷ rest)) (drop_all n lines past) (subst (FitLines (drop n lines)) next fit))
+  ]
+
   pub next_of : (lines : List TenantLine) (n : ℕ) (line : TenantLine) (left : List (Option (TenantFile D × Vec ℕ Global))) (file : Option (TenantFile D × Vec ℕ Global)) (rest : List (Option (TenantFile D × Vec ℕ Global)))
       → line ≡ get_or lines n line → left ≡ file ∷ rest → FitLines (drop n lines) left → Next lines n line file rest
   next_of lines n line left file rest here next fit = elim (cases_lt n (length lines)) [

@@ -76,6 +76,13 @@ serves_one {D} old new tenant p q there was written pool line = (
 pub part_here : {D : Type 0} (old : Plain D) (tenant : ℕ) (p : Part D) → tenant < tenants old → p ≡ get_or old.parts.items tenant p → part_at old tenant ≡ Some p
 part_here old tenant p there value = slice_get-get_or old.parts.items tenant p there ∙ ap Some (sym value)
 
+-- the words of a tenant whose part is this, and its loaded file
+pub has_words : {D : Type 0} (old : Plain D) (tenant : ℕ) (p : Part D) → part_at old tenant ≡ Some p → words_at old tenant ≡ p.words
+has_words {D} old tenant p is = ap (λ (o : Option (Part D)). option_map_or (λ p. p.words) o 0) is
+
+pub has_book : {D : Type 0} (old : Plain D) (tenant : ℕ) (p : Part D) → part_at old tenant ≡ Some p → book_at old tenant ≡ p.book
+has_book {D} old tenant p is = ap (λ (o : Option (Part D)). option_and_then (λ p. p.book) o) is
+
 module _ {D : Type 0} (facts : D → Facts) where
   opens_in : (old new : Plain D) (tenant : ℕ) (job : Job) (begun : Begun) → ServesOne old new tenant → tenant < tenants old
       → IsTrue (is_well_formed (words_at old tenant) job) → Opens facts (book_at old tenant) (book_at new tenant) job begun → OpensIn old new tenant job (start_of tenant begun)

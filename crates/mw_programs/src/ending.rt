@@ -2,6 +2,7 @@
 //!
 //! `mwserve` has a thread of its own serve, and waits for the [`ServerEnd`]. `fault_notes` ends
 //! the server. docs/OPERATING tells the exit status: change both together.
+ghost use Rattle.std.specs.Prelude.{◌≡◌, IfOk, map, string_bytes};
 
 use mw_config::{Mode, read_args};
 use std::alloc::{AllocError, Global};
@@ -57,10 +58,9 @@ impl ServedApart {
     /// # Errors
     ///
     /// Memory was refused.
-    pub fn new(
-        alloc: Global,
-        args: &[String],
-    ) -> Result<(Self, Arc<ServerEnd, Global>), AllocError> {
+    pub fn new(alloc: Global, args: &[String]) -> Result<(Self, Arc<ServerEnd, Global>), AllocError>
+        ensures { IfOk result (λ made. map string_bytes made.0.args.items ≡ map string_bytes args.now) }
+    {
         let end = Arc::new(alloc, ServerEnd::new())?;
         let apart = ServedApart {
             args: copies_of(alloc, args)?,
@@ -75,7 +75,9 @@ impl ServedApart {
 /// # Errors
 ///
 /// Memory was refused.
-fn copies_of(alloc: Global, texts: &[String]) -> Result<Vec<String>, AllocError> {
+fn copies_of(alloc: Global, texts: &[String]) -> Result<Vec<String>, AllocError>
+    ensures { IfOk result (λ copies. map string_bytes copies.items ≡ map string_bytes texts.now) }
+{
     let mut copies = Vec::with_capacity(alloc, texts.len())?;
     for text in texts {
         copies.push(String::from_str(alloc, text.as_str())?)?;

@@ -4,7 +4,7 @@
 //!   and the console promise. No other can serve (`promise.rt`). It gives 0 for a script that clap takes only after
 //!   a session of it ended well.
 //! - *Proved*: a page's copy of a file is the engine's (`specs/Copies`).
-//! - *Tested only*: sockets, waits, `--admin`, what is printed and noted, and exit statuses (`scripts/check-stories`,
+//! - *Tested only*: sockets, waits, who waits at `--admin`, what is printed and noted, exit statuses (`scripts/check-stories`,
 //!   `scripts/check-programs`).
 //!
 //! Used by: mwserve. docs/OPERATING describes the program for users: change them together.

@@ -2,3 +2,4 @@ pub mod NewPassesOfWorlds
 pub mod ReadsMayCome
 pub mod ReadsStayReads
 pub mod MadeWorlds
+pub mod TakenPasses

@@ -1,10 +1,11 @@
 -- A table (array of shared atomic words) that is made of a simulated world begins after the run that led to that world.
--- Used by: of_world.
+-- Used by: table_of, of_world.
 use Rattle.std.specs.Prelude.{ℕ, zero, suc, ◌≡◌, ◌<◌, ◌≤◌, ◌⊎◌, List, [], ◌∷◌, length, map, slice_get, slice_index_or, Option, Some, None}
 use Rattle.std.proofs.Common.{refl, sym, ap, subst, ◌∙◌, inl, inr, arith}
 use Rattle.std.proofs.lemmas.List.{length-map}
 use Rattle.std.proofs.lemmas.Option.{slice_get_cases}
 use Rattle.mw_actor.specs.ActorState.{ActorState}
+use Rattle.mw_world.specs.declared.config.Config.{Config}
 use Rattle.mw_world.specs.Definition.Events.{WorldEvent}
 use Rattle.mw_world.specs.Definition.State.{TenantState, WorkerState, State, idle_worker_state}
 use Rattle.mw_rule.specs.Rule.{BitsMatch}
@@ -13,7 +14,7 @@ use Rattle.mw_simulator.specs.declared.world.World.{World}
 use Rattle.mw_simulator.specs.Events.{IsAfterRun}
 use Rattle.mw_simulator.specs.Representation.{Represents}
 use Rattle.mw_table.specs.NewPasses.{AreActors}
-use Rattle.mw_table.specs.Runs.{AreAfterRun, IsToldOf, LastStart}
+use Rattle.mw_table.specs.Runs.{AreAfterRun, IsToldOf, LastStart, basis_of_run}
 use Rattle.mw_table_tests.specs.Worlds.{actor_of, basis_of_world, last_start_of}
 
 some_worker_state : (one other : WorkerStateInMemory) → Some one ≡ Some other → one ≡ other
@@ -75,3 +76,12 @@ after_run world before words stands ties =
       };
       ties = ties state shows;
     }
+
+-- two lists of which the same is said, element by element, are equally long
+pub as_many : {A B C : Type 0} → (said : A → C) (told : B → C) (copies : List A) (things : List B) → map said copies ≡ map told things → length copies ≡ length things
+as_many said told copies things is = sym (length-map copies said) ∙ (ap length is ∙ length-map things told)
+
+-- what a table begins with that is made of the world's configuration, tenants and workers
+pub same_basis : (world : World) (before : List WorldEvent) (config : Config) (lasts : List LastStart) (worker_states : List WorkerState) → config ≡ world.config → lasts ≡ map last_start_of world.tenant_states.items
+    → worker_states ≡ map worker_state_of world.worker_states.items → basis_of_run config lasts worker_states before ≡ basis_of_world world before
+same_basis world before config lasts worker_states same_config same_lasts same_workers = λ i. basis_of_run (same_config i) (same_lasts i) (same_workers i) before

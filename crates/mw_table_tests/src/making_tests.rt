@@ -1,9 +1,9 @@
 //! Tests how a table (array of shared atomic words) is made: of a world in memory, and at a start.
-ghost use Rattle.std.specs.Prelude.{◌≡◌, ◌≤◌, [], ◌∷◌, ℕ, IfOk, None, Some, Vec};
+ghost use Rattle.std.specs.Prelude.{◌≡◌, ◌≤◌, [], ◌∷◌, ℕ, All, IfOk, IfSome, None, Some, Vec};
 ghost use Rattle.std.specs.declared.alloc.Global.{Global};
 ghost use Rattle.mw_world.specs.Definition.State.{tenant_at, tenants_of};
 ghost use Rattle.mw_simulator.specs.Events.{IsAfterRun};
-ghost use Rattle.mw_core.specs.FromTable.{IsOf, config_of};
+ghost use Rattle.mw_core.specs.FromTable.{Basis, IsDealt, IsOf, config_of};
 
 use crate::two_tenants::two_tenants;
 use crate::world_table::of_world;
@@ -25,6 +25,25 @@ fn places_of(actors: Vec<Option<Actor>>) -> usize {
     actors.len()
 }
 
+/// Gives what the last pass but one finds at the door and the last at the gate, before they meet. Gives None if there
+/// aren't two passes, or one isn't idle then.
+fn found_by_two(shared: &Shared, mut passes: Vec<Pass>) -> Option<[u64; 2]>
+    requires dealt { (basis : Basis) × All (IsDealt shared.now basis) passes.items }
+    requires pool { (config_of shared.now.table.shared.key).pool ≡ 1 }
+    requires tenants { 1 ≤ tenants_of (config_of shared.now.table.shared.key) }
+{
+    let mut other = passes.pop()?;
+    let mut one = passes.pop()?;
+    let door = shared.figure(&mut one, At::Door(0));
+    let gate = shared.figure(&mut other, At::Gate(0));
+    shared.meet(&mut one, &mut other);
+    if one.idle() && other.idle() && passes.is_empty() {
+        Some([door, gate])
+    } else {
+        None
+    }
+}
+
 /// Gives what the passes of a new world's table find at its door and at its gate, before they meet. Gives
 /// None if there isn't an idle pass and a place for a request for each of two workers, or if memory is refused.
 fn found_in(alloc: Global, world: &World) -> Option<[u64; 2]>
@@ -32,17 +51,11 @@ fn found_in(alloc: Global, world: &World) -> Option<[u64; 2]>
     requires pool { world.now.config.pool ≡ 1 }
     requires tenants { 1 ≤ tenants_of world.now.config }
 {
-    let Ok((shared, mut passes, actors)) = of_world(alloc, world, &RunBefore::none()) else {
+    let Ok((shared, passes, actors)) = of_world(alloc, world, &RunBefore::none()) else {
         return None;
     };
-    let places = places_of(actors);
-    let mut other = passes.pop()?;
-    let mut one = passes.pop()?;
-    let door = shared.figure(&mut one, At::Door(0));
-    let gate = shared.figure(&mut other, At::Gate(0));
-    shared.meet(&mut one, &mut other);
-    if one.idle() && other.idle() && passes.is_empty() && places == 2 {
-        Some([door, gate])
+    if places_of(actors) == 2 {
+        found_by_two(&shared, passes)
     } else {
         None
     }
@@ -101,23 +114,45 @@ fn figures(shared: &Shared, pass: &mut Pass) -> [u64; 4]
     ]
 }
 
-/// Gives the doors and first words of the table of two tenants, of whom one has a file. Gives None if
-/// there isn't an idle pass for each worker, in their order, or if memory is refused.
-fn found_at_a_start(alloc: Global) -> Option<[u64; 4]> {
+/// Makes the table of two tenants, of whom one has a file, and its passes. Gives None if memory is refused.
+fn started(alloc: Global) -> Option<(Shared, Vec<Pass>)>
+    ensures dealt { IfSome result (λ made. (basis : Basis) × All (IsDealt made.0 basis) made.1.items) }
+    ensures tenants { IfSome result (λ made. tenants_of (config_of made.0.table.shared.key) ≡ 2) }
+    ensures first { IfSome result (λ made. (tenant_at (config_of made.0.table.shared.key) 0).words ≡ 1) }
+    ensures second { IfSome result (λ made. (tenant_at (config_of made.0.table.shared.key) 1).words ≡ 1) }
+{
     let config = two_tenants();
     let Ok(openings) = one_of_two(alloc) else {
         return None;
     };
-    let Ok((shared, mut passes, _)) = Shared::new(alloc, &config, &openings) else {
-        return None;
-    };
+    match Shared::new(alloc, &config, &openings) {
+        Ok((shared, passes, _)) => Some((shared, passes)),
+        Err(_) => None,
+    }
+}
+
+/// Gives the doors and first words of a table of two tenants. Gives None if there isn't an idle pass for each worker,
+/// in their order.
+fn found_by_idle(shared: &Shared, mut passes: Vec<Pass>) -> Option<[u64; 4]>
+    requires dealt { (basis : Basis) × All (IsDealt shared.now basis) passes.items }
+    requires tenants { tenants_of (config_of shared.now.table.shared.key) ≡ 2 }
+    requires first { (tenant_at (config_of shared.now.table.shared.key) 0).words ≡ 1 }
+    requires second { (tenant_at (config_of shared.now.table.shared.key) 1).words ≡ 1 }
+{
     let other = passes.pop()?;
     let mut one = passes.pop()?;
     if one.idle() && other.idle() && one.worker() == 0 && other.worker() == 1 {
-        Some(figures(&shared, &mut one))
+        Some(figures(shared, &mut one))
     } else {
         None
     }
+}
+
+/// Gives the doors and first words of the table of two tenants, of whom one has a file. Gives None if
+/// there isn't an idle pass for each worker, in their order, or if memory is refused.
+fn found_at_a_start(alloc: Global) -> Option<[u64; 4]> {
+    let (shared, passes) = started(alloc)?;
+    found_by_idle(&shared, passes)
 }
 
 #[test]

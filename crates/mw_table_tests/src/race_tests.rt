@@ -322,6 +322,30 @@ fn reads_zeros(core: &Core, mut pass: Pass, quota: u8) -> bool
     first == Reply::Val(0) && second == Some(Reply::Val(0))
 }
 
+/// Tells whether a race to hold a word ends as it must, and reads find the old values then. The reader has no request
+/// until both threads have stopped.
+fn plants_race<R: Threads + Sync>(
+    rt: &R,
+    core: &Core,
+    first: Side,
+    second: Side,
+    reader: Pass,
+    quota: u8,
+) -> bool
+    requires own_first { IsOf core.now.shared first.pass }
+    requires carried_first { IsCarried first.pass first.actor }
+    requires own_second { IsOf core.now.shared second.pass }
+    requires carried_second { IsCarried second.pass second.actor }
+    requires may { MayRead core.now.shared quota reader }
+    requires pool { (config_of core.now.shared.table.shared.key).pool ≡ 3 }
+    requires words { (tenant_at (config_of core.now.shared.table.shared.key) 0).words ≡ 2 }
+{
+    let (one, two) = drive_both(rt, core, first, second);
+    let reads = reads_zeros(core, reader, quota);
+    let ends = plants_raced(core, one, two);
+    reads && ends
+}
+
 /// Tells whether a race to hold a word ends as it must, from this world on. Worker 2 has no request until both threads
 /// have stopped. Then it reads both words, which have their old values until a change is sealed.
 fn plant_race_from<R: Threads + Sync>(rt: &R, alloc: Global, world: &World) -> Option<bool>
@@ -337,10 +361,8 @@ fn plant_race_from<R: Threads + Sync>(rt: &R, alloc: Global, world: &World) -> O
     } = open(alloc, world)?;
     let reader = take_idle(&core, world, &run, &mut passes)?;
     let (first, second) = both(&core, world, &run, passes)?;
-    let (one, two) = drive_both(rt, &core, first, second);
-    let reads = reads_zeros(&core, reader, quota_of(world));
-    let ends = plants_raced(&core, one, two);
-    Some(reads && ends)
+    let ends = plants_race(rt, &core, first, second, reader, quota_of(world));
+    Some(ends)
 }
 
 /// Plays the world before that race, and tells whether the race ends as it must.

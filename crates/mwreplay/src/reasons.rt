@@ -13,11 +13,12 @@ use crate::restarts::restart_reason;
 use mw_actor::Actor;
 use mw_schedule::{Command, StepKind};
 use mw_simulator::World;
+use std::fmt;
 use thiserror::Error;
 
 /// Why a line of a schedule was not played to its end. A worker is told by its number, from 0, an item of a restart by
 /// its place, from 1, and a step by its kind.
-#[derive(Clone, Copy, Debug, Error)]
+#[derive(Clone, Copy, Error)]
 pub enum Reason {
     /// The world has no such worker.
     #[error("there is no worker {0}")]
@@ -58,6 +59,13 @@ pub enum Reason {
     /// A call that was under way, or an opening, makes fewer device calls than its item says.
     #[error("a call or an opening makes fewer device calls than its item says")]
     FewCalls,
+}
+
+/// A reason is shown by its text.
+impl fmt::Debug for Reason {
+    fn fmt<W: fmt::Write>(&self, f: &mut fmt::Formatter<W>) -> fmt::Result {
+        fmt::Display::fmt(self, f)
+    }
 }
 
 /// Where a worker of a world is.

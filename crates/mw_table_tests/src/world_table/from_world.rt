@@ -16,6 +16,25 @@ use mw_simulator::World;
 use mw_table::{Pass, RunBefore, Shared};
 use std::alloc::{AllocError, Global};
 
+/// Makes the table of [`of_world`] and its passes. The only error is that memory is out.
+fn table_of(
+    alloc: Global,
+    world: &World,
+    run: &RunBefore,
+) -> Result<(Shared, Vec<Pass>), AllocError>
+    requires { IsAfterRun world.now run.now.events }
+    ensures table { IfOk result (λ made. basis_of made.0.table.shared.key ≡ basis_of_world world.now run.now.events) }
+    ensures count { IfOk result (λ made. length made.1.items ≡ world.now.config.workers) }
+    ensures passes { IfOk result (λ made. All (IsDealt made.0 (basis_of_world world.now run.now.events)) made.1.items) }
+    ensures order { IfOk result (λ made. AreInOrder made.1.items) }
+{
+    let tenants = tenants_of(alloc, world.tenant_states())?;
+    let workers = workers_of(alloc, world.worker_states())?;
+    let words = words_of(alloc, world)?;
+    let (shared, passes) = Shared::of_run(alloc, world.config(), &tenants, &workers, &words, run)?;
+    Ok((shared, passes))
+}
+
 /// Makes a table with the shared words of a world, after a run from a new world. It takes that run, for contracts
 /// alone: [`RunBefore::none`] for a new world, [`run_before`] for any other. It returns the table, a pass for each
 /// worker, and each worker's request, both in the order of the workers. Each pass and request is at the point of its
@@ -40,10 +59,7 @@ pub(crate) fn of_world(
     ensures order { IfOk result (λ made. AreInOrder made.1.items) }
     ensures actors { IfOk result (λ made. (state : State) → Represents world.now state → AreActors state world.now.config.workers made.2.items) }
 {
-    let tenants = tenants_of(alloc, world.tenant_states())?;
-    let workers = workers_of(alloc, world.worker_states())?;
     let actors = actors_of(alloc, world.worker_states())?;
-    let words = words_of(alloc, world)?;
-    let (shared, passes) = Shared::of_run(alloc, world.config(), &tenants, &workers, &words, run)?;
+    let (shared, passes) = table_of(alloc, world, run)?;
     Ok((shared, passes, actors))
 }

@@ -7,7 +7,7 @@ use Rattle.mw_config.proofs.command_line.read_args.Goals as goal
 pub returns-in-Ok-args_of-clause-asked : goal.returns-in-Ok-args_of-clause-asked
 returns-in-Ok-args_of-clause-asked c =
     asked_of c.command_line.result (map (string_bytes {Z = Global}) c.args.args.now) c.in-Ok.matches c.in-Ok-args_of.args
-    c.command_line.ensures.name c.command_line.ensures.rules c.in-Ok.ensures.matches c.in-Ok-args_of.ensures.asked
+    c.command_line.ensures.name c.command_line.ensures.rules c.in-Ok.ensures.matches c.in-Ok.ensures.faultless c.in-Ok-args_of.ensures.asked
 
 -- clap refuses words that it takes only if memory is out
 pub returns-clause-taken : goal.returns-clause-taken

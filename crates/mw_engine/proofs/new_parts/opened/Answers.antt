@@ -3,7 +3,7 @@ use Rattle.std.proofs.Common.{◌≡◌, ◌+◌, ◌++◌, [], length, drop, ge
 use Rattle.std.proofs.lemmas.List.{nil_from_length}
 use Rattle.std.specs.Vec.Iter.{into_iter_items}
 use Rattle.mw_engine.specs.OpenedFiles.{AreMadeOf, FitLines}
-use Rattle.mw_engine.proofs.OpenedParts.{made_all, made_more, next_of}
+use Rattle.mw_engine.proofs.OpenedParts.{line_left, made_all, made_more, next_of}
 use Rattle.mw_engine.proofs.new_parts.opened.Goals as goal
 
 -- nothing is made yet, and all lines and files are left
@@ -25,6 +25,14 @@ loop-file-init g c =
           (subst (λ one. AreMadeOf facts (drop (length one) lines) (into_iter_items c.into_iter-file-iterator.result) os bs) none others)));
       few = omega (arith, count);
     }
+
+-- there are more lines than openings
+pub bounds-lines-len : goal.bounds-lines-len
+bounds-lines-len g c =
+    let openings = c.loop-file.openings in
+    let there = line_left g.D.Disk.facts c.args.lines.now (length openings.items) (into_iter_items c.loop-file.file-iterator) c.in-Some.file (into_iter_items c.next.new.self) c.in-Some.ensures.steps.0
+    c.loop-file.invariant.fit in
+    omega (arith, there, c.len.ensures, openings.ok.0)
 
 pub opened_one-opening-requires : goal.opened_one-opening-requires
 opened_one-opening-requires g c =

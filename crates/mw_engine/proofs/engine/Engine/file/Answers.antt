@@ -6,10 +6,14 @@ use Rattle.mw_world.specs.Definition.Calls.{called_at}
 use Rattle.mw_core.specs.FromTable.{IsCarried, IsSamePass, Pass}
 use Rattle.mw_engine.specs.FileCalls.{FilesOne}
 use Rattle.mw_engine.specs.TenantWords.{HasPass}
-use Rattle.mw_engine.proofs.Branded.{in_words}
+use Rattle.mw_engine.proofs.Branded.{in_words, of_engine, with_own_lines}
 use Rattle.mw_engine.proofs.RepliesOfJobs.{file_way}
 use Rattle.mw_engine.proofs.RequestAfterFileCall.{file_same, file_serves}
 use Rattle.mw_engine.proofs.engine.Engine.file.Goals as goal
+
+-- the core is the engine's
+pub file-requires-clause-engine : goal.file-requires-clause-engine
+file-requires-clause-engine g c = with_own_lines c.args.self.now.words g.J.EngineBrand.identity c.args.self.now.same
 
 pub file-requires-clause-own : goal.file-requires-clause-own
 file-requires-clause-own g c =
@@ -40,3 +44,12 @@ returns-then-is_of-clause-call g c = file_serves g.D.Disk.facts g.J.EngineBrand.
 
 pub returns-then-is_of-clause-same : goal.returns-then-is_of-clause-same
 returns-then-is_of-clause-same g c = subst (λ (pass : Pass). IsSamePass pass c.file.new.pass) c.loop.invariant.pass_is c.file.ensures.same
+
+-- a pass of the core's table is the engine's
+pub returns-then-is_of-clause-own : goal.returns-then-is_of-clause-own
+returns-then-is_of-clause-own g c =
+    let engine = c.args.self.now in
+    of_engine engine.words g.J.EngineBrand.identity engine.same c.file.new.pass c.file.ensures.own
+
+pub returns-then-is_of-clause-carried : goal.returns-then-is_of-clause-carried
+returns-then-is_of-clause-carried g c = c.file.ensures.carried

@@ -6,13 +6,19 @@ use Rattle.mw_actor.specs.ActorState.{ActorState}
 use Rattle.mw_core.specs.FromTable.{View}
 use Rattle.mw_engine.specs.History.{IsAnswered, OutcomeAs}
 use Rattle.mw_engine.specs.Replies.{IsOnItsWay}
-use Rattle.mw_engine.proofs.Branded.{still_of}
+use Rattle.mw_engine.proofs.Branded.{in_words, rested_of, still_of}
 use Rattle.mw_engine.proofs.Histories.{begun_serves, served_stands}
-use Rattle.mw_engine.proofs.RepliesOfJobs.{begins_way, first_way}
+use Rattle.mw_engine.proofs.RepliesOfJobs.{begins_way, first_way, reply_can}
 use Rattle.mw_engine.proofs.RequestsMayCome.{made_may_come}
 use Rattle.mw_engine.proofs.RequestAfterFileCall.{answered_so}
 use Rattle.mw_engine.proofs.TurnsOfRequests.{just_came, one_more_turn}
 use Rattle.mw_engine.proofs.engine.Engine.serve.Goals as goal
+
+-- the engine's pass is one of its core
+pub begin-requires-clause-own : goal.begin-requires-clause-own
+begin-requires-clause-own g c =
+    let engine = c.args.self.now in
+    (in_words engine.words g.J.EngineBrand.identity engine.same c.args.pass.now c.requires.own).own
 
 pub begin-requires-clause-may : goal.begin-requires-clause-may
 begin-requires-clause-may g c =
@@ -57,6 +63,31 @@ loop-preserved g c =
       call = gone.call c.args.pass.now.seat.me.0 inv.call;
       turns = one_more_turn g.D.Disk.facts g.J.EngineBrand.identity c.args.pass.now c.args.tenant c.args.job.now c.loop.pass c.loop.actor c.go_on.new.pass c.go_on.new.actor inv.turns gone.turn;
     }
+
+-- the pass as it came from the request's last step
+pub rest-requires-clause-carried : goal.rest-requires-clause-carried
+rest-requires-clause-carried g c = c.loop.invariant.carried
+
+pub go_on-requires-clause-own : goal.go_on-requires-clause-own
+go_on-requires-clause-own g c = c.loop.invariant.own
+
+pub go_on-requires-clause-carried : goal.go_on-requires-clause-carried
+go_on-requires-clause-carried g c = c.loop.invariant.carried
+
+-- the pass is idle, and still the engine's
+pub returns-in-Some-reply-clause-own : goal.returns-in-Some-reply-clause-own
+returns-in-Some-reply-clause-own g c = rested_of g.J.EngineBrand.identity c.loop.pass c.rest.new.self c.loop.invariant.own c.rest.ensures.rested
+
+pub returns-in-Some-reply-clause-worker : goal.returns-in-Some-reply-clause-worker
+returns-in-Some-reply-clause-worker g c = c.rest.ensures.rested.same_worker ∙ c.loop.invariant.worker
+
+pub returns-in-Some-reply-clause-idle : goal.returns-in-Some-reply-clause-idle
+returns-in-Some-reply-clause-idle g c = c.rest.ensures.rested.idle
+
+-- the job can have the reply to which its request came
+pub returns-in-Some-reply-clause-answers : goal.returns-in-Some-reply-clause-answers
+returns-in-Some-reply-clause-answers g c =
+    reply_can c.loop.actor c.args.job.now c.in-Some-reply.reply c.loop.invariant.same_job c.loop.invariant.way (sym c.reply.ensures ∙ c.in-Some-reply.is)
 
 pub returns-in-Some-reply-clause-answered : goal.returns-in-Some-reply-clause-answered
 returns-in-Some-reply-clause-answered g c =

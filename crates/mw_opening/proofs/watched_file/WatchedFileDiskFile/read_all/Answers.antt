@@ -1,12 +1,14 @@
 -- Goals of `read_all` (src/watched_file.rt).
-use Rattle.std.proofs.Common.{is_ok, refl, subst, true, ◌≡◌}
-use Rattle.mw_opening.specs.WatchedCalls.{NotMade, Once}
+use Rattle.std.proofs.Common.{refl, subst}
+use Rattle.mw_disk.specs.FileCalls.{went_of}
+use Rattle.mw_opening.specs.WatchedCalls.{IsShown, NotMade, Once}
 use Rattle.mw_opening.proofs.watched_file.WatchedFileDiskFile.read_all.Goals as goal
 
 pub returns-in-Err : goal.returns-in-Err
-returns-in-Err g c = record { made = NotMade refl refl }
+returns-in-Err g c = record { made = NotMade c.in-Err.ensures refl }
 
 pub returns : goal.returns
-returns g c = record {
-  made = Once (is_ok c.read_all-read.result, (λ well. subst (λ outcome. is_ok outcome ≡ true) c.ended-read.ensures (c.keep_read.ensures well)), c.read_all-read.ensures.made);
-}
+returns g c =
+    let below = c.read_all-read.result in
+    let told = subst (λ outcome. IsShown (went_of outcome) (went_of c.keep_read.result)) c.ended-read.ensures c.keep_read.ensures in
+    record { made = Once (went_of below, told, c.read_all-read.ensures.made) }

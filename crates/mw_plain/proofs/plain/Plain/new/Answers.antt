@@ -1,10 +1,10 @@
 -- Goals of `Plain::new` (src/plain.rt).
-use Rattle.std.proofs.Common.{◌≡◌, ◌≤◌, ◌+◌, length, drop, get_or, sym, ap, subst, ◌∙◌, arith, append-nil}
+use Rattle.std.proofs.Common.{◌≡◌, ◌<◌, ◌≤◌, ◌+◌, length, drop, get_or, sym, ap, subst, ◌∙◌, arith, append-nil}
 use Rattle.std.proofs.lemmas.List.{nil_from_length}
 use Rattle.std.specs.Vec.Iter.{into_iter_items}
 use Rattle.mw_plain.specs.Lines.{FitLines, AreMadeOf, quotas_in}
 use Rattle.mw_plain.specs.Quotas.{quotas_of}
-use Rattle.mw_plain.proofs.NewStores.{next_of, made_more, shared_more, made_all, stands_new}
+use Rattle.mw_plain.proofs.NewStores.{line_is_there, next_of, made_more, shared_more, made_all, stands_new}
 use Rattle.mw_plain.proofs.plain.Plain.new.Goals as goal
 
 pub new-part-requires-clause-within : goal.new-part-requires-clause-within
@@ -54,3 +54,10 @@ returns-clause-stands g c tenant line opened s l f starts =
     let made = subst (AreMadeOf c.args.lines.now c.args.files.items) (append-nil parts.items)
     (made_all c.args.lines.now c.args.files.items (into_iter_items c.loop-file.file-iterator) parts.items (length parts.items) (nil_from_length _ (sym c.loop-file.file-iterator.rest.ok.0 ∙ c.in-None.ensures.steps.0)) c.loop-file.invariant.fit c.loop-file.invariant.made) in
     stands_new g.D.Disk.facts _ c.args.lines.now c.args.files.items tenant line opened s made l f starts
+
+-- there is a line for the next file
+pub bounds-lines-len : goal.bounds-lines-len
+bounds-lines-len g c =
+    let parts = c.loop-file.parts in
+    let there = line_is_there c.args.lines.now (length parts.items) (into_iter_items c.loop-file.file-iterator) c.in-Some.file (into_iter_items c.next.new.self) c.in-Some.ensures.steps.0 c.loop-file.invariant.fit in
+    subst (λ n. n < length c.args.lines.now) (sym (c.len.ensures ∙ parts.ok.0)) there

@@ -1,11 +1,16 @@
 -- Goals of `words_of` (src/world_table/words.rt): the words are those of the world, by index.
 use Rattle.std.proofs.Common.{arith, slice_index, subst, sym}
+use Rattle.std.proofs.lemmas.Grind.{common_steps}
 use Rattle.mw_world.specs.declared.config.Config.{Config}
 use Rattle.mw_world.specs.Definition.State.{IsConfig}
 use Rattle.mw_rule.specs.Rule.{BitsMatch}
 use Rattle.mw_table.specs.Places.{IsAt}
 use Rattle.mw_table.proofs.PlacesAtIndexes.{ties_so}
 use Rattle.mw_table_tests.proofs.world_table.words.words_of.Goals as goal
+
+-- one more word is copied
+pub loop-index-preserved : goal.loop-index-preserved
+loop-index-preserved c = grind (arith, common_steps)
 
 pub returns-clause-ties : goal.returns-clause-ties
 returns-clause-ties c = λ state shows.

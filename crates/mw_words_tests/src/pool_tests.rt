@@ -34,7 +34,7 @@ fn a_door_admits_up_to_its_quota(rt: HostRuntime) {
     for (fault, used, quota, said) in &DOORS {
         let (fault, used) = (*fault, *used);
         let is_so = admit(Door { fault, used }, *quota) == *said;
-        holds(&rt, "slots in use", u64::from(used), is_so);
+        holds(&rt, "slots in use", usize::from(used), is_so);
     }
 }
 
@@ -77,7 +77,7 @@ fn is_claimed_and_freed(from: Gate, claimed: Option<Fields>, freed: Option<Field
 fn gates_that_are_claimed_and_freed(rt: HostRuntime) {
     for (at, (from, claimed, freed)) in CLAIMED.iter().enumerate() {
         let is_so = is_claimed_and_freed(gate(*from), *claimed, *freed);
-        holds(&rt, "row", at as u64, is_so);
+        holds(&rt, "row", at, is_so);
     }
 }
 
@@ -108,6 +108,6 @@ fn is_pinned(from: Gate, seq: u64, wanted: Option<Fields>) -> bool {
 fn gates_that_are_pinned_and_unpinned(rt: HostRuntime) {
     for (at, (from, seq, pinned)) in PINNED.iter().enumerate() {
         let is_so = is_pinned(gate(*from), *seq, *pinned);
-        holds(&rt, "row", at as u64, is_so);
+        holds(&rt, "row", at, is_so);
     }
 }

@@ -210,7 +210,12 @@ static CHANGES: [Row; 7] = [
 fn changes(rt: HostRuntime) {
     for (name, next, parts, reply) in &CHANGES {
         let mut actor = change_of_one_word();
-        holds(&rt, name, *next, ends(&mut actor, *next, parts, *reply));
+        holds(
+            &rt,
+            name,
+            *next as usize,
+            ends(&mut actor, *next, parts, *reply),
+        );
     }
 }
 
