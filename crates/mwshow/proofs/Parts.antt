@@ -6,6 +6,7 @@ use Rattle.std.proofs.lemmas.Bool.{cases_Bool, leb-true}
 use Rattle.std.proofs.lemmas.List.{length-take-le, length-replicate}
 use Rattle.mw_record.specs.declared.damages.Damage.{Damage}
 use Rattle.mw_record.specs.declared.damages.Damage.TheVariants.{NotThisFormat, Sizes, Short, SecondLayout}
+use Rattle.mw_record.specs.declared.layout.TheConstants.{HEAD_SIZE}
 use Rattle.mw_record.specs.declared.layout.Layout.TheVariants.{First, Second}
 use Rattle.mw_record.specs.Layout.{home_at, size}
 use Rattle.mw_record.specs.LayoutBytes.{has_head, has_mark, has_sizes, has_all_bytes}
@@ -15,7 +16,7 @@ use Rattle.mw_record.proofs.Faults.{part_fault}
 use Rattle.mwshow.specs.Places.{HasHead, IsSized, first_homes}
 
 -- a file that isn't too short has a head
-pub has_all_of_head : (image : List ℕ) (d : Damage) → damage_of image ≡ Some d → (d ≡ Short → ⊥) → has_head image ≡ true
+has_all_of_head : (image : List ℕ) (d : Damage) → damage_of image ≡ Some d → (d ≡ Short → ⊥) → has_head image ≡ true
 has_all_of_head image d is ne =
     elim (cases_Bool (has_head image)) [
       | inl is_so ↦ is_so
@@ -59,7 +60,7 @@ of_second image d is a b head mark s =
     }
 
 -- a file with one of the damages that are looked for last has a valid layout
-pub layout_known : (image : List ℕ) (d : Damage) → damage_of image ≡ Some d → (d ≡ Short → ⊥) → (d ≡ NotThisFormat → ⊥) → (d ≡ SecondLayout → ⊥) → IsOfLayout image d
+layout_known : (image : List ℕ) (d : Damage) → damage_of image ≡ Some d → (d ≡ Short → ⊥) → (d ≡ NotThisFormat → ⊥) → (d ≡ SecondLayout → ⊥) → IsOfLayout image d
 layout_known image d is a b c =
     let head = has_all_of_head image d is a in
     let mark : has_mark First image ≡ true = elim (cases_Bool (has_mark First image)) [
@@ -75,7 +76,7 @@ fits_behind : (at n long : ℕ) → at ≤ long → n ≤ long - at → at + n �
 fits_behind at n long a b = omega (arith, a, b)
 
 -- and if its sizes aren't wrong, they are known
-pub sizes_known : (image : List ℕ) (d : Damage) → damage_of image ≡ Some d → (d ≡ Short → ⊥) → (d ≡ NotThisFormat → ⊥) → (d ≡ SecondLayout → ⊥) → (d ≡ Sizes → ⊥)
+sizes_known : (image : List ℕ) (d : Damage) → damage_of image ≡ Some d → (d ≡ Short → ⊥) → (d ≡ NotThisFormat → ⊥) → (d ≡ SecondLayout → ⊥) → (d ≡ Sizes → ⊥)
     → IsSized (layout_of image) (at_of image) (words_of image) (found_places image) image
 sizes_known image d is a b c e =
     let told = layout_known image d is a b c in
@@ -114,3 +115,36 @@ length-first_homes at words homes image fits whole =
       fits,
       whole,
     )
+
+-- a damage that is looked for once the head, the layout in use, or its sizes are known
+abbrev pub IsPastHead : Damage → Type 0
+IsPastHead Short = ⊥
+IsPastHead d = Unit {0}
+
+abbrev pub IsPastLayout : Damage → Type 0
+IsPastLayout Short = ⊥
+IsPastLayout NotThisFormat = ⊥
+IsPastLayout SecondLayout = ⊥
+IsPastLayout d = Unit {0}
+
+abbrev pub IsPastSizes : Damage → Type 0
+IsPastSizes Sizes = ⊥
+IsPastSizes d = IsPastLayout d
+
+other_than : (Past : Damage → Type 0) (d one other : Damage) → d ≡ one → Past one → (Past other → ⊥) → d ≡ other → ⊥
+other_than Past d one other is past none e = none (subst Past (sym is ∙ e) past)
+
+pub head_of : (image : List ℕ) (d one : Damage) → damage_of image ≡ Some d → d ≡ one → IsPastHead one → HEAD_SIZE ≤ length image
+head_of image d one is so past = leb-true _ _ (has_all_of_head image d is (other_than IsPastHead d one Short so past (λ none. none)))
+
+pub head_in_use : (image : List ℕ) (d one : Damage) → damage_of image ≡ Some d → d ≡ one → IsPastLayout one → HasHead (at_of image) image
+head_in_use image d one is so past =
+    let known = layout_known image d is (other_than IsPastLayout d one Short so past (λ none. none)) (other_than IsPastLayout d one NotThisFormat so past (λ none. none))
+    (other_than IsPastLayout d one SecondLayout so past (λ none. none)) in
+    known.head
+
+pub sizes_of : (image : List ℕ) (d one : Damage) → damage_of image ≡ Some d → d ≡ one → IsPastSizes one
+    → IsSized (layout_of image) (at_of image) (words_of image) (found_places image) image
+sizes_of image d one is so past =
+    sizes_known image d is (other_than IsPastSizes d one Short so past (λ none. none)) (other_than IsPastSizes d one NotThisFormat so past (λ none. none))
+    (other_than IsPastSizes d one SecondLayout so past (λ none. none)) (other_than IsPastSizes d one Sizes so past (λ none. none))

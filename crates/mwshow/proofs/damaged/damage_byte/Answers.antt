@@ -1,43 +1,34 @@
 -- Goals of `damage_byte` (src/damaged.rt).
-use Rattle.std.proofs.Common.{sym, ◌∙◌, inl, inr}
-use Rattle.std.proofs.lemmas.Bool.{leb-true}
-use Rattle.mwshow.proofs.Parts.{has_all_of_head, layout_known, sizes_known}
+use Rattle.std.proofs.Common.{inl, inr}
+use Rattle.mw_record.specs.declared.damages.Damage.TheVariants.{Overlap, Record, SecondLayout, Sizes, Value}
+use Rattle.mwshow.proofs.Parts.{head_in_use, head_of, sizes_of}
 use Rattle.mwshow.proofs.damaged.damage_byte.Goals as goal
 
 pub second_byte-requires : goal.second_byte-requires
-second_byte-requires c = leb-true _ _ (has_all_of_head c.args.bytes.now c.args.damage c.requires (λ e. (let f = sym e ∙ c.in-SecondLayout.is in cc)))
+second_byte-requires c = head_of c.args.bytes.now c.args.damage SecondLayout c.requires c.in-SecondLayout.is tt
 
 pub sizes_byte-requires-clause-long : goal.sizes_byte-requires-clause-long
-sizes_byte-requires-clause-long c = leb-true _ _ (has_all_of_head c.args.bytes.now c.args.damage c.requires (λ e. (let f = sym e ∙ c.in-Sizes.is in cc)))
+sizes_byte-requires-clause-long c = head_of c.args.bytes.now c.args.damage Sizes c.requires c.in-Sizes.is tt
 
 pub sizes_byte-requires-clause-head : goal.sizes_byte-requires-clause-head
-sizes_byte-requires-clause-head c =
-    let known = layout_known c.args.bytes.now c.args.damage c.requires
-    (λ e. (let f = sym e ∙ c.in-Sizes.is in cc)) (λ e. (let f = sym e ∙ c.in-Sizes.is in cc)) (λ e. (let f = sym e ∙ c.in-Sizes.is in cc)) in
-    known.head
+sizes_byte-requires-clause-head c = head_in_use c.args.bytes.now c.args.damage Sizes c.requires c.in-Sizes.is tt
 
 pub sized-requires-clause-long : goal.sized-requires-clause-long
 sized-requires-clause-long c =
     elim c.in-Record.is [
-      | inl is_record ↦ leb-true _ _ (has_all_of_head c.args.bytes.now c.args.damage c.requires (λ e. (let f = sym e ∙ is_record in cc)))
-      | inr is_overlap ↦ leb-true _ _ (has_all_of_head c.args.bytes.now c.args.damage c.requires (λ e. (let f = sym e ∙ is_overlap in cc)))
+      | inl is_record ↦ head_of c.args.bytes.now c.args.damage Record c.requires is_record tt
+      | inr is_overlap ↦ head_of c.args.bytes.now c.args.damage Overlap c.requires is_overlap tt
     ]
 
 pub sized-requires-clause-sized : goal.sized-requires-clause-sized
 sized-requires-clause-sized c =
     elim c.in-Record.is [
-      | inl is_record ↦
-          sizes_known c.args.bytes.now c.args.damage c.requires
-          (λ e. (let f = sym e ∙ is_record in cc)) (λ e. (let f = sym e ∙ is_record in cc)) (λ e. (let f = sym e ∙ is_record in cc)) (λ e. (let f = sym e ∙ is_record in cc))
-      | inr is_overlap ↦
-          sizes_known c.args.bytes.now c.args.damage c.requires
-          (λ e. (let f = sym e ∙ is_overlap in cc)) (λ e. (let f = sym e ∙ is_overlap in cc)) (λ e. (let f = sym e ∙ is_overlap in cc)) (λ e. (let f = sym e ∙ is_overlap in cc))
+      | inl is_record ↦ sizes_of c.args.bytes.now c.args.damage Record c.requires is_record tt
+      | inr is_overlap ↦ sizes_of c.args.bytes.now c.args.damage Overlap c.requires is_overlap tt
     ]
 
 pub sized-requires-in-Value-clause-long : goal.sized-requires-in-Value-clause-long
-sized-requires-in-Value-clause-long c = leb-true _ _ (has_all_of_head c.args.bytes.now c.args.damage c.requires (λ e. (let f = sym e ∙ c.in-Value.is in cc)))
+sized-requires-in-Value-clause-long c = head_of c.args.bytes.now c.args.damage Value c.requires c.in-Value.is tt
 
 pub sized-requires-in-Value-clause-sized : goal.sized-requires-in-Value-clause-sized
-sized-requires-in-Value-clause-sized c =
-    sizes_known c.args.bytes.now c.args.damage c.requires
-    (λ e. (let f = sym e ∙ c.in-Value.is in cc)) (λ e. (let f = sym e ∙ c.in-Value.is in cc)) (λ e. (let f = sym e ∙ c.in-Value.is in cc)) (λ e. (let f = sym e ∙ c.in-Value.is in cc))
+sized-requires-in-Value-clause-sized c = sizes_of c.args.bytes.now c.args.damage Value c.requires c.in-Value.is tt
