@@ -43,8 +43,8 @@ calls_on book PrepareCall slot taken entries = prepare_calls (has_written book s
 calls_on book SettleCall slot taken entries = settle_calls (is_settled book.table (place_at book slot)) (states_in book.held)
 calls_on book call slot taken entries = device_calls call entries
 
--- A call made just these device calls, if it went well: one for each record of a waiting change that it wrote ahead, and those for its
--- own change. If a device call failed, it was one of as many.
+-- A call made just these device calls, as an honest disk counts them, if it went well: one for each record of a waiting change that it wrote
+-- ahead, and those for its own change. If a device call failed, it was one of as many.
 abbrev pub CountsCalls : {D : Type 0} → (D → Facts) → Call → ℕ → List Entry → List Waiting → Book D → Book D → Filed → Type 0
 CountsCalls facts call slot entries waiting old new Made = OnDisk facts (Good (length (written_by old call slot entries waiting) + calls_on old call slot entries entries)) (disk_in old.held) (disk_in new.held)
 CountsCalls facts call slot entries waiting old new Broken = OnDisk facts (Bad (length (written_by old call slot entries waiting) + calls_on old call slot entries entries)) (disk_in old.held) (disk_in new.held)

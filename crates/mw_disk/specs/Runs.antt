@@ -31,7 +31,7 @@ pub record LeavesOnly (old new : Facts) (P : List ℕ → Type 0) : Type 0 where
   pub later : Later old new
   pub each : (c : List ℕ) → MayHaveLeft new old.moment c → P c
 
--- So many calls were made, and all went well. None of them was known to fail, and none was refused memory.
+-- Calls were made, and all went well: so many, as an honest disk counts them. None of them was known to fail, and none was refused memory.
 pub record Good (count : ℕ) (old new : Facts) : Type 0 where
   pub honest : new.honest ≡ old.honest
   pub outcomes : IsTrue old.honest → length old.outcomes + count < 2 ^ 64 → new.outcomes ≡ old.outcomes ++ replicate count true

@@ -31,8 +31,8 @@ pub trait Disk {
     ghost facts: { Self → Facts };
 
     /// This device call was made. It went well (true) or failed (false), and led from one disk to another. A disk may
-    /// say nothing here, as `FileDisk` over a file of the system. Code for every disk that promises such calls has made
-    /// them.
+    /// say nothing here, as `FileDisk` over a file of the system. Code that is for every disk knows this only of calls
+    /// that it has made.
     ghost made: { DeviceCall → Bool → Self → Self → Type 0 };
 
     /// Fills the whole slice with the bytes from `at` on. After a fault the slice may hold anything.

@@ -11,8 +11,8 @@ use std::os::unix::fs::FileExt;
 
 /// A file of which whole ranges are read and written, and which is synced and asked for its length.
 pub trait DiskFile {
-    /// This call was made. It went so, and led from one state of the file to another. Code for every file that promises such
-    /// calls has made them.
+    /// This call was made. It went so, and led from one state of the file to another. Code that is for every
+    /// file knows this only of calls that it has made.
     ghost made: { DeviceCall → Went → Self → Self → Type 0 };
 
     /// Fills the whole slice with the bytes from `at` on. It goes on if a read stops short, or is interrupted.

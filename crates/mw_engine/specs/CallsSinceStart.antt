@@ -18,7 +18,7 @@ use Rattle.mw_engine.specs.Brand.{Identity}
 use Rattle.mw_engine.specs.DisksAtStart.{disk_read}
 use Rattle.mw_engine.specs.Passes.{IsPassOf}
 
--- One copy of the book's file was made, or tried: the file was at most read, by the device calls of a copy.
+-- One copy of the book's file was made, or tried. An honest disk was at most read, by the device calls of a copy.
 pub record IsCopied {D : Type 0} (facts : D → Facts) (before after : Book D) : Type 0 where
   pub result : Result (Vec ℕ Global) CopyFault
   pub read : IsOnlyRead facts before after

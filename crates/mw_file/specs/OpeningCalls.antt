@@ -1,5 +1,5 @@
 -- Defines which device calls an opening makes, in order, and with which bytes.
--- Used by: migration.rt, opening.rt. docs/FILES has the same under "Opening": change them together. docs/PROMISES cites
+-- Used by: migration.rt, opening.rt; mw_opening. docs/FILES has the same under "Opening": change them together. docs/PROMISES cites
 -- `OpensBy`.
 use Rattle.std.specs.Prelude.{◌≡◌, ◌==◌, ◌+◌, ◌*◌, ℕ, zero, suc, Bool, true, false, Some, None, is_none, List, [], ◌∷◌, ◌++◌, length, map, if◌then◌else◌, Vec, Result, Ok, Err}
 use Rattle.std.specs.declared.alloc.Global.{Global}

@@ -1,6 +1,6 @@
 //! The statuses of answers (RFC 9110, section 15).
 //!
-//! Used by: `exchanges`, `pages`, `receiving`, `heads`, `hearing`, mw_server_pages, mw_http_tests. A new status needs a
+//! Used by: `exchanges`, `pages`, `receiving`, `heads`, `hearing`, mw_server_pages, mw_serving_tests. A new status needs a
 //! case here and in `specs/Statuses`, its number in `STATUSES` of scripts/http_parts/server.py, and a row in docs/HTTP.
 ghost use Rattle.std.specs.Prelude.{◌≡◌, ◌≤◌, length};
 ghost use Rattle.mw_http.specs.Statuses as spec;

@@ -1,7 +1,7 @@
 //! The families of metrics: what each is called, what it tells, and of which type it is.
 //!
 //! Used by: `samples`, and what writes lines. Change it with `specs/Names` and docs/HTTP. Alerts and boards in
-//! contrib, the script in `look.rt` of mw_server_pages, mw_http_tests and scripts/http_parts read the names.
+//! contrib, the script in `look.rt` of mw_server_pages, mw_serving_tests and scripts/http_parts read the names.
 ghost use Rattle.std.specs.Prelude.{◌≡◌, ◌≤◌, length, codes};
 ghost use Rattle.mw_metrics.specs.Names as spec;
 

@@ -1,6 +1,6 @@
 //! A histogram of durations: how many were in each bucket, and their sum.
 //!
-//! Used by: `counters`, `figures`, `histogram_lines`. The bounds are free; mw_http_tests expects some. Another number
+//! Used by: `counters`, `figures`, `histogram_lines`. The bounds are free; mw_serving_tests expects some. Another number
 //! of them changes `BOUNDED`, `BUCKETS`, and the room for lines (`MAX_HISTOGRAM`, then `MAX_TENANT_FAMILIES` and
 //! `MAX_METRICS`).
 ghost use Rattle.std.specs.Prelude.{ℕ, ◌≡◌, ◌<◌, ◌≤◌, length, slice_index};

@@ -6,6 +6,7 @@ use Rattle.std.specs.declared.alloc.Global.{Global}
 use Rattle.mw_config.specs.declared.lines.TenantLine.{TenantLine}
 use Rattle.mw_disk.specs.DeviceCalls.{DeviceCall, Sync}
 use Rattle.mw_disk.specs.Facts.{Called, Facts, IsSynced}
+use Rattle.mw_file.specs.OpeningCalls.{OpensBy}
 use Rattle.mw_file.specs.OpeningEnds.{Opens}
 use Rattle.mw_file.specs.declared.opening.OpenFault.{OpenFault}
 use Rattle.mw_file.specs.declared.tenant_file.TenantFile.{TenantFile}
@@ -21,14 +22,16 @@ is_ok_of (Err e) well = absurd (cc)
 module _ {D : Type 0} (facts : D → Facts) (makes : DeviceCall → Bool → D → D → Type 0) where
   pub opens_after_sync : {A E : Type 0} (disk synced : D) (result : Result A E) (end : Result (TenantFile D × Vec ℕ Global) (OpenFault × D)) → is_err result ≡ false
       → makes Sync (is_ok result) disk synced → Called (facts disk) (facts synced) (is_ok result) → (IsTrue (facts disk).honest → (facts synced).reads ≡ (facts disk).reads)
-      → OnOk result (IsTrue (facts disk).honest → IsSynced (facts synced)) → Opens facts synced end → OpensAfterSync facts makes disk end
-  opens_after_sync disk synced result end well sync called same rest opens = record {
+      → OnOk result (IsTrue (facts disk).honest → IsSynced (facts synced)) → Opens facts synced end → OpensBy facts makes synced end
+      → OpensAfterSync facts makes disk end
+  opens_after_sync disk synced result end well sync called same rest opens by = record {
     synced = synced;
     sync = subst (λ b. makes Sync b disk synced) (is_ok_of result well) sync;
     called = subst (λ b. Called (facts disk) (facts synced) b) (is_ok_of result well) called;
     same = same;
     rest = λ honest. of_ok result well rest (subst (λ b. IsTrue b) called.honest honest);
     opens = opens;
+    by = by;
   }
 
 module _ {D : Type 0} (facts : D → Facts) (makes : DeviceCall → Bool → D → D → Type 0) (is_over : List ℕ → D → Type 0)

@@ -11,6 +11,7 @@ use Rattle.mw_disk.specs.Facts.{Called, Facts, IsSynced}
 use Rattle.mw_record.specs.declared.damages.Damage.{Damage as DamageKind}
 use Rattle.mw_config.specs.declared.lines.TenantLine.{TenantLine}
 use Rattle.mw_file.specs.File.{states_of}
+use Rattle.mw_file.specs.OpeningCalls.{OpensBy}
 use Rattle.mw_file.specs.OpeningEnds.{Opens}
 use Rattle.mw_file.specs.declared.opening.OpenFault.{OpenFault}
 use Rattle.mw_file.specs.declared.opening.OpenFault.TheVariants.{Damage, Disk}
@@ -33,6 +34,8 @@ module _ {D : Type 0} (facts : D → Facts) (makes : DeviceCall → Bool → D �
     pub same : IsTrue (facts disk).honest → (facts synced).reads ≡ (facts disk).reads
     pub rest : IsTrue (facts synced).honest → IsSynced (facts synced)
     pub opens : Opens facts synced end
+    -- just the device calls were made that the bytes ask for
+    pub by : OpensBy facts makes synced end
 
   -- Why a tenant with this line has no file, although this disk was given.
   pub data GivesNoFile (line : TenantLine) (disk : D) : Type 0 where

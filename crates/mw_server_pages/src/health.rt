@@ -1,7 +1,7 @@
 //! Says whether all tenants are up and their files in their places, and which are not.
 //!
 //! Used by: `status`, `tenant_rows`, `server_pages`. Change it with `specs/Health` and docs/HTTP.
-//! contrib/mondlexi-health prints its lines; mw_http_tests and scripts/http_parts expect them.
+//! contrib/mondlexi-health prints its lines; mw_serving_tests and scripts/http_parts expect them.
 ghost use Rattle.std.specs.Prelude.{◌≡◌, ◌+◌, ◌≤◌, ◌++◌, length};
 ghost use Rattle.std.specs.List.{list_all};
 ghost use Rattle.mw_words.specs.declared.limits.TheConstants.{MAX_TENANTS};

@@ -1,6 +1,6 @@
 //! Writes how much of each limit was used of late (`near.rt`), and which are near.
 //!
-//! Used by: `status`. Change it with `specs/Limits`. `look.rt` names its classes; mw_http_tests and scripts/http_parts
+//! Used by: `status`. Change it with `specs/Limits`. `look.rt` names its classes; mw_serving_tests and scripts/http_parts
 //! expect some of its texts.
 ghost use Rattle.std.specs.Prelude.{◌≡◌, ◌+◌, ◌*◌, ◌≤◌, ◌++◌, length, flat_map};
 ghost use Rattle.std.specs.List.{list_all};

@@ -1,6 +1,6 @@
 //! Writes what the status page has of the time before: a row with curves for each tenant.
 //!
-//! Used by: `samples`, `status`. Change it with `specs/Recents`. `look.rt` names its classes; mw_http_tests and
+//! Used by: `samples`, `status`. Change it with `specs/Recents`. `look.rt` names its classes; mw_serving_tests and
 //! scripts/http_parts expect some of its texts.
 ghost use Rattle.std.specs.Prelude.{◌≡◌, ◌+◌, ◌*◌, ◌≤◌, ◌++◌, length, flat_map};
 ghost use Rattle.mw_words.specs.declared.limits.TheConstants.{MAX_TENANTS};

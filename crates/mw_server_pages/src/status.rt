@@ -1,7 +1,7 @@
 //! Writes the status page.
 //!
 //! Used by: `server_pages`. Change it with `specs/StatusPage` and docs/HTTP. The style and the script in `look.rt`
-//! name its classes and ids; mw_http_tests and scripts/http_parts expect some of its texts.
+//! name its classes and ids; mw_serving_tests and scripts/http_parts expect some of its texts.
 ghost use Rattle.std.specs.Prelude.{◌≡◌, ◌+◌, ◌*◌, ◌≤◌, ◌++◌, length, Some, IfOk};
 ghost use Rattle.mw_words.specs.declared.limits.TheConstants.{MAX_TENANTS};
 ghost use Rattle.mw_server_pages.specs.declared.text.TheConstants.{MAX_PAGE, MAX_VERSION};

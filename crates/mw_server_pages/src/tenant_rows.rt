@@ -1,6 +1,6 @@
 //! Writes what the status page has of each tenant.
 //!
-//! Used by: `status`. Change it with `specs/StatusPage`. `look.rt` names its classes; mw_http_tests and
+//! Used by: `status`. Change it with `specs/StatusPage`. `look.rt` names its classes; mw_serving_tests and
 //! scripts/http_parts expect some of its texts.
 ghost use Rattle.std.specs.Prelude.{◌≡◌, ◌+◌, ◌*◌, ◌≤◌, ◌++◌, length, flat_map};
 ghost use Rattle.mw_words.specs.declared.limits.TheConstants.{MAX_TENANTS};

@@ -1,6 +1,6 @@
 //! Tests sessions, connections and workers, with clients in memory, which `guests` plays: tests are tables of these.
-//! `scripts/check-scenes` plays clients over sockets. The tests are apart from the crates that they test, so that those
-//! are proved once.
+//! Tests figures and pages by examples from outside. `scripts/check-scenes` plays clients over sockets. The tests are apart
+//! from the crates that they test, so that those are proved once.
 #![tactic(auto)]
 
 #[cfg(test)]
@@ -10,7 +10,13 @@ mod crowd_tests;
 #[cfg(test)]
 mod guests;
 #[cfg(test)]
+mod http_peers;
+#[cfg(test)]
+mod metrics_tests;
+#[cfg(test)]
 mod notebook;
+#[cfg(test)]
+mod page_tests;
 #[cfg(test)]
 mod serving;
 #[cfg(test)]

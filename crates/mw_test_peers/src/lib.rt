@@ -2,7 +2,7 @@
 //! each place of failure, and a service in memory. They are here, on few libraries, because a function takes longer to
 //! prove over many.
 //!
-//! Used by: mw_serving_tests, mw_http_tests, mw_engine_tests.
+//! Used by: mw_serving_tests, mw_engine_tests.
 #![tactic(auto)]
 
 mod peers;

@@ -1,7 +1,7 @@
 //! A service in memory, for tests: one tenant, `t`, and its words. Many workers may ask for them if they are under
 //! a lock.
 //!
-//! Used by: mw_http_tests, mw_serving_tests.
+//! Used by: mw_serving_tests.
 use arrayvec::ArrayVec;
 use mw_report::{Figures, TenantFigures};
 use mw_session::Service;

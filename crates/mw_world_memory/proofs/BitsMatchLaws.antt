@@ -1,5 +1,5 @@
 -- If bits match the shared words of a world, they still match after the same write of both at one place.
--- Used by: Cells::put, put_word, mw_simulator.
+-- Used by: Cells::get, Cells::put, put_word, mw_simulator.
 use Rattle.std.specs.Prelude.{ℕ, zero, suc, ◌≡◌, ◌≢◌, ◌+◌, ◌*◌, ◌<◌, ◌⊎◌, Bool, true, false, cond, nat_lt, List, [], ◌∷◌, length, map, is_some, slice_get, slice_set, slice_index_or, IfSome, Some, None}
 use Rattle.std.specs.declared.option.Option.{Option}
 use Rattle.std.proofs.Common.{refl, sym, ap, subst, ◌∙◌, inl, inr, arith}
@@ -238,6 +238,13 @@ put_nowhere bits (Count slot) put past = ap (λ list. record bits { counts = lis
 put_nowhere bits (Addr slot entry) put past = ap (λ list. record bits { addrs = list }) (entry_nowhere bits.addrs slot entry put past)
 put_nowhere bits (Expected slot entry) put past = ap (λ list. record bits { expecteds = list }) (entry_nowhere bits.expecteds slot entry put past)
 put_nowhere bits (New slot entry) put past = ap (λ list. record bits { new_values = list }) (entry_nowhere bits.new_values slot entry put past)
+
+-- what is found at a place of bits that match
+pub found_is : (bits : Bits) (cells : Cells) (at : At) → BitsMatch bits cells → bits_at bits at ≡ cond (is_there bits at) (Some (pack at (read cells at))) None
+found_is bits cells at tie = found (bits_at bits at) (pack at (read cells at)) (tie at) where
+  found : (there : Option ℕ) (x : ℕ) → IfSome there (λ y. y ≡ x) → there ≡ cond (is_some there) (Some x) None
+  found None x is = refl
+  found (Some y) x is = ap Some is
 
 -- What holds after bits were put at a place, by an equation.
 pub record Put (old new : Bits) (at : At) (put : ℕ) (is_put : Bool) : Type 0 where

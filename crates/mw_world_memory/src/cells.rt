@@ -55,6 +55,13 @@ impl Cells {
         ensures is { result ≡ bits_at self.now at }
         ensures tied { (cells : WhatStands) → BitsMatch self.now cells → result ≡ cond (is_there self.now at) (Some (pack at (read cells at))) None }
     {
+        self.bits(at)
+    }
+
+    /// Returns the bits that the list of their kind of word has at a place.
+    fn bits(&self, at: At) -> Option<u64>
+        ensures { result ≡ bits_at self.now at }
+    {
         match at {
             At::Door(tenant) => self.doors.get(usize::from(tenant)).copied(),
             At::Gate(slot) => self.gates.get(usize::from(slot)).copied(),

@@ -16,7 +16,7 @@ pub returns-then-len-line-clause-refused : goal.returns-then-len-line-clause-ref
 returns-then-len-line-clause-refused g c = λ other.
     SizesDiffer (c.in-Ok.file, c.in-Ok.words)
     (opens_after_sync g.D.Disk.facts g.D.Disk.made c.args.disk c.sync.new.self c.sync.result (Ok (c.in-Ok.file, c.in-Ok.words))
-    (sym c.is_err.ensures.value ∙ c.if-is_err.false) c.sync.ensures.made c.sync.ensures.call c.sync.ensures.same c.sync.ensures.durable c.in-Ok.ensures.opens)
+    (sym c.is_err.ensures.value ∙ c.if-is_err.false) c.sync.ensures.made c.sync.ensures.call c.sync.ensures.same c.sync.ensures.durable c.in-Ok.ensures.opens c.in-Ok.ensures.made)
     (λ sizes. elim c.then-len-line.branch [
       | then-len-line-via-then-len-line w ↦ omega (arith, c.len.ensures, w.if-len-line.true, sizes.0)
       | then-len-line-via-else-len-line+then-places-from w ↦ omega (arith, w.places.ensures, w.from.ensures, w.if-places-from.true, sizes.1)
@@ -25,7 +25,7 @@ returns-then-len-line-clause-refused g c = λ other.
 pub returns-in-Ok-clause-opened : goal.returns-in-Ok-clause-opened
 returns-in-Ok-clause-opened g c =
     opens_after_sync g.D.Disk.facts g.D.Disk.made c.args.disk c.sync.new.self c.sync.result (Ok (c.in-Ok.file, c.in-Ok.words))
-    (sym c.is_err.ensures.value ∙ c.if-is_err.false) c.sync.ensures.made c.sync.ensures.call c.sync.ensures.same c.sync.ensures.durable c.in-Ok.ensures.opens
+    (sym c.is_err.ensures.value ∙ c.if-is_err.false) c.sync.ensures.made c.sync.ensures.call c.sync.ensures.same c.sync.ensures.durable c.in-Ok.ensures.opens c.in-Ok.ensures.made
 
 pub returns-in-Ok-clause-fits : goal.returns-in-Ok-clause-fits
 returns-in-Ok-clause-fits g c =
@@ -36,5 +36,5 @@ returns-in-Ok-clause-fits g c =
 pub returns-clause-refused : goal.returns-clause-refused
 returns-clause-refused g c = λ other.
     let opens = opens_after_sync g.D.Disk.facts g.D.Disk.made c.args.disk c.sync.new.self c.sync.result (Err (c.in-Err.fault, c.in-Err.field-0-1))
-    (sym c.is_err.ensures.value ∙ c.if-is_err.false) c.sync.ensures.made c.sync.ensures.call c.sync.ensures.same c.sync.ensures.durable c.in-Err.ensures.opens in
+    (sym c.is_err.ensures.value ∙ c.if-is_err.false) c.sync.ensures.made c.sync.ensures.call c.sync.ensures.same c.sync.ensures.durable c.in-Err.ensures.opens c.in-Err.ensures.made in
     of_opening g.D.Disk.facts g.D.Disk.made c.args.line.now c.args.disk c.in-Err.field-0-1 c.in-Err.fault c.of_opening.result opens c.of_opening.ensures.memory other
