@@ -2,3 +2,4 @@ pub mod TenantsMayAsk
 pub mod Beside
 pub mod FilesFitLines
 pub mod Fresh
+pub mod LastPass

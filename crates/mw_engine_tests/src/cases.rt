@@ -4,10 +4,10 @@
 ghost use Rattle.std.specs.Prelude.{◌≡◌, ◌≤◌, All, IfSome};
 ghost use Rattle.mw_config.specs.Limits.{ArePermitted};
 ghost use Rattle.mw_words.specs.declared.limits.TheConstants.{MAX_POOL};
-ghost use Rattle.mw_engine.specs.Passes.{IsNew, IsPassOf};
+ghost use Rattle.mw_engine.specs.Passes.{IsNew};
 ghost use Rattle.mw_engine.specs.Parts.{identity_of};
 
-use crate::disks::{are_left, new_disks};
+use crate::disks::are_left;
 use crate::latch::{ByLatch, FIRST_SYNC, Latch, LatchedDisk, Stop};
 use crate::plays::is_done;
 use crate::races::Race;
@@ -18,7 +18,6 @@ use crate::workers::{LatchedEngine, workers_of};
 use arrayvec::ArrayVec;
 use mw_config::{TenantLine, read_tenants};
 use mw_engine::{EngineBrand, EngineParts, Pass};
-use mw_plain::Plain;
 use mw_words::{MAX_POOL, MAX_TENANTS};
 use std::alloc::Global;
 use std::fs::File;
@@ -35,7 +34,7 @@ pub(crate) const MEMORY: &str = "memory";
 
 /// Says how a tenant's disk behaves.
 #[derive(Clone, Copy)]
-pub(crate) enum Device {
+pub(crate) enum Device<'c> {
     /// Its calls succeed.
     Sound,
     /// The call of this number fails, counted from 1 after the opening.
@@ -43,7 +42,7 @@ pub(crate) enum Device {
     /// It stops after so many calls after the opening. Then the power fails. These bytes are found, in
     /// rising order of offset, where bytes were written and not synced; after the last of them, what a read
     /// gave is found.
-    Stops(u64, &'static [u8]),
+    Stops(u64, &'c [u8]),
     /// There is no disk.
     Missing,
 }
@@ -56,7 +55,7 @@ pub(crate) enum Play<'c> {
     /// They have their sessions at once, each in a thread of its own, while those that the latch stops are held.
     Story(&'c [Talk<'c>]),
     /// They count up words at once.
-    Race(Race),
+    Race(Race<'c>),
     /// Eight workers each change a word and the next one's word, all at once. One word after the other is asked for.
     Ring,
     /// They make requests by turns, all made from this number. The plain store over files of its own must
@@ -72,7 +71,7 @@ pub(crate) struct Case<'c> {
     /// The text of the tenants file.
     pub(crate) tenants: &'c [u8],
     pub(crate) pool: u16,
-    pub(crate) devices: &'c [Device],
+    pub(crate) devices: &'c [Device<'c>],
     /// Who is stopped meanwhile.
     pub(crate) stop: Stop,
     pub(crate) play: Play<'c>,
@@ -166,8 +165,21 @@ where
         latch: &latch,
         second: &second,
     };
-    let disks = new_disks(alloc, case, hold.of_disks()).expect(rt, MEMORY);
-    match start(alloc, case, disks, hold) {
+    is_so_by(rt, alloc, case, hold)
+}
+
+/// Tells whether a case comes out as it says, if its workers and disks come to these latches.
+fn is_so_by<R>(rt: &R, alloc: Global, case: &Case<'_>, hold: ByLatch<'_>) -> bool
+where
+    R: Abort
+        + Files<File = File>
+        + Net<Listener = TcpListener, Stream = TcpStream>
+        + Threads
+        + Wait
+        + Clock
+        + Sync,
+{
+    match start(alloc, case, hold) {
         Some(started) => {
             let (parts, passes) = started;
             is_so_of::<Brand, R>(rt, alloc, parts, passes, case, hold)
@@ -197,32 +209,41 @@ where
     requires same { identity_of parts ≡ J.identity }
     requires passes { All (IsNew J.identity) passes.items }
 {
+    let mut passes = passes;
+    let last = last_pass::<J>(&mut passes, case);
     let engine = parts.into_engine::<J>(alloc).expect(rt, MEMORY);
     let mut plain = new_plain(alloc, case, hold.latch);
-    let (is_done, pass) = done_by_workers(rt, alloc, &engine, passes, case, hold, &mut plain);
-    let is_looked_at = !matches!(case.play, Play::Sockets);
-    let disks = disks_of(alloc, engine, pass, is_looked_at);
-    are_left(alloc, disks, case, plain) && is_done
+    let workers = workers_of(rt, alloc, &engine, passes);
+    let have_done = is_done(rt, alloc, workers, case, hold, &mut plain);
+    are_left(alloc, disks_of(alloc, engine, last), case, plain) && have_done
+}
+
+/// Takes the pass that looks at the files in the end: the last one. Gives None if none does.
+#[tactic(auto, using(crate::proofs::LastPass::last_is, crate::proofs::LastPass::others_are))]
+fn last_pass<J: EngineBrand>(passes: &mut Vec<Pass>, case: &Case<'_>) -> Option<Pass>
+    requires new { All (IsNew J.identity) passes.old.items }
+    ensures last { IfSome result (IsNew J.identity) }
+    ensures others { All (IsNew J.identity) passes.new.items }
+{
+    match case.play {
+        Play::Sockets => None,
+        _ => passes.pop(),
+    }
 }
 
 /// Takes an engine apart, and gives its disks: none if memory is refused. This pass of it looks at the files before, if
-/// there is one and it is told to.
+/// there is one.
 fn disks_of<'l, J: EngineBrand>(
     alloc: Global,
     engine: LatchedEngine<'l, J>,
     pass: Option<Pass>,
-    is_looked_at: bool,
 ) -> Vec<Option<LatchedDisk<'l>>>
-    requires own { IfSome pass (λ pass. IsPassOf J.identity pass) }
+    requires new { IfSome pass (IsNew J.identity) }
 {
     let ended = match pass {
         Some(last) => {
             let mut last = last;
-            if is_looked_at {
-                engine.into_disks_with(alloc, &mut last)
-            } else {
-                engine.into_disks(alloc)
-            }
+            engine.into_disks_with(alloc, &mut last)
         }
         None => engine.into_disks(alloc),
     };
@@ -230,35 +251,4 @@ fn disks_of<'l, J: EngineBrand>(
         Ok(disks) => disks,
         Err(_) => Vec::new(alloc),
     }
-}
-
-/// Makes workers of these passes, and has all but the last do what the case says. Gives whether they do, and the pass
-/// of the last one.
-fn done_by_workers<J, R>(
-    rt: &R,
-    alloc: Global,
-    engine: &LatchedEngine<'_, J>,
-    passes: Vec<Pass>,
-    case: &Case<'_>,
-    hold: ByLatch<'_>,
-    plain: &mut Option<Plain<LatchedDisk<'_>>>,
-) -> (bool, Option<Pass>)
-where
-    J: EngineBrand + Send + Sync,
-    R: Abort
-        + Files<File = File>
-        + Net<Listener = TcpListener, Stream = TcpStream>
-        + Threads
-        + Wait
-        + Clock
-        + Sync,
-    requires passes { All (IsNew J.identity) passes.items }
-    ensures own { IfSome result.1 (λ pass. IsPassOf J.identity pass) }
-{
-    let mut workers = workers_of(rt, alloc, engine, passes);
-    let pass = match workers.pop() {
-        Some(worker) => Some(worker.into_pass()),
-        None => None,
-    };
-    (is_done(rt, alloc, workers, case, hold, plain), pass)
 }

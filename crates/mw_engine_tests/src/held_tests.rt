@@ -14,7 +14,7 @@ const TIMES: u8 = 100;
 /// `t` of two words, and `u` of one.
 const TENANTS: &[u8] = b"t 2 2 t.mw\nu 1 1 u.mw\n";
 
-const BOTH_SOUND: &[Device] = &[Device::Sound, Device::Sound];
+const BOTH_SOUND: &[Device<'static>] = &[Device::Sound, Device::Sound];
 
 /// A change of both words of `t`, which is held.
 const CHANGE_OF_BOTH: Talk<'static> = Talk {

@@ -1,10 +1,9 @@
 //! Lets several workers count up the same words at once.
 //!
 //! Used by: `cases`, `plays`, `thread_tests`.
-use crate::workers::{Worker, change};
-use mw_engine::EngineBrand;
+use crate::plays::Played;
+use crate::workers::{Player, change};
 use mw_words::{Job, MAX_VALUE, Reply};
-use std::sync::Wait;
 
 /// How many changes each worker makes.
 const CHANGES: u64 = 100;
@@ -14,30 +13,27 @@ const MOST_REQUESTS: u32 = 100_000;
 
 /// A race of the workers, each in a thread of its own. Each counts up word 0 of its tenant.
 #[derive(Clone, Copy)]
-pub(crate) struct Race {
+pub(crate) struct Race<'c> {
     /// The name of each worker's tenant.
-    pub(crate) names: &'static [&'static [u8]],
+    pub(crate) names: &'c [&'c [u8]],
     /// The last value of the words.
     pub(crate) word: u64,
 }
 
 /// Reads word 0 of a tenant, and changes it to one more. A worker with an odd number makes each step by
 /// itself. Gives true if the change was made.
-fn adds_one<J: EngineBrand, R: Wait>(worker: &mut Worker<'_, '_, J, R>, name: &[u8]) -> bool {
-    match worker.ask(name, &Job::Get(0), false) {
+fn adds_one<W: Player>(worker: &mut W, name: &[u8]) -> bool {
+    match worker.reply_to(name, &Job::Get(0), false) {
         Some(Reply::Val(value)) if value < MAX_VALUE => {
             let by_steps = worker.number() % 2 == 1;
-            worker.ask(name, &change(&[0], value, value + 1), by_steps) == Some(Reply::Yes)
+            worker.reply_to(name, &change(&[0], value, value + 1), by_steps) == Some(Reply::Yes)
         }
         _ => false,
     }
 }
 
 /// Counts up word 0 of a worker's tenant. Gives true when all changes are made.
-pub(crate) fn counts_up<J: EngineBrand, R: Wait>(
-    worker: &mut Worker<'_, '_, J, R>,
-    race: Race,
-) -> bool {
+pub(crate) fn counts_up<W: Player>(worker: &mut W, race: Race<'_>) -> bool {
     let Some(name) = race.names.get(usize::from(worker.number())) else {
         return false;
     };
@@ -54,29 +50,28 @@ pub(crate) fn counts_up<J: EngineBrand, R: Wait>(
 }
 
 /// Tells whether a worker that has counted reads the last value of its tenant's word.
-fn agrees<J: EngineBrand, R: Wait>(worker: &mut Worker<'_, '_, J, R>, race: Race) -> bool {
-    match race.names.get(usize::from(worker.number())) {
-        Some(name) => worker.went_well && worker.read(name, 0) == Some(Reply::Val(race.word)),
+fn agrees<W: Player>(played: &mut Played<W>, race: Race<'_>) -> bool {
+    let number = played.player.number();
+    match race.names.get(usize::from(number)) {
+        Some(name) => {
+            played.went_well && played.player.read(name, 0) == Some(Reply::Val(race.word))
+        }
         None => false,
     }
 }
 
 /// Tells whether each worker has counted, and reads the last value of its tenant's word, after it has met
 /// the last worker.
-pub(crate) fn all_agree<J: EngineBrand, R: Wait>(
-    workers: Vec<Worker<'_, '_, J, R>>,
-    race: Race,
-) -> bool {
-    let mut workers = workers;
-    let Some(mut last) = workers.pop() else {
+pub(crate) fn all_agree<W: Player>(all: &mut [Played<W>], race: Race<'_>) -> bool {
+    let Some((last, others)) = all.split_last_mut() else {
         return false;
     };
     let mut do_all = true;
-    for worker in &mut workers {
-        last.meet(worker);
-        if !agrees(worker, race) {
+    for other in others {
+        last.player.meet(&mut other.player);
+        if !agrees(other, race) {
             do_all = false;
         }
     }
-    agrees(&mut last, race) && do_all
+    agrees(last, race) && do_all
 }

@@ -2,20 +2,16 @@
 //!
 //! Used by: `plays`.
 use crate::latch::{Latch, comes_to};
-use crate::workers::{Worker, change};
-use mw_engine::EngineBrand;
+use crate::plays::Played;
+use crate::workers::{Player, change};
 use mw_words::Reply;
-use std::sync::Wait;
 
 /// How many workers and words there are.
 const RING: u8 = 8;
 
 /// Asks for a worker's change of its own word and the next one's, from 0 to 1. The first worker's first sync lasts until
-/// all others have come. Gives true if there is a reply.
-pub(crate) fn ask_own<J: EngineBrand, R: Wait>(
-    worker: &mut Worker<'_, '_, J, R>,
-    latch: &Latch,
-) -> bool {
+/// all others have come. Gives the reply, if there is one.
+pub(crate) fn ask_own<W: Player>(worker: &mut W, latch: &Latch) -> Option<Reply> {
     let number = worker.number();
     let next = number.wrapping_add(1) % RING;
     if number > 0 {
@@ -23,17 +19,13 @@ pub(crate) fn ask_own<J: EngineBrand, R: Wait>(
         latch.leave();
     }
     let change = change(&[number.min(next), number.max(next)], 0, 1);
-    worker.reply = worker.ask(b"t", &change, false);
-    worker.reply.is_some()
+    worker.reply_to(b"t", &change, false)
 }
 
 /// Gives the reply of the worker with a number.
-fn reply_of<J: EngineBrand, R: Wait>(
-    workers: &[Worker<'_, '_, J, R>],
-    number: u8,
-) -> Option<Reply> {
-    match workers.get(usize::from(number)) {
-        Some(worker) => worker.reply,
+fn reply_of<W>(all: &[Played<W>], number: u8) -> Option<Reply> {
+    match all.get(usize::from(number)) {
+        Some(played) => played.reply,
         None => None,
     }
 }
@@ -64,17 +56,16 @@ fn is_right(
 }
 
 /// Tells whether all replies, and the words that the last worker then reads, are of one order of the changes.
-pub(crate) fn are_right<J: EngineBrand, R: Wait>(workers: Vec<Worker<'_, '_, J, R>>) -> bool {
-    let mut workers = workers;
+pub(crate) fn are_right<W: Player>(all: &mut [Played<W>]) -> bool {
     let mut are_all = true;
     for number in 0..RING {
-        let value = match workers.get_mut(usize::from(RING - 1)) {
-            Some(reader) => reader.read(b"t", u16::from(number)),
+        let value = match all.get_mut(usize::from(RING - 1)) {
+            Some(reader) => reader.player.read(b"t", u16::from(number)),
             None => None,
         };
-        let own = reply_of(&workers, number);
-        let last = reply_of(&workers, number.wrapping_add(RING - 1) % RING);
-        let next = reply_of(&workers, number.wrapping_add(1) % RING);
+        let own = reply_of(all, number);
+        let last = reply_of(all, number.wrapping_add(RING - 1) % RING);
+        let next = reply_of(all, number.wrapping_add(1) % RING);
         if !is_right(number, own, last, next, value) {
             are_all = false;
         }

@@ -5,9 +5,8 @@ ghost use Rattle.std.specs.Prelude.{◌<◌, List, vec_len};
 ghost use Rattle.mw_session.specs.Talk.{Call};
 
 use crate::latch::{Latch, comes_to};
-use crate::workers::Worker;
-use mw_connections::{Anything, Listener, Network, TimeLimits, listen_at, port_of};
-use mw_engine::EngineBrand;
+use mw_connections::{Anything, ClientListener, Listener, Network, TimeLimits, listen_at, port_of};
+use mw_session::Service;
 use mw_workers::{ServeEnd, serve_all};
 use std::alloc::Global;
 use std::fs::File;
@@ -71,8 +70,8 @@ fn come_and_go<R: Net<Listener = TcpListener, Stream = TcpStream>>(
     rt: &R,
     port: u16,
     latch: &Latch,
-) -> io::Result<bool> {
-    let told = are_told(rt, port, latch);
+) -> bool {
+    let told = are_told(rt, port, latch).unwrap_or(false);
     for _ in 0..CONNECTIONS {
         // If the server has ended, nobody listens.
         let _ = client(rt, port, b"");
@@ -80,15 +79,26 @@ fn come_and_go<R: Net<Listener = TcpListener, Stream = TcpStream>>(
     told
 }
 
-/// Tells whether two of these workers serve both clients so.
-pub(crate) fn are_served<J, R>(
-    rt: &R,
-    alloc: Global,
-    mut workers: Vec<Worker<'_, '_, J, R>>,
-    latch: &Latch,
-) -> io::Result<bool>
+/// Listens for clients, and gives the port too.
+fn listen<'a, R>(
+    network: &Network<'a, R, Anything>,
+) -> io::Result<(ClientListener<'a, R, Anything>, u16)>
 where
-    J: EngineBrand + Send + Sync,
+    R: Files<File = File> + Net<Listener = TcpListener, Stream = TcpStream>,
+{
+    let limits = TimeLimits {
+        silence: None,
+        line: None,
+    };
+    let listener = listen_at(network, "127.0.0.1:0", 0, limits)?;
+    let port = port_of(&listener)?.unwrap_or(0);
+    Ok((listener, port))
+}
+
+/// Tells whether two of these workers serve both clients so.
+pub(crate) fn are_served<S, R>(rt: &R, alloc: Global, workers: Vec<S>, latch: &Latch) -> bool
+where
+    S: Service + Send + Drop,
     R: Files<File = File>
         + Net<Listener = TcpListener, Stream = TcpStream>
         + Threads
@@ -96,32 +106,30 @@ where
         + Clock
         + Sync,
 {
+    let mut workers = workers;
     workers.truncate(WORKERS);
-    if workers.is_empty() {
-        return Ok(false);
-    }
-    let limits = TimeLimits {
-        silence: None,
-        line: None,
-    };
-    let network: Network<'_, R, Anything> = Network::new(rt);
-    let listener = listen_at(&network, "127.0.0.1:0", 0, limits)?;
-    let port = port_of(&listener)?.unwrap_or(0);
     latch.set(2);
-    serve_clients(rt, alloc, listener, port, workers, latch)
+    let network: Network<'_, R, Anything> = Network::new(rt);
+    match listen(&network) {
+        Ok(found) => {
+            let (listener, port) = found;
+            !workers.is_empty() && serve_clients(rt, alloc, listener, port, workers, latch)
+        }
+        Err(_) => false,
+    }
 }
 
 /// Tells whether these workers serve both clients so, who come to this listener, at this port.
-fn serve_clients<J, R, L>(
+fn serve_clients<S, R, L>(
     rt: &R,
     alloc: Global,
     listener: L,
     port: u16,
-    workers: Vec<Worker<'_, '_, J, R>>,
+    workers: Vec<S>,
     latch: &Latch,
-) -> io::Result<bool>
+) -> bool
 where
-    J: EngineBrand + Send + Sync,
+    S: Service + Send + Drop,
     R: Files<File = File>
         + Net<Listener = TcpListener, Stream = TcpStream>
         + Threads
@@ -143,5 +151,5 @@ where
             end == ServeEnd::Served
         },
     );
-    Ok(told? && is_served)
+    told && is_served
 }

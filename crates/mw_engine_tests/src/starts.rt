@@ -7,7 +7,8 @@ ghost use Rattle.mw_engine.specs.Passes.{IsNew};
 ghost use Rattle.mw_engine.specs.Parts.{identity_of};
 
 use crate::cases::{Case, lines_of};
-use crate::latch::{ByLatch, LatchedDisk};
+use crate::disks::new_disks;
+use crate::latch::{ByLatch, Latch, LatchedDisk};
 use mw_config::TenantLine;
 use mw_disk::Disk;
 use mw_engine::{EngineParts, Pass};
@@ -47,7 +48,7 @@ fn opened<D: Disk + Drop>(
 }
 
 /// Opens the files of the tenants with these lines, on these disks. Gives None if memory is refused.
-pub(crate) fn all_opened<D: Disk + Drop>(
+fn all_opened<D: Disk + Drop>(
     alloc: Global,
     lines: &[TenantLine],
     disks: Vec<Option<D>>,
@@ -65,18 +66,32 @@ pub(crate) fn all_opened<D: Disk + Drop>(
     Some(files)
 }
 
-/// Starts an engine of a case's tenants, whose files are on these disks. It has a pass for each of the case's workers,
+/// Opens new files of a case's tenants, which have these lines. Gives None if memory is refused.
+pub(crate) fn new_files<'l>(
+    alloc: Global,
+    case: &Case<'_>,
+    lines: &[TenantLine],
+    latch: &'l Latch,
+) -> Option<Vec<Option<Opened<LatchedDisk<'l>>>>>
+    ensures { IfSome result (λ files. FitLines ⟦<LatchedDisk<'l> as Disk>⟧.facts lines.now files.items) }
+{
+    match new_disks(alloc, case, lines, latch) {
+        Some(disks) => all_opened(alloc, lines, disks),
+        None => None,
+    }
+}
+
+/// Starts an engine of a case's tenants, with new files. It has a pass for each of the case's workers,
 /// and one that sees the files in the end. Gives None if memory is refused.
 pub(crate) fn start<'l>(
     alloc: Global,
     case: &Case<'_>,
-    disks: Vec<Option<LatchedDisk<'l>>>,
     hold: ByLatch<'l>,
 ) -> Option<(EngineParts<LatchedDisk<'l>, ByLatch<'l>>, Vec<Pass>)>
     ensures { IfSome result (λ started. All (IsNew (identity_of started.0)) started.1.items) }
 {
     let lines = lines_of(case)?;
-    let files = all_opened(alloc, &lines, disks)?;
+    let files = new_files(alloc, case, &lines, hold.of_disks())?;
     let passes = case.workers().saturating_add(1);
     match EngineParts::new(alloc, &lines, files, case.pool, passes, hold) {
         Ok(started) => Some(started),

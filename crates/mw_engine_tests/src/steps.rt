@@ -5,14 +5,14 @@ ghost use Rattle.std.specs.Prelude.{◌≡◌, true};
 ghost use Rattle.mw_engine.specs.Identity.{IsFor};
 ghost use Rattle.mw_engine.specs.Passes.{IsPassOf};
 
-use crate::workers::LatchedEngine;
-use mw_engine::{Advance, EngineBrand, Pass};
+use mw_disk::Disk;
+use mw_engine::{Advance, Engine, EngineBrand, Hold, Pass};
 use mw_words::{Job, Reply};
 use std::sync::Wait;
 
 /// Gives the reply to a tenant's job. It makes each step, and each call on the tenant's file, here.
-pub(crate) fn by_steps<J: EngineBrand>(
-    engine: &LatchedEngine<'_, J>,
+pub(crate) fn by_steps<J: EngineBrand, D: Disk + Drop, H: Hold + Drop>(
+    engine: &Engine<J, D, H>,
     rt: &impl Wait,
     pass: &mut Pass,
     tenant: u8,

@@ -32,7 +32,7 @@ const ZEROS: &[u8] = &[0; 300];
 /// Each of the nine calls of a change of two words fails in turn. From the fifth call on the client is told YES, because
 /// the change is sealed. From the fourth on the change is found when the file is opened again. Then the device stops
 /// after each of these calls in turn, and the power fails. If only the commit byte is not synced, it may be found or not.
-static DEVICES: [(&str, Device, &[u8], &[u64]); 29] = [
+static DEVICES: [(&str, Device<'static>, &[u8], &[u64]); 29] = [
     ("call 1 fails", Device::Fails(1), FAULTS, BEFORE),
     ("call 2 fails", Device::Fails(2), FAULTS, BEFORE),
     ("call 3 fails", Device::Fails(3), FAULTS, BEFORE),
@@ -95,7 +95,7 @@ fn devices_that_fail_or_stop(rt: HostRuntime) {
 }
 
 /// A case in which the plain store is asked too, from this request on.
-fn beside<'c>(devices: &'c [Device], first: u64) -> Case<'c> {
+fn beside<'c>(devices: &'c [Device<'c>], first: u64) -> Case<'c> {
     let play: Play<'c> = Play::Beside(first);
     Case {
         tenants: b"t 5 2 t.mw\nu 2 1 u.mw\n",

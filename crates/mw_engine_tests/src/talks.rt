@@ -1,8 +1,10 @@
 //! Says what peers of sessions say and must be told.
 //!
 //! Used by: `cases`, `plays`, `workers`, tests.
-use mw_session::Ended;
-use mw_test_peers::{Failure, Page};
+use mw_session::{Duplex, Ended, NoOthers, RecordedStream, Service, Session};
+use mw_test_peers::{Failure, Page, Sender};
+use std::alloc::Global;
+use std::sync::Wait;
 
 /// More bytes than are written.
 pub(crate) const ALL: usize = usize::MAX;
@@ -35,6 +37,26 @@ pub(crate) const WHOLE: Cut = Cut {
 };
 
 impl Talk<'_> {
+    /// Tells whether a session of the peer with a service goes as the talk says.
+    pub(crate) fn goes_well<R: Wait, S: Service>(
+        &self,
+        alloc: Global,
+        rt: &R,
+        service: &mut S,
+    ) -> bool {
+        let (piece, cut) = match self.cut {
+            Some(cut) => (1, cut),
+            None => (ALL, WHOLE),
+        };
+        let mut page = Page::new(piece, cut.takes, cut.failure);
+        let mut stream = RecordedStream::new(Duplex {
+            reader: Sender::new(self.says, piece, cut.failure),
+            writer: &mut page,
+        });
+        let ended = Session::run(alloc, rt, &NoOthers, &mut stream, service);
+        self.was_told(&page, ended)
+    }
+
     /// Tells whether the peer was told what it must be told. If it breaks off, its session must end so, and nothing was
     /// written after a byte that it didn't take.
     pub(crate) fn was_told(&self, page: &Page, ended: Ended) -> bool {

@@ -2,16 +2,14 @@
 //!
 //! Used by: `cases`, `plays`.
 use crate::cases::{Case, Play, lines_of};
-use crate::disks::new_disks;
 use crate::latch::{Latch, LatchedDisk};
-use crate::starts::all_opened;
-use crate::workers::Worker;
-use mw_engine::EngineBrand;
+use crate::starts::new_files;
+use crate::workers::Player;
+use mw_disk::Disk;
 use mw_plain::Plain;
 use mw_session::Service;
 use mw_words::{Entries, Entry, Job, MAX_VALUE};
 use std::alloc::Global;
-use std::sync::Wait;
 
 /// How many random requests each worker makes of each tenant. Then it reads each word.
 const REQUESTS: u16 = 100;
@@ -72,15 +70,14 @@ pub(crate) fn new_plain<'l>(
         return None;
     };
     let lines = lines_of(case)?;
-    let disks = new_disks(alloc, case, latch)?;
-    let files = all_opened(alloc, &lines, disks)?;
+    let files = new_files(alloc, case, &lines, latch)?;
     Plain::new(alloc, &lines, files, case.pool).ok()
 }
 
 /// Tells whether a worker and the plain store reply the same to a job of a tenant.
-fn reply_the_same<J: EngineBrand, R: Wait>(
-    worker: &mut Worker<'_, '_, J, R>,
-    plain: &mut Plain<LatchedDisk<'_>>,
+fn reply_the_same<W: Player, D: Disk>(
+    worker: &mut W,
+    plain: &mut Plain<D>,
     tenant: Tenant,
     job: &Job,
 ) -> bool {
@@ -90,15 +87,15 @@ fn reply_the_same<J: EngineBrand, R: Wait>(
     {
         return false;
     }
-    let reply = worker.ask(name, job, false);
+    let reply = worker.reply_to(name, job, false);
     reply == Some(plain.ask(number, job))
 }
 
 /// Tells whether a worker and the plain store reply the same to a request of each tenant, and then report the same. The
 /// requests are random ones, or from a turn on reads of one word after the other.
-fn go_on_the_same<J: EngineBrand, R: Wait>(
-    worker: &mut Worker<'_, '_, J, R>,
-    plain: &mut Plain<LatchedDisk<'_>>,
+fn go_on_the_same<W: Player + Service, D: Disk>(
+    worker: &mut W,
+    plain: &mut Plain<D>,
     numbers: &mut Numbers,
     turn: u16,
 ) -> bool {
@@ -116,12 +113,11 @@ fn go_on_the_same<J: EngineBrand, R: Wait>(
 
 /// Tells whether the workers, asked by turns, and the plain store reply the same to each request, report
 /// the same after each, and have the same words in the end.
-pub(crate) fn answer_alike<J: EngineBrand, R: Wait>(
-    workers: Vec<Worker<'_, '_, J, R>>,
-    plain: &mut Plain<LatchedDisk<'_>>,
+pub(crate) fn answer_alike<W: Player + Service, D: Disk>(
+    workers: &mut [W],
+    plain: &mut Plain<D>,
     first: u64,
 ) -> bool {
-    let mut workers = workers;
     let mut numbers = Numbers { last: first };
     let mut are_all = true;
     for turn in 0..TURNS {

@@ -1,6 +1,6 @@
 //! A worker of an engine, with its pass, for tests.
 //!
-//! Used by: `cases`, `plays`, `races`, `rings`, `sockets`, `twins`.
+//! Used by: `cases`, `plays`, `races`, `rings`, `twins`.
 ghost use Rattle.std.specs.Prelude.{◌≡◌, true, All};
 ghost use Rattle.mw_engine.specs.Passes.{IsNew, IsPassOf};
 
@@ -8,10 +8,10 @@ use crate::cases::MEMORY;
 use crate::latch::{ByLatch, LatchedDisk};
 use crate::steps::by_steps;
 use crate::talks::Talk;
-use mw_engine::{Engine, EngineBrand, Pass};
+use mw_disk::Disk;
+use mw_engine::{Engine, EngineBrand, Hold, Pass};
 use mw_report::Figures;
-use mw_session::{Duplex, NoOthers, RecordedStream, Service, Session};
-use mw_test_peers::{Failure, Page, Sender};
+use mw_session::Service;
 use mw_words::{Entries, Entry, Job, Name, Reply};
 use std::alloc::Global;
 use std::process::Abort;
@@ -22,55 +22,49 @@ pub(crate) type LatchedEngine<'l, J> = Engine<J, LatchedDisk<'l>, ByLatch<'l>>;
 
 /// A worker of an engine, with its pass.
 #[derive(Drop)]
-pub(crate) struct Worker<'a, 'l, J: EngineBrand, R> {
-    engine: &'a LatchedEngine<'l, J>,
+pub(crate) struct Worker<'a, J: EngineBrand, D: Disk, H, R> {
+    engine: &'a Engine<J, D, H>,
     rt: &'a R,
     pass: Pass,
-    /// Whether it could do its part of what the workers do at once, and what it was told.
-    pub(crate) went_well: bool,
-    pub(crate) reply: Option<Reply>,
     ghost own: { IsPassOf J.identity pass },
     ghost idle: { pass.idle ≡ true },
 }
 
-impl<'a, 'l, J: EngineBrand, R> Worker<'a, 'l, J, R> {
-    fn new(engine: &'a LatchedEngine<'l, J>, rt: &'a R, pass: Pass) -> Self
+impl<'a, J: EngineBrand, D: Disk, H, R> Worker<'a, J, D, H, R> {
+    fn new(engine: &'a Engine<J, D, H>, rt: &'a R, pass: Pass) -> Self
         requires own { IsPassOf J.identity pass }
         requires idle { pass.idle ≡ true }
     {
-        Worker {
-            engine,
-            rt,
-            pass,
-            went_well: false,
-            reply: None,
-        }
+        Worker { engine, rt, pass }
     }
 }
 
-impl<'a, 'l, J: EngineBrand, R: Wait> Worker<'a, 'l, J, R> {
-    /// Ends the worker and gives its pass.
-    pub(crate) fn into_pass(self) -> Pass
-        ensures { IsPassOf J.identity result }
-    {
-        let Worker {
-            engine: _,
-            rt: _,
-            pass,
-            went_well: _,
-            reply: _,
-        } = self;
-        pass
-    }
-
+/// Who plays a case: a worker of an engine.
+pub(crate) trait Player {
     /// Gives the worker's number in the engine.
-    pub(crate) fn number(&self) -> u8 {
-        self.pass.worker()
-    }
+    fn number(&self) -> u8;
 
     /// Gives the reply to a job of the tenant with this name, and None if there is no such tenant, or it
     /// may not ask for this. If so asked, each step is made by itself.
-    pub(crate) fn ask(&mut self, name: &[u8], job: &Job, by_itself: bool) -> Option<Reply> {
+    fn reply_to(&mut self, name: &[u8], job: &Job, by_itself: bool) -> Option<Reply>;
+
+    /// Gives the reply to a read of a word of the tenant with this name. It runs the read's program once,
+    /// or as often as it takes. Gives None if there is no such tenant or word.
+    fn read(&mut self, name: &[u8], address: u16) -> Option<Reply>;
+
+    /// Meets another worker.
+    fn meet(&mut self, other: &mut Self);
+
+    /// Tells whether a session of this worker goes as the talk of its number says, if there is one.
+    fn is_told(&mut self, alloc: Global, talks: &[Talk<'_>]) -> bool;
+}
+
+impl<J: EngineBrand, D: Disk + Drop, H: Hold + Drop, R: Wait> Player for Worker<'_, J, D, H, R> {
+    fn number(&self) -> u8 {
+        self.pass.worker()
+    }
+
+    fn reply_to(&mut self, name: &[u8], job: &Job, by_itself: bool) -> Option<Reply> {
         let name = Name::try_from(name).unwrap_or_default();
         let (tenant, words) = self.engine.find(&name)?;
         if !job.is_well_formed(usize::from(words)) {
@@ -82,46 +76,32 @@ impl<'a, 'l, J: EngineBrand, R: Wait> Worker<'a, 'l, J, R> {
         Some(self.engine.serve(self.rt, &mut self.pass, tenant, job))
     }
 
-    /// Gives the reply to a read of a word of the tenant with this name. It runs the read's program once,
-    /// or as often as it takes. Gives None if there is no such tenant or word.
-    pub(crate) fn read(&mut self, name: &[u8], address: u16) -> Option<Reply> {
+    fn read(&mut self, name: &[u8], address: u16) -> Option<Reply> {
         let name = Name::try_from(name).unwrap_or_default();
         let (tenant, words) = self.engine.find(&name)?;
         if address >= words {
             return None;
         }
-        if let Ok(reply) = self.engine.try_look(&mut self.pass, tenant, address) {
-            return Some(reply);
+        match self.engine.try_look(&mut self.pass, tenant, address) {
+            Ok(reply) => Some(reply),
+            Err(_) => Some(self.engine.look(self.rt, &mut self.pass, tenant, address)),
         }
-        Some(self.engine.look(self.rt, &mut self.pass, tenant, address))
     }
 
-    /// Meets another worker.
-    pub(crate) fn meet(&mut self, other: &mut Self) {
+    fn meet(&mut self, other: &mut Self) {
         self.engine.meet(&mut self.pass, &mut other.pass);
     }
 
-    /// Tells whether a session of this worker goes as the talk of its number says, if there is one.
-    pub(crate) fn is_told(&mut self, alloc: Global, talks: &[Talk<'_>]) -> bool {
-        let Some(talk) = talks.get(usize::from(self.number())) else {
-            return true;
-        };
-        let (piece, takes, failure) = match talk.cut {
-            Some(cut) => (1, cut.takes, cut.failure),
-            None => (usize::MAX, usize::MAX, Failure::Nothing),
-        };
-        let mut page = Page::new(piece, takes, failure);
-        let mut stream = RecordedStream::new(Duplex {
-            reader: Sender::new(talk.says, piece, failure),
-            writer: &mut page,
-        });
+    fn is_told(&mut self, alloc: Global, talks: &[Talk<'_>]) -> bool {
         let rt = self.rt;
-        let ended = Session::run(alloc, rt, &NoOthers, &mut stream, self);
-        talk.was_told(&page, ended)
+        match talks.get(usize::from(self.number())) {
+            Some(talk) => talk.goes_well(alloc, rt, self),
+            None => true,
+        }
     }
 }
 
-impl<J: EngineBrand, R: Wait> Service for Worker<'_, '_, J, R> {
+impl<J: EngineBrand, D: Disk + Drop, H: Hold + Drop, R: Wait> Service for Worker<'_, J, D, H, R> {
     ghost use Rattle.mw_engine.specs.Identity.{HasWords};
 
     ghost answered = { λ _ _ _. Unit {0} };
@@ -142,12 +122,12 @@ impl<J: EngineBrand, R: Wait> Service for Worker<'_, '_, J, R> {
 }
 
 /// Makes a worker for each pass.
-pub(crate) fn workers_of<'a, 'l, J: EngineBrand, R: Abort>(
+pub(crate) fn workers_of<'a, J: EngineBrand, D: Disk, H, R: Abort>(
     rt: &'a R,
     alloc: Global,
-    engine: &'a LatchedEngine<'l, J>,
+    engine: &'a Engine<J, D, H>,
     passes: Vec<Pass>,
-) -> Vec<Worker<'a, 'l, J, R>>
+) -> Vec<Worker<'a, J, D, H, R>>
     requires { All (IsNew J.identity) passes.items }
 {
     let mut workers = Vec::new(alloc);

@@ -163,32 +163,75 @@ fn once(call: Call, failures: u64) -> [Counted; 3] {
     }
 }
 
+/// What a call must come to.
+#[derive(Clone, Copy)]
+struct Wanted {
+    ended: Ended,
+    /// How many calls of the file it is.
+    made: usize,
+    /// The last error that is kept.
+    last: i32,
+    counted: [Counted; 3],
+}
+
+/// Tells whether a call goes on by one more after this error.
+fn goes_on(call: Call, error: i32) -> bool {
+    match call {
+        Call::ReadAt(..) | Call::WriteAt(..) => error == INTERRUPTED,
+        _ => false,
+    }
+}
+
+/// Gives what a call must come to whose first call of the file fails with this error, if it isn't 0, and that gives this
+/// number if it goes well. A call that was interrupted is made again: it is no failure.
+fn wanted_after(error: i32, call: Call, number: u64) -> Wanted {
+    let is_longer = goes_on(call, error);
+    let has_failed = error == DEVICE;
+    Wanted {
+        ended: if is_longer || error == 0 {
+            Ok(number)
+        } else {
+            Err(error)
+        },
+        made: if is_longer { 2 } else { 1 },
+        last: if has_failed { DEVICE } else { 0 },
+        counted: once(call, u64::from(has_failed)),
+    }
+}
+
+/// Gives what such a call by this layer must come to.
+fn wanted_by(layer: Layer, error: i32, call: Call, number: u64) -> Wanted {
+    let mut wanted = wanted_after(error, call, number);
+    match layer {
+        Layer::Counted => {}
+        Layer::GivenUp => {
+            wanted.ended = Err(STALE);
+            wanted.made = 0;
+            wanted.last = STALE;
+            wanted.counted = [(0, 0); 3];
+        }
+        _ => wanted.counted = [(0, 0); 3],
+    }
+    wanted
+}
+
+/// Tells whether a call that ended so is what it must be.
+fn is_as_wanted(bench: &Bench, call: Call, ended: Ended, wanted: &Wanted) -> bool {
+    ended == wanted.ended
+        && bench.file.has_made(&[call; 2][..wanted.made.min(2)])
+        && bench.last() == wanted.last
+        && bench.has_counted(wanted.counted)
+}
+
 /// Tells whether a call by this layer, which gives this number if it goes well and else this error, is one call of the file,
 /// ends as that, and is kept as it must be. A read or a write that was interrupted goes on by one more.
 fn is_one_call<R: Clock>(rt: &R, layer: Layer, error: i32, call: Call, number: u64) -> bool {
     let bench = Bench::new((0, error));
-    let goes_on = match call {
-        Call::ReadAt(..) | Call::WriteAt(..) => error == INTERRUPTED,
-        _ => false,
-    };
-    let (wanted, made) = match error {
-        _ if goes_on => (Ok(number), 2),
-        0 => (Ok(number), 1),
-        error => (Err(error), 1),
-    };
-    // A call that was interrupted is made again: it is no failure.
-    let has_failed = error == DEVICE;
-    let kept = if has_failed { DEVICE } else { 0 };
-    let (wanted, made, last, counted) = match layer {
-        Layer::Counted => (wanted, made, kept, once(call, u64::from(has_failed))),
-        Layer::GivenUp => (Err(STALE), 0, STALE, [(0, 0); 3]),
-        _ => (wanted, made, kept, [(0, 0); 3]),
-    };
     if let Layer::GivenUp = layer {
         bench.state.give_up();
     }
-    let ended = bench.make(rt, layer, call) == wanted && bench.file.has_made(&[call; 2][..made]);
-    ended && bench.last() == last && bench.has_counted(counted)
+    let ended = bench.make(rt, layer, call);
+    is_as_wanted(&bench, call, ended, &wanted_by(layer, error, call, number))
 }
 
 /// Gives how many of the calls, from the first on, are one call of the file each, by this layer and with this error.
@@ -297,12 +340,17 @@ fn calls_that_went<R: Clock>(rt: &R, row: &Row, bench: &Bench) -> usize {
     went
 }
 
+/// Makes the calls of a row on a file of its own. Gives how many went as they say, and the last error that is kept.
+fn played<R: Clock>(rt: &R, row: &Row) -> (usize, i32) {
+    let bench = Bench::new(row.failing);
+    (calls_that_went(rt, row, &bench), bench.last())
+}
+
 #[test]
 fn what_is_kept_of_calls(rt: HostRuntime) {
     for row in &ROWS {
-        let bench = Bench::new(row.failing);
-        let went = calls_that_went(&rt, row, &bench);
-        let is_right = went == row.steps.len() && bench.last() == row.last;
+        let (went, last) = played(&rt, row);
+        let is_right = went == row.steps.len() && last == row.last;
         holds(&rt, row.name, went, is_right);
     }
 }
@@ -331,14 +379,30 @@ fn syncs<F: DiskFile + Drop>(
     is_synced && disk.faults() == faults && file.has_made(calls)
 }
 
+/// Tells whether a disk over a file whose first call fails with this error makes these calls for a sync, and counts so many
+/// faults.
+fn syncs_alone(error: i32, calls: &[Call], faults: u64) -> bool {
+    let bench = Bench::new((0, error));
+    syncs(FileDisk::new(&bench.file), &bench.file, calls, faults)
+}
+
+/// Tells whether a disk over this watched file does so.
+fn syncs_by<'x, R: Clock>(bench: &'x Bench, rt: &'x R, calls: &[Call], faults: u64) -> bool {
+    let file = WatchedFile::new(&bench.file, &bench.state, rt, None);
+    syncs(FileDisk::new(file), &bench.file, calls, faults)
+}
+
+/// Tells whether a disk over such a file that is watched does so.
+fn syncs_watched<R: Clock>(rt: &R, error: i32, calls: &[Call], faults: u64) -> bool {
+    let bench = Bench::new((0, error));
+    syncs_by(&bench, rt, calls, faults)
+}
+
 #[test]
 fn a_disk_syncs_its_file(rt: HostRuntime) {
     for (name, error, calls, faults) in &SYNCS {
-        let bench = Bench::new((0, *error));
-        let alone = syncs(FileDisk::new(&bench.file), &bench.file, calls, *faults);
-        let bench = Bench::new((0, *error));
-        let disk = FileDisk::new(WatchedFile::new(&bench.file, &bench.state, &rt, None));
-        let watched = syncs(disk, &bench.file, calls, *faults);
+        let alone = syncs_alone(*error, calls, *faults);
+        let watched = syncs_watched(&rt, *error, calls, *faults);
         holds(&rt, name, calls.len(), alone && watched);
     }
 }

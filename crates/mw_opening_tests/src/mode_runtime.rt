@@ -3,16 +3,17 @@
 //! Used by: `mode_tests`.
 use std::alloc::Allocator;
 use std::fs::{File, Metadata, OpenOptions, Permissions};
-use std::io;
+use std::io::{self, PipeReader, PipeWriter};
 use std::net::{Net, SocketAddr, TcpListener, TcpStream};
 use std::os::fd::{BorrowedFd, OwnedFd};
 use std::os::unix::net;
 use std::os::unix::net::UnixStream;
+use std::path::PathBuf;
 use std::rt::Files;
 use std::sync::atomic::{AtomicU32, Ordering};
 
 /// A runtime that does what another one does, but just before it sets the mode of a file, somebody tries to connect to the
-/// local socket at that path. It has none of the calls that no program makes: each that the traits have a body for.
+/// local socket at that path. It has none of the calls on a network that no program makes.
 #[derive(Drop)]
 pub(crate) struct ModeRuntime<'a, R> {
     rt: &'a R,
@@ -84,6 +85,38 @@ impl<R: Files<File = File> + Net> Files for ModeRuntime<'_, R> {
 
     fn remove_dir_all<B: Allocator>(&self, alloc: B, path: &str) -> io::Result<()> {
         self.rt.remove_dir_all(alloc, path)
+    }
+
+    fn canonicalize<B: Allocator>(&self, alloc: B, path: &str) -> io::Result<PathBuf<B>> {
+        self.rt.canonicalize(alloc, path)
+    }
+
+    fn read_link<B: Allocator>(&self, alloc: B, path: &str) -> io::Result<PathBuf<B>> {
+        self.rt.read_link(alloc, path)
+    }
+
+    fn hard_link(&self, original: &str, link: &str) -> io::Result<()> {
+        self.rt.hard_link(original, link)
+    }
+
+    fn symlink(&self, original: &str, link: &str) -> io::Result<()> {
+        self.rt.symlink(original, link)
+    }
+
+    fn pipe(&self) -> io::Result<(PipeReader, PipeWriter)> {
+        self.rt.pipe()
+    }
+
+    fn chown(&self, path: &str, uid: Option<u32>, gid: Option<u32>) -> io::Result<()> {
+        self.rt.chown(path, uid, gid)
+    }
+
+    fn lchown(&self, path: &str, uid: Option<u32>, gid: Option<u32>) -> io::Result<()> {
+        self.rt.lchown(path, uid, gid)
+    }
+
+    fn create_dir_with_mode(&self, path: &str, mode: u32) -> io::Result<()> {
+        self.rt.create_dir_with_mode(path, mode)
     }
 
     fn set_permissions(&self, path: &str, mode: Permissions) -> io::Result<()> {

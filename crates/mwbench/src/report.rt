@@ -3,6 +3,7 @@
 //! Used by: `crowd`, `run`. docs/BENCH tells what is written: change both together.
 use crate::crowd::Tally;
 use crate::latencies::Latencies;
+use crate::replies::Replies;
 use std::io::{self, Write};
 
 /// What is written of one kind of reply, after its name, with the figures that `Latencies` gives.
@@ -19,6 +20,12 @@ const RATES_MEMBERS: &str = "{\"changes_a_second\": #, \"reads_a_second\": #, \"
 /// The value of the object's member for one kind of reply.
 const KIND_OBJECT: &str = "\": {\"count\": #, \"mean_us\": #, \"p50_us\": #, \"p90_us\": #, \
     \"p95_us\": #, \"p99_us\": #, \"p99_9_us\": #, \"slowest_us\": #}";
+
+/// The names of the four kinds of reply in a line: `YES`, `NO`, `BUSY`, and the reply with words.
+static NAMES: [&str; 4] = ["YES", "NO", "BUSY", "VAL"];
+
+/// How their members of the object begin.
+static MEMBERS: [&str; 4] = [", \"yes", ", \"no", ", \"busy", ", \"val"];
 
 /// Writes a text with these figures in the places of its `#`, in their order.
 ///
@@ -46,6 +53,19 @@ fn write_kind<O: Write>(
     write_filled(text, &latencies.figures(), out)
 }
 
+/// Writes the names of the four kinds of reply, and after each this text with the figures of the kind.
+fn write_kinds<O: Write>(
+    names: &[&str; 4],
+    text: &str,
+    replies: &Replies,
+    out: &mut O,
+) -> io::Result<()> {
+    write_kind(names[0], text, &replies.yes, out)?;
+    write_kind(names[1], text, &replies.no, out)?;
+    write_kind(names[2], text, &replies.busy, out)?;
+    write_kind(names[3], text, &replies.reads, out)
+}
+
 /// Gives what was done in so many seconds: changes a second that were made, words a second that were read, and changes
 /// in the whole time that were answered `NO` or `BUSY`. Each sum is at most `u64::MAX`.
 fn rates_of(tally: &Tally, seconds: u64) -> [u64; 3] {
@@ -65,10 +85,7 @@ fn rates_of(tally: &Tally, seconds: u64) -> [u64; 3] {
 /// `out` failed, perhaps in the midst of a line.
 pub fn report<O: Write>(tally: &Tally, seconds: u64, out: &mut O) -> io::Result<()> {
     let replies = &tally.replies;
-    write_kind("YES", KIND, &replies.yes, out)?;
-    write_kind("NO", KIND, &replies.no, out)?;
-    write_kind("BUSY", KIND, &replies.busy, out)?;
-    write_kind("VAL", KIND, &replies.reads, out)?;
+    write_kinds(&NAMES, KIND, replies, out)?;
     let [changes, reads, refusals] = rates_of(tally, seconds);
     let [_, _, p50, p90, _, p99, p99_9, slowest] = replies.all.figures();
     let figures = [changes, reads, refusals, p50, p90, p99, p99_9, slowest];
@@ -83,10 +100,7 @@ pub fn report<O: Write>(tally: &Tally, seconds: u64, out: &mut O) -> io::Result<
 pub fn report_json<O: Write>(tally: &Tally, seconds: u64, out: &mut O) -> io::Result<()> {
     write_filled(RATES_MEMBERS, &rates_of(tally, seconds), out)?;
     let replies = &tally.replies;
-    write_kind(", \"yes", KIND_OBJECT, &replies.yes, out)?;
-    write_kind(", \"no", KIND_OBJECT, &replies.no, out)?;
-    write_kind(", \"busy", KIND_OBJECT, &replies.busy, out)?;
-    write_kind(", \"val", KIND_OBJECT, &replies.reads, out)?;
+    write_kinds(&MEMBERS, KIND_OBJECT, replies, out)?;
     write_kind(", \"all", KIND_OBJECT, &replies.all, out)?;
     out.write_all(b"}\n")
 }

@@ -77,11 +77,28 @@ fn work_and_report<
     O: Write,
 >(rt: &R, settings: &Settings, before: &[u64], out: &mut O) -> Result<Tally, LoadFault> {
     let tally = Mutex::new(Tally::new(rt.alloc(), settings)?);
-    let askers = begin_all(rt, settings, before)?;
-    work_all(rt, askers, &Board::new(), &tally, settings, out)?;
+    work_together(rt, settings, before, &tally, out)?;
     let tally = tally.into_inner();
-    write_all(&tally, settings, out)?;
-    Ok(tally)
+    match write_all(&tally, settings, out) {
+        Ok(()) => Ok(tally),
+        Err(fault) => Err(fault),
+    }
+}
+
+/// Lets the clients work, whose words had these values at first. They add what they did to `tally`.
+fn work_together<
+    R: Net<Stream = TcpStream> + Threads + Wait + Clock + AllocGlobal + Sync,
+    O: Write,
+>(
+    rt: &R,
+    settings: &Settings,
+    before: &[u64],
+    tally: &Mutex<Tally>,
+    out: &mut O,
+) -> Result<(), LoadFault> {
+    let askers = begin_all(rt, settings, before)?;
+    work_all(rt, askers, &Board::new(), tally, settings, out)?;
+    Ok(())
 }
 
 /// Writes what all clients have done.

@@ -83,10 +83,7 @@ fn quota_after(world: &World, stops: &[Stop], tenant: usize) -> u8
     ensures { result ≡ quotas_in world.now.tenant_states.items stops.now tenant }
 {
     match world.tenant_states().get(tenant) {
-        Some(tenant_state) => match quota_told(stops, tenant) {
-            Some(quota) => quota,
-            None => tenant_state.quota,
-        },
+        Some(tenant_state) => quota_told(stops, tenant).unwrap_or(tenant_state.quota),
         None => 0,
     }
 }

@@ -157,14 +157,7 @@ impl Seen {
                 return Ok(());
             }
             match Row::unpack(world.word(At::Row(worker))) {
-                Some(row) => self.worker_states.push(WorkerState {
-                    actor: match world.actor(worker) {
-                        Some(actor) => Some(actor.copy()),
-                        None => None,
-                    },
-                    attempt: world.attempt(worker),
-                    row,
-                })?,
+                Some(row) => self.worker_states.push(worker_state(world, worker, row))?,
                 None => self.is_junk = true,
             }
         }
@@ -211,6 +204,21 @@ impl Seen {
     pub(crate) fn is_taken(&self, change: Slot) -> bool {
         let gate = self.gate(change.slot);
         gate.taken && gate.seq == change.seq
+    }
+}
+
+/// Gives what is seen of a worker that has this row.
+fn worker_state(world: &World, worker: u8, row: Row) -> WorkerState
+    requires { worker < world.now.config.workers }
+{
+    let actor = match world.actor(worker) {
+        Some(actor) => Some(actor.copy()),
+        None => None,
+    };
+    WorkerState {
+        actor,
+        attempt: world.attempt(worker),
+        row,
     }
 }
 

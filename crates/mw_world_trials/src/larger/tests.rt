@@ -68,9 +68,20 @@ impl Tally {
 fn play(alloc: Global, seed: u64, group: Option<Group>, tally: &mut Tally) -> Result<(), Fault> {
     let mut dice = Dice::new(seed);
     let mut run = Run::new(alloc, large_world(&mut dice), true)?;
+    look_at_run(alloc, &mut run, &mut dice, group, tally)
+}
+
+/// Checks all that must hold of a run, or that this group notices what is wrong.
+fn look_at_run(
+    alloc: Global,
+    run: &mut Run,
+    dice: &mut Dice,
+    group: Option<Group>,
+    tally: &mut Tally,
+) -> Result<(), Fault> {
     match group {
-        Some(group) => notices(alloc, &mut run, &mut dice, group),
-        None => check(alloc, &mut run, &mut dice, tally),
+        Some(group) => notices(alloc, run, dice, group),
+        None => check(alloc, run, dice, tally),
     }
 }
 
