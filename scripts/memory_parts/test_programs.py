@@ -12,7 +12,7 @@ from typing import List
 from .running import Ended, Refusing, Wrong
 
 TESTS = (
-    ("mw_store_tests", "lone_tests::", "a store alone"),
+    ("mw_words_tests", "lone_tests::", "a store alone"),
     ("mw_words_tests", "frame_tests::", "a feed"),
     ("mw_world_trials", "stale_helper_tests::", "a world, its run and its marks"),
 )

@@ -202,13 +202,8 @@ impl<R: Read + Drop, W: Write + Drop> Client<R, W> {
         let mut seen = self.guess(addresses)?;
         let mut pauses = Pauses::begin(clock, patience);
         for _ in 0..u64::MAX {
-            let told = self.confirm(&seen);
-            match told {
-                Ok(Outcome::Made) => return Ok(seen),
-                Ok(Outcome::Differs(addr, value)) => seen = mended(&seen, addr, value),
-                Err(Failure::MadeOrNot) => return Err(Failure::Lost),
-                Err(Failure::Busy) => {}
-                Err(other) => return Err(other),
+            if self.confirm(&mut seen)? {
+                return Ok(seen);
             }
             if !pauses.wait(clock) {
                 return Err(Failure::Busy);
@@ -240,15 +235,27 @@ impl<R: Read + Drop, W: Write + Drop> Client<R, W> {
         Ok(seen)
     }
 
-    /// Asks for a change once, if the tenant may ask for it.
-    fn confirm(&mut self, entries: &Entries) -> Result<Outcome, Failure>
-        ensures { result ≡ Ok Outcome.Made → IsConfirmed (R.remaining self.new.reader) (W.contents self.new.writer) entries.now }
+    /// Asks for a change that changes nothing once, if the tenant may ask for it. Tells whether it was
+    /// answered `YES`. If a value is not right, it corrects it.
+    fn confirm(&mut self, seen: &mut Entries) -> Result<bool, Failure>
+        requires { IsTrue (list_all spec.keeps seen.old.items) }
+        ensures confirmed { result ≡ Ok true → IsConfirmed (R.remaining self.new.reader) (W.contents self.new.writer) seen.new }
+        ensures same { IsTrue (list_all spec.keeps seen.new.items) }
     {
-        let job = Job::Cas(copy_of(entries));
+        let job = Job::Cas(copy_of(seen));
         if !may_ask(self.words, &job) {
             return Err(Failure::Argument);
         }
-        self.change(entries, &Request::Job(job))
+        match self.change(seen, &Request::Job(job)) {
+            Ok(Outcome::Made) => Ok(true),
+            Ok(Outcome::Differs(addr, value)) => {
+                *seen = mended(seen, addr, value);
+                Ok(false)
+            }
+            Err(Failure::Busy) => Ok(false),
+            Err(Failure::MadeOrNot) => Err(Failure::Lost),
+            Err(failure) => Err(failure),
+        }
     }
 
     /// Asks for a change once.

@@ -11,9 +11,9 @@
 //!   [`Client::read`].
 //! - *Proved*: the server reads a request's line as that request, and [`read_reply`] accepts just the protocol's
 //!   replies.
-//! - *Tested only*: that a reply which came is not told as lost, patience, and sockets (mw_client_tests).
+//! - *Tested only*: that a reply which came is not told as lost, patience, and sockets (mw_serving_tests).
 //!
-//! Used by: mw_client_c, mwbench, mw_client_tests. docs/CLIENTS describes it for users: change both together.
+//! Used by: mw_client_c, mwbench, mw_serving_tests. docs/CLIENTS describes it for users: change both together.
 #![tactic(auto)]
 
 mod administrator;

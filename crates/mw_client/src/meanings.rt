@@ -1,6 +1,6 @@
 //! Tells what a reply means for the call that got it: a value, a change made or not made, or a failure.
 //!
-//! Used by: `administrator`, `client`, `wire`, mwbench, mw_client_tests. A new reply (`Say`) needs a case here and in
+//! Used by: `administrator`, `client`, `wire`, mwbench, mw_serving_tests. A new reply (`Say`) needs a case here and in
 //! `specs/Exchanges`.
 ghost use Rattle.std.specs.Prelude.{◌≡◌};
 ghost use Rattle.mw_client.specs.Exchanges as spec;

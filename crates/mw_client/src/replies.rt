@@ -47,13 +47,18 @@ fn reply_of(line: &[u8]) -> Option<Say>
 fn plain(line: &[u8]) -> Option<Say>
     ensures { result ≡ spec.plain_read line.now }
 {
-    match line {
-        b"YES" => Some(Say::Store(Reply::Yes)),
-        b"BUSY" => Some(Say::Store(Reply::Busy)),
-        b"FAULT" => Some(Say::Store(Reply::Fault)),
-        b"WORN" => Some(Say::Store(Reply::Worn)),
-        b"BYE" => Some(Say::Bye),
-        _ => None,
+    if line == b"YES".as_slice() {
+        Some(Say::Store(Reply::Yes))
+    } else if line == b"BUSY".as_slice() {
+        Some(Say::Store(Reply::Busy))
+    } else if line == b"FAULT".as_slice() {
+        Some(Say::Store(Reply::Fault))
+    } else if line == b"WORN".as_slice() {
+        Some(Say::Store(Reply::Worn))
+    } else if line == b"BYE".as_slice() {
+        Some(Say::Bye)
+    } else {
+        None
     }
 }
 

@@ -7,9 +7,9 @@ use Rattle.clap.specs.Words.{App, HasMatchesOf, Rule, built, fault_of, first_of,
 use Rattle.clap.specs.declared.error.Error.{Error}
 use Rattle.clap.specs.declared.error.kind.ErrorKind.TheVariants.{OutOfMemory}
 use Rattle.clap.specs.declared.parser.matches.ArgMatches.{ArgMatches}
-use Rattle.mw_command_line.proofs.GivenValues.{values_given}
-use Rattle.mw_command_line.specs.Commands.{command_of, rule_of_argument}
-use Rattle.mw_command_line.specs.declared.command_line.CommandLine.{CommandLine}
+use Rattle.mw_main.proofs.GivenValues.{values_given}
+use Rattle.mw_main.specs.Commands.{command_of, rule_of_argument}
+use Rattle.mw_main.specs.declared.command_line.CommandLine.{CommandLine}
 use Rattle.mw_config.specs.CommandLine.{AreAsked, AreAskedBy, AreTaken, IsModeAsked, IsNumberOf, server_command, text_asked, value_asked}
 use Rattle.mw_config.specs.declared.command_line.Args.{Args}
 use Rattle.mw_config.specs.declared.command_line.Mode.{Mode}

@@ -6,7 +6,7 @@ use Rattle.std.specs.Option.{option_map}
 use Rattle.std.specs.Str.Parse.{digits_value, without_leading_plus}
 use Rattle.clap.specs.Simple.{on_top}
 use Rattle.clap.specs.Words.{App, fault_of, first_of, matches_of, new_app, one_of, takes}
-use Rattle.mw_command_line.specs.Commands.{IsGiven}
+use Rattle.mw_main.specs.Commands.{IsGiven}
 use Rattle.mw_words.specs.declared.limits.TheConstants.{MAX_POOL, MAX_WORKERS, MAX_CONNECTIONS}
 use Rattle.mw_config.specs.declared.command_line.TheConstants.{MAX_CLIENTS, MAX_FAULTS, MAX_HTTP_NAMES, MAX_IDLE, MAX_SOCKET_MODE}
 use Rattle.mw_config.specs.ServerOptions.{server_rules}

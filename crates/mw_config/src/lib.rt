@@ -4,7 +4,7 @@
 //!   that is broken. [`read_args`] gives only what is in its range, and the tenants file, pool, workers, script or addresses
 //!   that the words ask for.
 //! - *Proved*: a text has one answer ([`one_answer`]).
-//! - *Tested only*: all else of a command line, and the texts of refusals (`config_tests` of mw_store_tests,
+//! - *Tested only*: all else of a command line, and the texts of refusals (`config_tests` of mw_words_tests,
 //!   scripts/check-texts).
 //!
 //! Used by: mw_plain, mw_engine, mw_opening, mw_programs; mw_law_threads, in contracts. When a server starts,

@@ -3,13 +3,13 @@
 //! Used by: `command_line`, which reads them. A new one needs its row in docs/OPERATING.
 
 ghost use Rattle.std.specs.Prelude.{◌≡◌, codes, map};
-ghost use Rattle.mw_command_line.specs.Commands.{rule_of_argument};
+ghost use Rattle.mw_main.specs.Commands.{rule_of_argument};
 ghost use Rattle.mw_config.specs.ServerOptions.{server_rules};
 
 use crate::command_line::{MAX_CLIENTS, MAX_FAULTS, MAX_IDLE};
 use clap::ArgAction;
 use clap::builder::ValueParser;
-use mw_command_line::{Argument, CommandLine, FLAG, TEXT};
+use mw_main::{Argument, CommandLine, FLAG, TEXT};
 use mw_words::{MAX_CONNECTIONS, MAX_POOL, MAX_WORKERS};
 
 /// What the help ends with.

@@ -1,11 +1,11 @@
 -- The device calls of an opening are those of its parts, one after the other.
--- Used by: read_file, recover, make_ready, give_second.
-use Rattle.std.proofs.Common.{◌≡◌, ◌++◌, ◌*◌, if◌then◌else◌, ℕ, Bool, true, false, List, [], length, replicate, IsTrue, None, Some, is_none, Result, Ok, Err, is_err, is_ok, refl, sym, ap, ◌∙◌, subst, inr}
+-- Used by: read_front, read_file, recover, make_ready, give_second.
+use Rattle.std.proofs.Common.{◌≡◌, ◌++◌, ◌*◌, ◌==◌, if◌then◌else◌, ℕ, Bool, true, false, List, [], length, replicate, IsTrue, None, Some, is_none, Result, Ok, Err, is_err, is_ok, refl, sym, ap, ◌∙◌, subst, inr}
 use Rattle.std.proofs.lemmas.Bool.{cond-true, cond-false, false≢true}
 use Rattle.std.proofs.lemmas.List.{length-replicate}
-use Rattle.mw_disk.specs.DeviceCalls.{DeviceCall, Length, Makes}
+use Rattle.mw_disk.specs.DeviceCalls.{DeviceCall, Length, ReadAt, Makes}
 use Rattle.mw_disk.specs.Facts.{Facts}
-use Rattle.mw_disk.proofs.MakesLaws.{Made, makes_none, makes_after, makes_cut}
+use Rattle.mw_disk.proofs.MakesLaws.{Made, makes_none, makes_one, makes_after, makes_cut}
 use Rattle.mw_record.specs.declared.damages.Damage.{Damage}
 use Rattle.mw_record.specs.declared.layout.Layout.TheVariants.{First, Second}
 use Rattle.mw_record.specs.declared.layout.TheConstants.{PLACES_GROW}
@@ -23,6 +23,10 @@ made_well made calls old new (Err e) well is = absurd (cc)
 pub made_badly : {D T E : Type 0} (made : Made D) (calls : List DeviceCall) (old new : D) (r : Result T E) → is_err r ≡ true → Makes made calls (is_ok r) old new → Makes made calls false old new
 made_badly made calls old new (Ok x) failed is = absurd (cc)
 made_badly made calls old new (Err e) failed is = is
+
+-- so many bytes are read, if there are any to read
+pub front_made : {D : Type 0} (made : Made D) (count : ℕ) (well : Bool) (old new : D) → (count == 0) ≡ false → made (ReadAt 0 count) well old new → Makes made (front_list count) well old new
+front_made made count well old new some read = rw some (makes_one made (ReadAt 0 count) well old new read)
 
 -- there are bytes of this length which are the front of the disk if it is honest, since that is as long
 pub front_bytes : (f : Facts) (count : ℕ) (b : Bool) → f.honest ≡ b → (IsTrue f.honest → length (front f) ≡ count) → (image : List ℕ) × WasRead f image × (length image ≡ count)

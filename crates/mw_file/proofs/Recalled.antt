@@ -1,6 +1,6 @@
 -- The place states that an opening makes of a file's open records match the file's bytes. Finishing them takes just the
 -- device calls that the bytes ask for.
--- Used by: finish, repair, fill_words, writes_of.
+-- Used by: finish, repair, fill_words, writes_of, state_of.
 use Rattle.std.proofs.Common.{◌≡◌, ℕ, zero, suc, ◌+◌, ◌<◌, ◌≤◌, ◌==◌, List, [], ◌∷◌, ◌++◌, length, drop, map, append_assoc, append-nil, Some, None, Option, unwrap_or, if◌then◌else◌, min, take, slice_get, slice_set, get_or, refl, sym, ap, ◌∙◌, inl, inr, arith, subst, IsTrue}
 use Rattle.std.proofs.lemmas.List.{length-take, take_all, take_more, take_more_set}
 use Rattle.std.proofs.lemmas.Bool.{cond-false, ne_eqb}
@@ -51,6 +51,10 @@ word_more ws xs i w lt so_far read = take_more_set ws i w lt ∙ ap (λ (ps : Li
 pub open_pairs : (r : Option Pairs) → (length (unwrap_or r []) ≡ 0 → ⊥) → r ≡ Some (unwrap_or r [])
 open_pairs None some = absurd (some refl)
 open_pairs (Some ps) some = refl
+
+-- the entries of a place's record, if there are some, are those of an open record
+pub sealed_record : (r : Option Pairs) (items : Pairs) → items ≡ unwrap_or r [] → (length items ≡ 0 → ⊥) → Some items ≡ r
+sealed_record r items is some = ap Some is ∙ sym (open_pairs r (λ none. some (ap length is ∙ none)))
 
 -- the state of a place, and a number of that state
 module _ (f : PlaceState → ℕ) (states : List PlaceState) (k : ℕ) (lt : k < length states) where

@@ -27,8 +27,8 @@ type Part = (usize, &'static [u8]);
 enum Called {
     /// The length was asked for, or bytes were read.
     Asked,
-    /// So many bytes were written from this offset on: these parts, and zeros before, between and after them.
-    Wrote(usize, usize, &'static [Part]),
+    /// The write of this number among [`WRITES`] was made.
+    Wrote(usize),
     Synced,
 }
 
@@ -78,10 +78,11 @@ struct Bytes {
 fn make<R: Abort + AllocGlobal>(rt: &R, bytes: &mut Bytes, call: Called) {
     match call {
         Called::Asked => {}
-        Called::Wrote(at, count, parts) => {
-            fill(rt, &mut bytes.read, at, count, 0);
+        Called::Wrote(number) => {
+            let (at, count, parts) = WRITES.get(number).expect(rt, "a write");
+            fill(rt, &mut bytes.read, *at, *count, 0);
             put_all(&mut bytes.read, parts);
-            fill(rt, &mut bytes.torn, at, count, TORN);
+            fill(rt, &mut bytes.torn, *at, *count, TORN);
         }
         Called::Synced => bytes.torn = bytes.read.to_vec(rt.alloc()).expect(rt, MEMORY),
     }
@@ -105,14 +106,14 @@ fn difference(found: &[u8], wanted: &[u8]) -> Option<usize> {
 /// A file, what is done with it, and the calls that this makes on the device.
 struct Row {
     name: &'static str,
-    start: Start,
+    /// The number of the file among [`STARTS`].
+    start: usize,
     /// The calls on the opened file. If there are none, the device calls are those of its opening.
     steps: &'static [Step],
     calls: &'static [Called],
 }
 
 /// A file of so many bytes.
-#[derive(Clone, Copy)]
 struct Start {
     count: usize,
     /// Ranges of junk: offsets and lengths.
@@ -124,7 +125,8 @@ struct Start {
 }
 
 /// Makes a file's bytes.
-fn laid<R: Abort + AllocGlobal>(rt: &R, start: Start) -> Vec<u8> {
+fn laid<R: Abort + AllocGlobal>(rt: &R, start: usize) -> Vec<u8> {
+    let start = STARTS.get(start).expect(rt, "a file");
     let mut bytes = Vec::new(rt.alloc());
     fill(rt, &mut bytes, 0, start.count, 0);
     for range in start.junk {
@@ -226,35 +228,6 @@ const SECOND: [Part; 5] = [
     (4992, b"\x07\0\0\0\0\0\0\0"),
 ];
 
-/// The record of the change of words 0 and 258, in place 0.
-const TWO_ENTRIES: Called = Called::Wrote(
-    5001,
-    263,
-    &[
-        (5001, b"\x02"),
-        (5008, b"\0\0\0\0\0\0\0\0\x01\x02\x03\x04\x05\x06\0\0"),
-        (5024, b"\x02\x01\0\0\0\0\0\0\x11\x12\x13\x14\x15\x16\0\0"),
-    ],
-);
-
-/// The home words of the same change.
-const HOME_0: Called = Called::Wrote(2600, 8, &[(2600, b"\x01\x02\x03\x04\x05\x06\0\0")]);
-
-const HOME_258: Called = Called::Wrote(4664, 8, &[(4664, b"\x11\x12\x13\x14\x15\x16\0\0")]);
-
-/// A change is prepared by two calls, sealed by two and settled by five.
-const CHANGE: [Called; 9] = [
-    TWO_ENTRIES,
-    Called::Synced,
-    SET_0,
-    Called::Synced,
-    HOME_0,
-    HOME_258,
-    Called::Synced,
-    CLEAR_0,
-    Called::Synced,
-];
-
 /// The record of a change of sixteen words, without its commit byte. It leaves no byte of its place over.
 const FULL: &[u8] = b"\x10\0\0\0\0\0\0\
 \x01\0\0\0\0\0\0\0\x41\0\0\0\0\0\0\0\
@@ -274,42 +247,18 @@ const FULL: &[u8] = b"\x10\0\0\0\0\0\0\
 \x0f\0\0\0\0\0\0\0\x4f\0\0\0\0\0\0\0\
 \x10\0\0\0\0\0\0\0\x50\0\0\0\0\0\0\0";
 
-/// A cancel makes no call. The next record is written over the one that was canceled.
-const CANCEL: [Called; 6] = [
-    TWO_ENTRIES,
-    Called::Synced,
-    Called::Wrote(5265, 263, &[(5265, FULL)]),
-    Called::Synced,
-    Called::Wrote(
+/// Writes: from which offset on, and how many bytes. They have these parts, and zeros before, between and after them.
+static WRITES: [(usize, usize, &[Part]); 17] = [
+    (
         5001,
         263,
         &[
-            (5001, b"\x01"),
-            (5008, b"\x2b\x01\0\0\0\0\0\0\x07\0\0\0\0\0\0\0"),
+            (5001, b"\x02"),
+            (5008, b"\0\0\0\0\0\0\0\0\x01\x02\x03\x04\x05\x06\0\0"),
+            (5024, b"\x02\x01\0\0\0\0\0\0\x11\x12\x13\x14\x15\x16\0\0"),
         ],
     ),
-    Called::Synced,
-];
-
-/// The home words of the change of words 1 and 299.
-const HOME_1: Called = Called::Wrote(2608, 8, &[(2608, b"\x41\0\0\0\0\0\0\0")]);
-
-const HOME_299: Called = Called::Wrote(4992, 8, &[(4992, b"\x09\0\0\0\0\0\0\0")]);
-
-/// The commit byte of place 0 is set, and cleared; and that of place 1.
-const SET_0: Called = Called::Wrote(5000, 1, &[(5000, b"\xa5")]);
-
-const CLEAR_0: Called = Called::Wrote(5000, 1, &[(5000, b"\0")]);
-
-const SET_1: Called = Called::Wrote(5264, 1, &[(5264, b"\xa5")]);
-
-const CLEAR_1: Called = Called::Wrote(5264, 1, &[(5264, b"\0")]);
-
-/// Both records share a sync; each seal has its own; the home words share one, and so do the commit bytes that are
-/// cleared. All go in the order of the places.
-const SHARE: [Called; 15] = [
-    TWO_ENTRIES,
-    Called::Wrote(
+    (
         5265,
         263,
         &[
@@ -318,6 +267,120 @@ const SHARE: [Called; 15] = [
             (5288, b"\x2b\x01\0\0\0\0\0\0\x09\0\0\0\0\0\0\0"),
         ],
     ),
+    (5265, 263, &[(5265, FULL)]),
+    (
+        5001,
+        263,
+        &[
+            (5001, b"\x01"),
+            (5008, b"\x2b\x01\0\0\0\0\0\0\x07\0\0\0\0\0\0\0"),
+        ],
+    ),
+    (
+        5001,
+        263,
+        &[
+            (5001, b"\x01"),
+            (5008, b"\x2b\x01\0\0\0\0\0\0\x09\0\0\0\0\0\0\0"),
+        ],
+    ),
+    (
+        5265,
+        263,
+        &[
+            (5265, b"\x01"),
+            (5272, b"\x2b\x01\0\0\0\0\0\0\x09\0\0\0\0\0\0\0"),
+        ],
+    ),
+    (2600, 8, &[(2600, b"\x01\x02\x03\x04\x05\x06\0\0")]),
+    (4664, 8, &[(4664, b"\x11\x12\x13\x14\x15\x16\0\0")]),
+    (2608, 8, &[(2608, b"\x41\0\0\0\0\0\0\0")]),
+    (4992, 8, &[(4992, b"\x09\0\0\0\0\0\0\0")]),
+    (5000, 1, &[(5000, b"\xa5")]),
+    (5000, 1, &[(5000, b"\0")]),
+    (5264, 1, &[(5264, b"\xa5")]),
+    (5264, 1, &[(5264, b"\0")]),
+    (
+        2568,
+        2960,
+        &[
+            (2568, b"MWCASF2\n\x2c\x01\0\0\x02\0"),
+            (2600, b"\x01\x02\x03\x04\x05\x06\0\0"),
+            (4664, b"\x11\x12\x13\x14\x15\x16\0\0"),
+            (4992, b"\x07\0\0\0\0\0\0\0"),
+        ],
+    ),
+    (16, 8, &[(16, b"\x08\x0a\0\0\0\0\0\0")]),
+    (15, 1, &[(15, b"\xa5")]),
+];
+
+/// The writes of records: of the change of words 0 and 258, in place 0; of that of words 1 and 299, in place 1; of that of
+/// sixteen words, in place 1; and of the changes of word 299 to 7, in place 0, and to 9, in place 0 and in place 1.
+const TWO_ENTRIES: Called = Called::Wrote(0);
+
+const OTHER_ENTRIES: Called = Called::Wrote(1);
+
+const SIXTEEN_ENTRIES: Called = Called::Wrote(2);
+
+const LAST_IS_7: Called = Called::Wrote(3);
+
+const LAST_0: Called = Called::Wrote(4);
+
+const LAST_1: Called = Called::Wrote(5);
+
+/// Those of home words: of the change of words 0 and 258, and of that of words 1 and 299.
+const HOME_0: Called = Called::Wrote(6);
+
+const HOME_258: Called = Called::Wrote(7);
+
+const HOME_1: Called = Called::Wrote(8);
+
+const HOME_299: Called = Called::Wrote(9);
+
+/// The commit byte of place 0 is set, and cleared; and that of place 1.
+const SET_0: Called = Called::Wrote(10);
+
+const CLEAR_0: Called = Called::Wrote(11);
+
+const SET_1: Called = Called::Wrote(12);
+
+const CLEAR_1: Called = Called::Wrote(13);
+
+/// Those of a migration: the second layout, its offset, and the switch byte.
+const LAYOUT: Called = Called::Wrote(14);
+
+const OFFSET: Called = Called::Wrote(15);
+
+const SWITCH: Called = Called::Wrote(16);
+
+/// A change is prepared by two calls, sealed by two and settled by five.
+const CHANGE: [Called; 9] = [
+    TWO_ENTRIES,
+    Called::Synced,
+    SET_0,
+    Called::Synced,
+    HOME_0,
+    HOME_258,
+    Called::Synced,
+    CLEAR_0,
+    Called::Synced,
+];
+
+/// A cancel makes no call. The next record is written over the one that was canceled.
+const CANCEL: [Called; 6] = [
+    TWO_ENTRIES,
+    Called::Synced,
+    SIXTEEN_ENTRIES,
+    Called::Synced,
+    LAST_IS_7,
+    Called::Synced,
+];
+
+/// Both records share a sync; each seal has its own; the home words share one, and so do the commit bytes that are
+/// cleared. All go in the order of the places.
+const SHARE: [Called; 15] = [
+    TWO_ENTRIES,
+    OTHER_ENTRIES,
     Called::Synced,
     SET_1,
     Called::Synced,
@@ -338,14 +401,7 @@ const SHARE: [Called; 15] = [
 const AHEAD: [Called; 17] = [
     TWO_ENTRIES,
     Called::Synced,
-    Called::Wrote(
-        5265,
-        263,
-        &[
-            (5265, b"\x01"),
-            (5272, b"\x2b\x01\0\0\0\0\0\0\x09\0\0\0\0\0\0\0"),
-        ],
-    ),
+    LAST_1,
     SET_0,
     Called::Synced,
     HOME_0,
@@ -355,14 +411,7 @@ const AHEAD: [Called; 17] = [
     Called::Synced,
     SET_1,
     Called::Synced,
-    Called::Wrote(
-        5001,
-        263,
-        &[
-            (5001, b"\x01"),
-            (5008, b"\x2b\x01\0\0\0\0\0\0\x09\0\0\0\0\0\0\0"),
-        ],
-    ),
+    LAST_0,
     HOME_299,
     Called::Synced,
     CLEAR_1,
@@ -413,52 +462,51 @@ const FIRST: [Part; 6] = [
 const MIGRATION: [Called; 7] = [
     Called::Asked,
     Called::Asked,
-    Called::Wrote(
-        2568,
-        2960,
-        &[
-            (2568, b"MWCASF2\n\x2c\x01\0\0\x02\0"),
-            (2600, b"\x01\x02\x03\x04\x05\x06\0\0"),
-            (4664, b"\x11\x12\x13\x14\x15\x16\0\0"),
-            (4992, b"\x07\0\0\0\0\0\0\0"),
-        ],
-    ),
-    Called::Wrote(16, 8, &[(16, b"\x08\x0a\0\0\0\0\0\0")]),
+    LAYOUT,
+    OFFSET,
     Called::Synced,
-    Called::Wrote(15, 1, &[(15, b"\xa5")]),
+    SWITCH,
     Called::Synced,
 ];
 
-/// A file in its second layout, and the same with open records.
-const SECOND_START: Start = Start {
-    count: 5568,
-    junk: &SECOND_JUNK,
-    parts: &SECOND,
-    over: &[],
-};
+/// Files: in the second layout, and the same with open records; in the first layout, with bytes after it and without.
+static STARTS: [Start; 4] = [
+    Start {
+        count: 5568,
+        junk: &SECOND_JUNK,
+        parts: &SECOND,
+        over: &[],
+    },
+    Start {
+        count: 5568,
+        junk: &SECOND_JUNK,
+        parts: &SECOND,
+        over: &OPEN_RECORDS,
+    },
+    Start {
+        count: 5568,
+        junk: &FIRST_JUNK,
+        parts: &FIRST,
+        over: &[],
+    },
+    Start {
+        count: 2568,
+        junk: &SHORT_JUNK,
+        parts: &FIRST,
+        over: &[],
+    },
+];
 
-const OPEN_START: Start = Start {
-    over: &OPEN_RECORDS,
-    ..SECOND_START
-};
+const SECOND_START: usize = 0;
 
-/// A file in its first layout, with bytes after it and without.
-const FIRST_START: Start = Start {
-    count: 5568,
-    junk: &FIRST_JUNK,
-    parts: &FIRST,
-    over: &[],
-};
+const OPEN_START: usize = 1;
 
-const SHORT_START: Start = Start {
-    count: 2568,
-    junk: &SHORT_JUNK,
-    parts: &FIRST,
-    over: &[],
-};
+const FIRST_START: usize = 2;
 
-/// Changes in the opened file.
-static CHANGES: [Row; 4] = [
+const SHORT_START: usize = 3;
+
+/// Changes in the opened file, and openings.
+static ROWS: [Row; 7] = [
     Row {
         name: "a change",
         start: SECOND_START,
@@ -499,16 +547,6 @@ static CHANGES: [Row; 4] = [
         ],
         calls: &AHEAD,
     },
-];
-
-#[test]
-fn bytes_of_changes(rt: HostRuntime) {
-    for row in &CHANGES {
-        makes_calls(&rt, row);
-    }
-}
-
-static OPENINGS: [Row; 3] = [
     Row {
         name: "an opening that finishes open records",
         start: OPEN_START,
@@ -530,8 +568,8 @@ static OPENINGS: [Row; 3] = [
 ];
 
 #[test]
-fn bytes_of_openings(rt: HostRuntime) {
-    for row in &OPENINGS {
+fn bytes_of_calls(rt: HostRuntime) {
+    for row in &ROWS {
         makes_calls(&rt, row);
     }
 }

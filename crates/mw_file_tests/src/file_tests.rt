@@ -57,24 +57,16 @@ pub(crate) fn answers_to(calls: u8) -> (Answers, Answers) {
     }
 }
 
-/// Tells whether a crash leaves the commit byte set, if the device had trouble after so many calls.
-fn is_sealed(calls: u8, trouble: Trouble, torn: &[u8]) -> bool {
-    match (calls, trouble) {
+/// Gives the words that a crash with these torn bytes leaves, if the device had trouble after so many
+/// calls. They are new if it leaves the commit byte set.
+fn words_after(calls: u8, trouble: Trouble, torn: &[u8]) -> [u64; 2] {
+    let is_sealed = match (calls, trouble) {
         (0..=1, _) | (2, Trouble::Stop | Trouble::StopTwice) => false,
         (2, Trouble::Once) => torn.first() == Some(&0xa5),
         (3, _) => torn.is_empty() || torn.first() == Some(&0xa5),
         _ => true,
-    }
-}
-
-/// Gives the words that a crash with these torn bytes leaves, if the device had trouble after so many
-/// calls.
-fn words_after(calls: u8, trouble: Trouble, torn: &[u8]) -> [u64; 2] {
-    if is_sealed(calls, trouble, torn) {
-        [1, 2]
-    } else {
-        [0, 0]
-    }
+    };
+    if is_sealed { [1, 2] } else { [0, 0] }
 }
 
 /// Crashes of this file leave the right words with each of these torn bytes, so often.

@@ -171,11 +171,6 @@ fn torn_in_each<R: Abort + AllocGlobal>(rt: &R, rows: &[Row]) -> u64 {
     images
 }
 
-#[test]
-fn the_power_goes_in_a_change(rt: HostRuntime) {
-    same(&rt, "files", 0, &torn_in_each(&rt, &CHANGE), &918);
-}
-
 /// If the power fails before the second layout is synced, the old file has any length from its own one on.
 /// Gives how many files were tried.
 fn cut_short<R: Abort + AllocGlobal>(rt: &R) -> u64 {
@@ -191,7 +186,8 @@ fn cut_short<R: Abort + AllocGlobal>(rt: &R) -> u64 {
 }
 
 #[test]
-fn the_power_goes_in_a_migration(rt: HostRuntime) {
-    same(&rt, "files", 0, &torn_in_each(&rt, &MIGRATION), &3_555);
-    same(&rt, "short files", 0, &cut_short(&rt), &576);
+fn the_power_goes(rt: HostRuntime) {
+    let (change, migration) = (torn_in_each(&rt, &CHANGE), torn_in_each(&rt, &MIGRATION));
+    let files = [change, migration, cut_short(&rt)];
+    same(&rt, "files, and short files", 0, &files, &[918, 3_555, 576]);
 }

@@ -339,94 +339,71 @@ fn keep_words<R: Abort + AllocGlobal>(rt: &R, calls: &Calls) {
     );
 }
 
-/// Changes are prepared together.
-static PREPARES: Calls = Calls {
-    call: Shared::Prepare,
-    cases: &[
-        ("prepare aa..", b"aa.."),
-        ("prepare s.pa", b"s.pa"),
-        ("prepare sapp", b"sapp"),
-    ],
-    files: 3_333,
-    openings: 50,
-};
+/// Changes are prepared together; one change is sealed, alone and while the call prepares others; all sealed changes are settled,
+/// alone and while the call prepares others.
+static CALLS: [Calls; 5] = [
+    Calls {
+        call: Shared::Prepare,
+        cases: &[
+            ("prepare aa..", b"aa.."),
+            ("prepare s.pa", b"s.pa"),
+            ("prepare sapp", b"sapp"),
+        ],
+        files: 3_333,
+        openings: 50,
+    },
+    Calls {
+        call: Shared::Seal,
+        cases: &[
+            ("seal c...", b"c..."),
+            ("seal cs..", b"cs.."),
+            ("seal pc.s", b"pc.s"),
+            ("seal sscs", b"sscs"),
+            ("seal pcps", b"pcps"),
+            ("seal spsc", b"spsc"),
+        ],
+        files: 36,
+        openings: 178,
+    },
+    Calls {
+        call: Shared::Seal,
+        cases: &[
+            ("seal ca..", b"ca.."),
+            ("seal asca", b"asca"),
+            ("seal cpsa", b"cpsa"),
+        ],
+        files: 3_351,
+        openings: 90,
+    },
+    Calls {
+        call: Shared::Settle,
+        cases: &[
+            ("settle ss..", b"ss.."),
+            ("settle sss.", b"sss."),
+            ("settle ssss", b"ssss"),
+            ("settle sp.s", b"sp.s"),
+            ("settle psps", b"psps"),
+            ("settle .spp", b".spp"),
+            ("settle pp..", b"pp.."),
+        ],
+        files: 1_260,
+        openings: 624,
+    },
+    Calls {
+        call: Shared::Settle,
+        cases: &[
+            ("settle sa..", b"sa.."),
+            ("settle sasa", b"sasa"),
+            ("settle apsp", b"apsp"),
+        ],
+        files: 3_693,
+        openings: 187,
+    },
+];
 
 #[test]
-fn a_prepare_of_several_changes(rt: HostRuntime) {
-    keep_words(&rt, &PREPARES);
-}
-
-/// One change is sealed.
-static SEALS: Calls = Calls {
-    call: Shared::Seal,
-    cases: &[
-        ("seal c...", b"c..."),
-        ("seal cs..", b"cs.."),
-        ("seal pc.s", b"pc.s"),
-        ("seal sscs", b"sscs"),
-        ("seal pcps", b"pcps"),
-        ("seal spsc", b"spsc"),
-    ],
-    files: 36,
-    openings: 178,
-};
-
-#[test]
-fn a_seal_beside_other_changes(rt: HostRuntime) {
-    keep_words(&rt, &SEALS);
-}
-
-/// One change is sealed, and the call prepares others.
-static SEALS_AHEAD: Calls = Calls {
-    call: Shared::Seal,
-    cases: &[
-        ("seal ca..", b"ca.."),
-        ("seal asca", b"asca"),
-        ("seal cpsa", b"cpsa"),
-    ],
-    files: 3_351,
-    openings: 90,
-};
-
-#[test]
-fn a_seal_that_prepares_others(rt: HostRuntime) {
-    keep_words(&rt, &SEALS_AHEAD);
-}
-
-/// All sealed changes are settled.
-static SETTLES: Calls = Calls {
-    call: Shared::Settle,
-    cases: &[
-        ("settle ss..", b"ss.."),
-        ("settle sss.", b"sss."),
-        ("settle ssss", b"ssss"),
-        ("settle sp.s", b"sp.s"),
-        ("settle psps", b"psps"),
-        ("settle .spp", b".spp"),
-        ("settle pp..", b"pp.."),
-    ],
-    files: 1_260,
-    openings: 624,
-};
-
-#[test]
-fn a_settle_of_several_changes(rt: HostRuntime) {
-    keep_words(&rt, &SETTLES);
-}
-
-/// All sealed changes are settled, and the call prepares others.
-static SETTLES_AHEAD: Calls = Calls {
-    call: Shared::Settle,
-    cases: &[
-        ("settle sa..", b"sa.."),
-        ("settle sasa", b"sasa"),
-        ("settle apsp", b"apsp"),
-    ],
-    files: 3_693,
-    openings: 187,
-};
-
-#[test]
-fn a_settle_that_prepares_others(rt: HostRuntime) {
-    keep_words(&rt, &SETTLES_AHEAD);
+fn calls_of_several_changes(rt: HostRuntime) {
+    for calls in &CALLS {
+        keep_words(&rt, calls);
+    }
 }

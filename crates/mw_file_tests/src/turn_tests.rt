@@ -100,13 +100,6 @@ fn play<R: Abort + AllocGlobal>(rt: &R, row: &Row) -> TenantFile<MemDisk> {
     file
 }
 
-/// Plays each of these rows.
-fn play_all<R: Abort + AllocGlobal>(rt: &R, rows: &[Row]) {
-    for row in rows {
-        play(rt, row);
-    }
-}
-
 /// What a call is answered: that it is done; or that it is done in place 0, 1 or 2.
 const DONE: Told = Some(Ok(None));
 
@@ -146,8 +139,24 @@ pub(crate) fn with_two_records<R: Abort + AllocGlobal>(rt: &R) -> TenantFile<Mem
     play(rt, &TWO_RECORDS)
 }
 
-/// Changes are canceled, and the lowest free place is taken again.
-static CANCELS: [Row; 4] = [
+/// The change of word 1, to be prepared in place 1 while another change is under way in place 0.
+pub(crate) const WAITING: &[(u16, &[(u16, u64)])] = &[(1, &[(1, 2)])];
+
+/// The change in place 0 is sealed, and settled, without one that waits.
+const SEAL_0: Turn = Turn::Call(Step::Seal(0), DONE);
+
+const SETTLE_0: Turn = Turn::Call(Step::Settle(0), DONE);
+
+/// The change in place 1 is settled.
+const SETTLE_1: Turn = Turn::Call(Step::Settle(1), DONE);
+
+/// After a device call of a copy failed, the file is in use as before.
+const COPY_FAILS: Turn = Turn::Copy(Err(CopyFault::Disk));
+
+/// What is done with new files: changes are canceled, and the lowest free place is taken again; each call of a change prepares
+/// one that waits, which is sealed then like any other; a file is copied whose change of word 0 is prepared, and whose change
+/// of words 1 and 2 is sealed.
+static ROWS: [Row; 11] = [
     Row {
         name: "both places are taken",
         start: Start::ThreeWords,
@@ -194,23 +203,6 @@ static CANCELS: [Row; 4] = [
             Turn::Call(Step::Prepare(&[(2, 3)]), IN_0),
         ],
     },
-];
-
-#[test]
-fn a_cancelled_place_is_taken_again(rt: HostRuntime) {
-    play_all(&rt, &CANCELS);
-}
-
-/// The change of word 1, to be prepared in place 1 while another change is under way in place 0.
-pub(crate) const WAITING: &[(u16, &[(u16, u64)])] = &[(1, &[(1, 2)])];
-
-/// The change in place 0 is sealed, and settled, without one that waits.
-const SEAL_0: Turn = Turn::Call(Step::Seal(0), DONE);
-
-const SETTLE_0: Turn = Turn::Call(Step::Settle(0), DONE);
-
-/// The calls of a change, each of which prepares the one that waits, and the seal of that one.
-static PREPARED_AHEAD: [Row; 3] = [
     Row {
         name: "prepared by a prepare",
         start: Start::TwoWords,
@@ -248,21 +240,6 @@ static PREPARED_AHEAD: [Row; 3] = [
             Turn::Crash(&[1, 2]),
         ],
     },
-];
-
-#[test]
-fn a_change_that_was_prepared_ahead_is_sealed_like_any_other(rt: HostRuntime) {
-    play_all(&rt, &PREPARED_AHEAD);
-}
-
-/// The change in place 1 is settled.
-const SETTLE_1: Turn = Turn::Call(Step::Settle(1), DONE);
-
-/// After a device call of a copy failed, the file is in use as before.
-const COPY_FAILS: Turn = Turn::Copy(Err(CopyFault::Disk));
-
-/// Copies of a file whose change of word 0 is prepared, and whose change of words 1 and 2 is sealed.
-static COPIES: [Row; 4] = [
     Row {
         name: "the words of the copy's moment",
         start: Start::ThreeWords,
@@ -319,6 +296,8 @@ static COPIES: [Row; 4] = [
 ];
 
 #[test]
-fn copies_of_a_file_in_use(rt: HostRuntime) {
-    play_all(&rt, &COPIES);
+fn turns_of_a_file(rt: HostRuntime) {
+    for row in &ROWS {
+        play(&rt, row);
+    }
 }

@@ -2,4 +2,5 @@ pub mod ReadHeads
 pub mod Widths
 mod ExchangeLaws
 mod PageTexts
+mod Prefixes
 mod Receipts

@@ -67,16 +67,24 @@ fn name_len(value: &[u8]) -> usize
     ensures name { result ≡ prefix_len spec.is_name_byte value.now }
     ensures within { result ≤ length value.now }
 {
-    value.iter().take_while(|byte| is_name_byte(**byte)).count()
+    for at in 0..value.len() {
+        if !is_name_byte(value[at]) {
+            return at;
+        }
+    }
+    value.len()
 }
 
 fn address_len(rest: &[u8]) -> usize
     ensures address { result ≡ prefix_len spec.is_address_byte rest.now }
     ensures within { result ≤ length rest.now }
 {
-    rest.iter()
-        .take_while(|byte| is_address_byte(**byte))
-        .count()
+    for at in 0..rest.len() {
+        if !is_address_byte(rest[at]) {
+            return at;
+        }
+    }
+    rest.len()
 }
 
 fn is_name_byte(byte: u8) -> bool

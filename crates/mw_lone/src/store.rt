@@ -1,6 +1,6 @@
 //! The store alone (the sequential specification of one tenant) as a program that tests can run, mark by mark.
 //!
-//! Used by: mw_store_tests, mw_world_trials. Each call must do what `specs/Store` says. docs/PROMISES cites
+//! Used by: mw_words_tests, mw_world_trials. Each call must do what `specs/Store` says. docs/PROMISES cites
 //! `Lone::mark`.
 ghost use Rattle.std.specs.Prelude.{◌≡◌, ◌↔◌, length, IsTrue, IfOk, OnOk, OnErr, IfSome, IsErrOf, Some, None, if◌then◌else◌};
 ghost use Rattle.std.specs.Option.{option_map};

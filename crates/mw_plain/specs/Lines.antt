@@ -1,5 +1,5 @@
 -- Defines which opened files fit which tenants' lines, and of what parts a new plain store is made.
--- Used by: mw_store_tests, mw_engine_tests, plain.rt, tenant.rt. A change here changes which files a store may be made of.
+-- Used by: mw_words_tests, mw_engine_tests, plain.rt, tenant.rt. A change here changes which files a store may be made of.
 use Rattle.std.specs.Prelude.{◌≡◌, ◌≤◌, ℕ, true, false, List, [], ◌∷◌, length, sum_by, Option, Some, None, Vec, IsTrue}
 use Rattle.std.specs.declared.alloc.Global.{Global}
 use Rattle.mw_disk.specs.Facts.{Facts}

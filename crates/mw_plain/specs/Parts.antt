@@ -1,6 +1,6 @@
 -- Names the parts of a plain store: its tenants by number, and the words, quota (limit of changes under way) and loaded file
 -- of each.
--- Used by: mw_store_tests, plain.rt, restarts.rt, tenant.rt.
+-- Used by: mw_words_tests, plain.rt, restarts.rt, tenant.rt.
 use Rattle.std.specs.Prelude.{List, ◌≡◌, ◌≢◌, ℕ, length, slice_get, Option}
 use Rattle.std.specs.Option.{option_and_then, option_map, option_map_or}
 use Rattle.mw_plain.specs.declared.loaded_file.LoadedFile.{LoadedFile}

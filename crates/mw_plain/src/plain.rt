@@ -2,7 +2,7 @@
 //! for the tenant that it names, and the search for a tenant by its name. It is made of its tenants' opened files, and
 //! taken apart into their disks again.
 //!
-//! Used by: mw_store_tests, mw_engine_tests. A new field needs a value in `new`, and its name in `into_disks`. Change the
+//! Used by: mw_words_tests, mw_engine_tests. A new field needs a value in `new`, and its name in `into_disks`. Change the
 //! calls with `specs/Answers`, `specs/Tasks`, `specs/Cases`, `specs/Parts`, `specs/Quotas`, `specs/Report`, `specs/Search`
 //! and `specs/Tickets`, and `new` with `specs/Lines` and `specs/Made`. docs/PROMISES cites `ask`.
 ghost use Rattle.std.specs.Prelude.{◌≡◌, ◌<◌, ◌≤◌, ◌-◌, length, map, vec_capacity, vec_len, IsTrue, IfOk, MatchOption, OnErr};

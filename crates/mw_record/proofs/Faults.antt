@@ -1,7 +1,8 @@
 -- The first test that a file fails gives its damage, and a file has no damage exactly if it passes all tests.
--- Used by: decode, mw_file_text, mw_file, mwshow.
-use Rattle.std.proofs.Common.{◌≡◌, ℕ, Bool, true, false, cond, Option, Some, None, List, length, slice_get, drop, ◌<◌, ◌≤◌, refl, sym, ap, ◌∙◌, subst, inl, inr, arith, zero-add}
-use Rattle.std.proofs.lemmas.Bool.{cases_Bool, cond-true, cond-false, and_parts, and_from, leb-true, le-leb}
+-- Used by: decode, second_at, sizes, mw_file_text, mw_file, mwshow.
+use Rattle.std.proofs.Common.{◌≡◌, ℕ, Bool, true, false, cond, Option, Some, None, List, length, slice_get, drop, ◌<◌, ◌≤◌, refl, sym, ap, ◌∙◌, subst, inl, inr, arith, zero-add, ◌+◌}
+use Rattle.std.proofs.lemmas.Bool.{cases_Bool, cond-true, cond-false, and_parts, and_from, leb-true, le-leb, lt-leb}
+use Rattle.std.proofs.lemmas.List.{length-drop}
 use Rattle.std.proofs.lemmas.List.FromFn.{length-map-range_with_len, get_or-map-range_with_len}
 use Rattle.std.proofs.lemmas.Option.{slice_get-get_or}
 use Rattle.mw_words.specs.declared.limits.TheConstants.{MAX_WORDS}
@@ -180,6 +181,21 @@ begins_within at ok =
     let a = and_parts _ _ ok in
     (leb-true _ _ a.0, leb-true _ _ a.1)
 
+-- the same the other way round
+pub may_begin_at : (at : ℕ) → HEAD_SIZE ≤ at → at ≤ MAX_FIRST → may_begin at ≡ true
+may_begin_at at from to = and_from _ _ (le-leb _ _ from) (le-leb _ _ to)
+
+-- a head is there from an offset on, if there are enough bytes
+module _ (image : List ℕ) (at : ℕ) where
+  pub head_at : at + HEAD_SIZE ≤ length image → has_head (drop at image) ≡ true
+  head_at long = le-leb _ _ (omega (arith, length-drop at image, long))
+
+  pub no_head_at : length image < at + HEAD_SIZE → has_head (drop at image) ≡ false
+  no_head_at short = lt-leb _ _ (omega (arith, length-drop at image, short))
+
+  pub within_image : has_head (drop at image) ≡ true → at ≤ length image
+  within_image head = omega (arith, length-drop at image, leb-true _ _ head)
+
 -- the layout may have the sizes that its head tells
 pub record AreSizes (layout : Layout) (part : List ℕ) : Type 0 where
   pub some_word : 1 ≤ words_told part
@@ -202,6 +218,12 @@ sizes_are layout part ok =
 pub are_sizes : (layout : Layout) (part : List ℕ) → AreSizes layout part → has_sizes layout part ≡ true
 are_sizes layout part s =
     and_from _ _ (and_from _ _ (and_from _ _ (le-leb _ _ s.some_word) (le-leb _ _ s.words_fit)) (le-leb _ _ s.some_place)) (le-leb _ _ s.places_fit)
+
+pub not_sizes : (layout : Layout) (part : List ℕ) → (AreSizes layout part → ⊥) → has_sizes layout part ≡ false
+not_sizes layout part none = elim (cases_Bool (has_sizes layout part)) [
+  | inl sizes ↦ absurd (none (sizes_are layout part sizes))
+  | inr other ↦ other
+]
 
 -- the word at an address is among the words, at that place
 pub word_in : (layout : Layout) (part : List ℕ) (addr : ℕ) → addr < words_told part → slice_get (told_words layout part) addr ≡ Some (told_at layout part addr)

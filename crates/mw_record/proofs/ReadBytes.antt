@@ -1,5 +1,5 @@
 -- What is read as a number, an entry or a record depends only on the bytes that it covers.
--- Used by: src/records.rt, mw_file, mw_world_file.
+-- Used by: src/records.rt, read_number, sizes, mw_file, mw_world_file.
 use Rattle.std.proofs.Common.{◌≡◌, ℕ, zero, suc, ◌+◌, ◌*◌, ◌^◌, ◌-◌, ◌<◌, ◌≤◌, List, ◌++◌, length, get_or, Some, None, true, false, ◌==◌, if◌then◌else◌, slice_index, refl, sym, ap, ◌∙◌, arith, add-zero, zero-add, take, drop, inl, inr}
 use Rattle.std.proofs.lemmas.List.{get_or-take, get_or-drop, get_or-append-add, get_or_append_left, length-append, length-take-le, length-drop}
 use Rattle.std.proofs.lemmas.Bool.{eq-eqb, ne_eqb, cases_eq}
@@ -53,6 +53,13 @@ pair_at image at (suc n) zero d lt =
 pair_at image at (suc n) (suc i) d lt =
     let e : (at + 16) + 16 * i ≡ at + 16 * suc i = omega arith in
     pair_at image (at + 16) n i d (omega arith) ∙ ap (λ a. (number_at image a 8, number_at image (a + 8) 8)) e
+
+-- a number is read from the bytes that it covers alone
+pub number_in_part : (xs : List ℕ) (at m n : ℕ) → n ≤ m → little_from 0 n (take m (drop at xs)) ≡ number_at xs at n
+unfolding number_at
+number_in_part xs at m n fits = little_same n 0 at (take m (drop at xs)) xs (λ k lt.
+    let l : 0 + k < m = omega (arith, fits, lt) in
+    get_or-take m (drop at xs) (0 + k) 0 l ∙ get_or-drop at xs (0 + k) 0 ∙ ap (λ i. get_or xs (at + i) 0) (zero-add k))
 
 -- the entries in a part of the bytes are those at the part's offset
 pub pairs_in_part : (xs : List ℕ) (at m n : ℕ) → 16 * n ≤ m → pairs_at (take m (drop at xs)) 0 n ≡ pairs_at xs at n

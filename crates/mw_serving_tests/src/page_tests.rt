@@ -1,6 +1,7 @@
 //! Tests what a server shows, but for what a request to one brings about: scripts/http_parts has that.
 use crate::checks::{MEMORY, holds};
-use crate::http_peers::{HandClock, OneFile};
+use crate::hand_clock::HandClock;
+use crate::http_peers::OneFile;
 use mw_http::{ContentType, Page, Pages, Route, Status};
 use mw_metrics::{CloseReason, FilePlace, Meters, ServerCounters, TenantCounters, TenantMetrics};
 use mw_report::TenantFigures;
@@ -76,7 +77,7 @@ fn is_bare(page: &Page, status: Status, kind: ContentType) -> bool {
 
 #[test]
 fn no_bytes_and_no_memory_are_answered(rt: HostRuntime) {
-    let clock = HandClock::new(rt.alloc());
+    let clock = HandClock::new(rt.alloc(), false);
     for (number, (file, status, kind)) in COPIES.iter().enumerate() {
         let page = page_of_file(&clock, *file).expect(&rt, MEMORY);
         holds(&rt, "a row", number, is_bare(&page, *status, *kind));
@@ -218,7 +219,7 @@ fn shows(pages: &mut OnePages<'_>, clock: &HandClock, seconds: u64, part: &[u8])
 /// Thirty changes in 15 seconds, and then none.
 #[test]
 fn curves_show_what_was_counted(rt: HostRuntime) {
-    let clock = HandClock::new(rt.alloc());
+    let clock = HandClock::new(rt.alloc(), false);
     let meters = Meters::new(&clock);
     let mut pages = pages_of(&clock, &meters, Ok(b"")).expect(&rt, MEMORY);
     record_changes(&meters);
@@ -251,7 +252,7 @@ fn turn(server: &ServerCounters, begin: u64, end: u64) {
 /// Two of four sessions serve, and then three. They end, which the page shows once they are longer ago than it tells.
 #[test]
 fn a_limit_is_near_from_three_quarters_on(rt: HostRuntime) {
-    let clock = HandClock::new(rt.alloc());
+    let clock = HandClock::new(rt.alloc(), false);
     let meters = Meters::new(&clock);
     let mut pages = pages_of(&clock, &meters, Ok(b"")).expect(&rt, MEMORY);
     for (begin, end, seconds, part) in &TURNS {

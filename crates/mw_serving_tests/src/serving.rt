@@ -1,6 +1,6 @@
 //! A server for tests, over the words of one tenant.
 //!
-//! Used by: `crowd_tests`.
+//! Used by: `client_tests`, `crowd_tests`.
 ghost use Rattle.std.specs.Prelude.{◌<◌, List};
 ghost use Rattle.mw_session.specs.Talk.{Call};
 

@@ -1,6 +1,6 @@
 //! Tests sessions: what a client says and is told, also cut into pieces, with long lines, and with a peer that
 //! fails.
-use crate::checks::holds;
+use crate::checks::{MEMORY, holds};
 use crate::guests::{ALL, Guest, Heard, Script};
 use crate::notebook::Notebook;
 use mw_connections::Connection;
@@ -180,8 +180,8 @@ fn text_of(alloc: Global, text: &Text) -> Result<String, AllocError> {
 #[test]
 fn long_texts(rt: HostRuntime) {
     for (name, says, pieces, told) in &LONG_TEXTS {
-        let says = text_of(rt.alloc(), says).expect(&rt, "memory");
-        let told = text_of(rt.alloc(), told).expect(&rt, "memory");
+        let says = text_of(rt.alloc(), says).expect(&rt, MEMORY);
+        let told = text_of(rt.alloc(), told).expect(&rt, MEMORY);
         let [first, second] = *pieces;
         let (says, told) = (says.as_bytes(), told.as_bytes());
         let right = is_told(&rt, 2, says, first, told) && is_told(&rt, 2, says, second, told);

@@ -1,6 +1,6 @@
 -- What the reader, the feed and `read_line` answer gives the facts that a session's contracts need.
 -- Used by: step_at, next_step, Session::answer, Session::answer_all, Session::run.
-use Rattle.std.proofs.Common.{◌≡◌, ◌==◌, ℕ, zero, suc, false, ◌<◌, length, cond, List, [], ◌∷◌, take, Option, None, Result, Ok, Err, OnOk, slice_get, refl, sym, ap, ◌∙◌, arith, subst}
+use Rattle.std.proofs.Common.{◌≡◌, ◌==◌, ℕ, zero, suc, true, false, ◌<◌, length, cond, List, [], ◌∷◌, take, Option, None, Result, Ok, Err, OnOk, slice_get, refl, sym, ap, ◌∙◌, arith, subst}
 use Rattle.std.specs.Result.{is_err}
 use Rattle.mw_session.specs.StreamRecords.{ReadRecord, WriteRecord, reads_after, with_end, with_read, with_read_fault}
 use Rattle.arrayvec.specs.ArrayVec.{ArrayVec}
@@ -12,7 +12,7 @@ use Rattle.mw_frame.specs.Stream.{Stream, behind, lines_of}
 use Rattle.mw_session.specs.declared.steps.Bound.{Bound}
 use Rattle.mw_session.specs.declared.steps.Step.{Step}
 use Rattle.mw_session.specs.declared.session.Ended.{Ended}
-use Rattle.mw_session.specs.declared.session.Ended.TheVariants.{PeerEnd}
+use Rattle.mw_session.specs.declared.session.Ended.TheVariants.{PeerEnd, ReadFault, Memory}
 use Rattle.mw_session.specs.Talk.{Call, Said, step_at}
 use Rattle.mw_session.specs.Lines.{Hears, Says}
 use Rattle.mw_session.specs.StepOfLine.{Judges}
@@ -35,6 +35,18 @@ module _ (a b : WriteRecord) (n m : ℕ) where
       → Talked a b Asked n m ls bound (On new) []
   turned_ok Asked ls bound new (Ok x) h t = t
   turned_ok Asked ls bound new (Err e) h t = absurd (cc h)
+
+-- an error owes nothing of what is promised of Ok
+pub not_ok : {T E : Type 0} (r : Result T E) (P : Type 0) → is_err r ≡ true → OnOk r P
+not_ok (Ok x) P failed = absurd (cc failed)
+not_ok (Err e) P failed = tt
+
+-- a session that ends for memory or a read that failed found no end of the stream
+pub no_end_of_memory : {P : Type 0} → Memory ≡ PeerEnd → P
+no_end_of_memory is = absurd (cc is)
+
+pub no_end_of_fault : {P : Type 0} → ReadFault ≡ PeerEnd → P
+no_end_of_fault is = absurd (cc is)
 
 -- the end of the stream is found by a read, and not in the lines
 pub no_peer_end : (a b : WriteRecord) (n m : ℕ) (Asked : List Call → Type 0) (ls : List Line) (bound new : Bound) (ended : Ended) → ended ≡ PeerEnd → Turned a b Asked n m ls bound new (Err ended) → ⊥

@@ -1,6 +1,6 @@
 -- Two writes (or two reads), one after the other, are recorded as the joined bytes. Used by: write_counted, mw_http.
 use Rattle.std.proofs.Common.{◌≡◌, ℕ, ◌+◌, ◌-◌, ◌^◌, ◌≤◌, ◌<◌, ◌++◌, ◌==◌, min, true, false, cond, List, [], length, take, drop, Result, Ok, Err, refl, sym, ap, ◌∙◌, arith, append_assoc, append-nil, length-append, subst}
-use Rattle.std.proofs.lemmas.List.{length-take-le, take-append-drop, take_rest}
+use Rattle.std.proofs.lemmas.List.{length-take-le, nil_from_length, take-append-drop, take_rest}
 use Rattle.std.specs.Result.{result_unwrap_or}
 use Rattle.std.specs.Io.{WritesAtMost}
 use Rattle.mw_session.specs.StreamRecords.{ReadRecord, WriteRecord, with_read, with_write_fault, with_written, writes_after}
@@ -63,6 +63,9 @@ sending_more a b c n m k text rest taken h fits wrote count = record {
 -- nothing is left
 pub sending_ends : (a b : WriteRecord) (n m : ℕ) (text : List ℕ) → Sending a b n m text [] → Sent a b n m text
 sending_ends a b n m text h = subst (λ l. Sent a b n m l) (sym (h.whole ∙ append-nil h.sent)) h.is_sent
+
+pub sending_done : (a b : WriteRecord) (n m : ℕ) (text rest : List ℕ) → Sending a b n m text rest → length rest ≡ 0 → Sent a b n m text
+sending_done a b n m text rest h none = sending_ends a b n m text (subst (λ (l : List ℕ). Sending a b n m text l) (nil_from_length rest none) h)
 
 -- the last write took nothing of what is left
 pub sending_fails : (a b c : WriteRecord) (n m : ℕ) (text rest : List ℕ) → Sending a b n m text rest → 0 < length rest → c ≡ with_write_fault b → Writes a c n m text (Err (WriteFault m))

@@ -1,7 +1,9 @@
-//! Tests the table of shared words, and two threads that drive requests on one. The tests are apart from the crates
-//! that they test, so that those are proved once.
+//! Tests the table of shared words, two threads that drive requests on one, and the lock and bells of threads that wait.
+//! The tests are apart from the crates that they test, so that those are proved once.
 #![tactic(auto)]
 
+#[cfg(test)]
+mod lock_tests;
 #[cfg(test)]
 mod making_tests;
 #[cfg(test)]

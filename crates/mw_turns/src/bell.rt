@@ -1,6 +1,6 @@
 //! A bell, by which one thread wakes another.
 //!
-//! Used by: mw_engine. No contract says that a sleep ends: `tests` try it.
+//! Used by: mw_engine, mw_table_tests. No contract says that a sleep ends: mw_table_tests tries it.
 use crate::queue::low_half;
 use std::sync::Wait;
 use std::sync::atomic::{AtomicU64, Ordering};

@@ -1,6 +1,6 @@
 //! The lock.
 //!
-//! Used by: mw_engine. A change here changes how long a copy of a file waits there, and no contract.
+//! Used by: mw_engine; mw_table_tests. A change here changes how long a copy of a file waits, and no contract.
 use crate::queue::{Queue, SleepEnd, Ticket};
 use std::hint::spin_loop;
 use std::sync::{Mutex, MutexGuard, Wait};
@@ -112,15 +112,14 @@ impl<T> FairLock<T> {
 }
 
 /// What tests wait for.
-#[cfg(test)]
 impl<T> FairLock<T> {
     /// How many threads queue.
-    pub(crate) fn queued(&self) -> u64 {
+    pub fn queued(&self) -> u64 {
         self.queue.len()
     }
 
     /// Whether the first of the queue has waited for long.
-    pub(crate) fn is_starving(&self) -> bool {
+    pub fn is_starving(&self) -> bool {
         self.queue.is_starving()
     }
 }

@@ -9,20 +9,18 @@
 //! that any thread again. So long holds come in the order of the queue, and few short ones wait for a thread to wake.
 //!
 //! The value is in the `Mutex`, and what is known of it rests on that lock alone. No contract speaks of the queue,
-//! says that a wait ends, or says who is next: `tests` try the last two. A mistake in the queue can make a wait long,
+//! says that a wait ends, or says who is next: mw_table_tests tries the last two. A mistake in the queue can make a wait long,
 //! and no more.
 //!
 //! A [`Bell`] (an event count) wakes a thread that waits outside the queue.
 //!
-//! Used by: mw_engine, for the files of the tenants. Requests wait by a bell; copies of a file and `Engine::file`
+//! Used by: mw_engine, for the files of the tenants, and mw_table_tests. Requests wait by a bell; copies of a file and `Engine::file`
 //! queue.
 #![tactic(auto)]
 
 mod bell;
 mod fair_lock;
 mod queue;
-#[cfg(test)]
-mod tests;
 
 pub use bell::{Bell, Heard};
 pub use fair_lock::{FairGuard, FairLock};

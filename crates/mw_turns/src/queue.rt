@@ -70,7 +70,6 @@ impl Queue {
     }
 
     /// How many threads are in the queue.
-    #[cfg(test)]
     pub(crate) fn len(&self) -> u64 {
         let first = self.first.load(Ordering::SeqCst);
         self.next.load(Ordering::SeqCst).saturating_sub(first)

@@ -1,5 +1,5 @@
 //! Tests how the pieces that a connection brings are cut into lines.
-use crate::checks::holds;
+use crate::checks::{MEMORY, holds};
 use mw_frame::*;
 use mw_words::MAX_LINE;
 use std::process::Abort;
@@ -100,14 +100,14 @@ fn is_next(feed: &mut Feed, step: Step) -> bool {
 /// A feed gets this piece, or its next line is this one.
 fn take<R: Abort>(rt: &R, row: &str, at: usize, feed: &mut Feed, step: Step) {
     match step {
-        Step::Piece(piece) => feed.feed(piece).expect(rt, "memory"),
+        Step::Piece(piece) => feed.feed(piece).expect(rt, MEMORY),
         _ => holds(rt, row, at, is_next(feed, step)),
     }
 }
 
 /// A new feed gets these pieces, and gives the lines between them.
 fn are_cut<R: Abort + AllocGlobal>(rt: &R, row: &str, steps: &[Step]) {
-    let mut feed = Feed::new(rt.alloc()).expect(rt, "memory");
+    let mut feed = Feed::new(rt.alloc()).expect(rt, MEMORY);
     for (at, step) in steps.iter().enumerate() {
         take(rt, row, at, &mut feed, *step);
     }

@@ -1,7 +1,8 @@
 //! Tests how lines are read, and how replies are written.
 use crate::checks::holds;
+use crate::words_tests::entries_of;
 use mw_line::*;
-use mw_words::{Entries, Entry, Job, MAX_LINE, Name, Reply};
+use mw_words::{Job, MAX_LINE, Name, Reply};
 use std::process::Abort;
 
 /// What a line asks for.
@@ -16,20 +17,6 @@ enum Asked {
     Cas(&'static [(u16, u64)]),
 }
 
-/// Makes a change of words that have the value 0, with these addresses and new values.
-fn change(parts: &[(u16, u64)]) -> Option<Request> {
-    let mut entries = Entries::new();
-    for (addr, new) in parts {
-        let entry = Entry {
-            addr: *addr,
-            expected: 0,
-            new: *new,
-        };
-        entries.try_push(entry).ok()?;
-    }
-    Some(Request::Job(Job::Cas(entries)))
-}
-
 /// Makes a request. Gives None if it has too many entries or too long a name.
 fn request_of(asked: Asked) -> Option<Request> {
     match asked {
@@ -38,7 +25,7 @@ fn request_of(asked: Asked) -> Option<Request> {
         Asked::Report => Some(Request::Report),
         Asked::Quit => Some(Request::Quit),
         Asked::Get(addr) => Some(Request::Job(Job::Get(addr))),
-        Asked::Cas(parts) => change(parts),
+        Asked::Cas(parts) => Some(Request::Job(Job::Cas(entries_of(parts)?))),
     }
 }
 

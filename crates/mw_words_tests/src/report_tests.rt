@@ -23,44 +23,45 @@ fn figures(tenant: &Tenant) -> TenantFigures
     }
 }
 
-/// Tenants, how many slots are free, and the report of one tenant.
-static ROWS: [(Tenant, u16, &str); 3] = [
+/// Tenants, one or two, how many slots are free, and the report of these.
+static ROWS: [(&[Tenant], u16, &str); 4] = [
     (
-        ("t", 2, 1, 2, 0, true),
+        &[("t", 2, 1, 2, 0, true)],
         256,
         "t                   2  1  2  0 up\nfree 256\n",
     ),
     (
-        ("abcdefghijklmno-", 4096, 64, 64, 63, false),
+        &[("abcdefghijklmno-", 4096, 64, 64, 63, false)],
         0,
         "abcdefghijklmno- 4096 64 64 63 down\nfree 0\n",
     ),
     (
-        ("t", 2, 1, 0, 0, false),
+        &[("t", 2, 1, 0, 0, false)],
         255,
         "t                   2  1  0  0 down\nfree 255\n",
     ),
+    (
+        &[("t", 2, 1, 2, 0, true), ("u", 4096, 32, 64, 0, true)],
+        33,
+        "t                   2  1  2  0 up\nu                4096 32 64  0 up\nfree 33\n",
+    ),
 ];
 
-/// Tells whether this is the report of one tenant.
+/// Tells whether this is the report of these tenants.
 #[tactic(auto, using(crate::proofs::Within::within))]
-fn is_told(tenant: &Tenant, free: u16, wanted: &str) -> bool {
-    report_text(&[figures(tenant)], free.min(MAX_POOL)).as_slice() == wanted.as_bytes()
+fn is_told(tenants: &[Tenant], free: u16, wanted: &str) -> bool {
+    let free = free.min(MAX_POOL);
+    let text = match tenants {
+        [only] => report_text(&[figures(only)], free),
+        [first, second] => report_text(&[figures(first), figures(second)], free),
+        _ => return false,
+    };
+    text.as_slice() == wanted.as_bytes()
 }
 
 #[test]
-fn reports_of_one_tenant(rt: HostRuntime) {
-    for (tenant, free, wanted) in &ROWS {
-        holds(&rt, wanted, 1, is_told(tenant, *free, wanted));
+fn reports(rt: HostRuntime) {
+    for (tenants, free, wanted) in &ROWS {
+        holds(&rt, wanted, tenants.len(), is_told(tenants, *free, wanted));
     }
-}
-
-#[test]
-#[tactic(auto, using(crate::proofs::Within::within))]
-fn report_two_tenants(rt: HostRuntime) {
-    let first = figures(&("t", 2, 1, 2, 0, true));
-    let second = figures(&("u", 4096, 32, 64, 0, true));
-    let text = report_text(&[first, second], 33);
-    let wanted = "t                   2  1  2  0 up\nu                4096 32 64  0 up\nfree 33\n";
-    holds(&rt, "a report", 2, text.as_slice() == wanted.as_bytes());
 }

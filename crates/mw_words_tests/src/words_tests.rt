@@ -2,18 +2,34 @@
 use crate::checks::holds;
 use mw_words::*;
 
-fn entry(addr: u16, new: u64) -> Entry {
-    Entry {
-        addr,
-        expected: 0,
-        new,
+/// Entries by address and new value, of words that have the value 0; and whether they are a change of four words.
+static CHANGES: [(&[(u16, u64)], bool); 6] = [
+    (&[], false),
+    (&[(0, 1)], true),
+    (&[(0, MAX_VALUE), (3, 1)], true),
+    (&[(0, MAX_VALUE + 1)], false),
+    (&[(4, 1)], false),
+    (&[(2, 1), (2, 1)], false),
+];
+
+/// Makes entries of words that have the value 0, with these addresses and new values.
+pub(crate) fn entries_of(parts: &[(u16, u64)]) -> Option<Entries> {
+    let mut entries = Entries::new();
+    for (addr, new) in parts {
+        let entry = Entry {
+            addr: *addr,
+            expected: 0,
+            new: *new,
+        };
+        entries.try_push(entry).ok()?;
     }
+    Some(entries)
 }
 
 /// Tells whether these entries are a change of four words, or none, as is wanted, and a copy of them is the
 /// same.
-fn is_so(entries: &[Entry], wanted: bool) -> bool {
-    let Ok(entries) = Entries::try_from(entries) else {
+fn is_so(parts: &[(u16, u64)], wanted: bool) -> bool {
+    let Some(entries) = entries_of(parts) else {
         return false;
     };
     let is_so = is_change(&entries, 4) == wanted && copy_of(&entries) == entries;
@@ -47,16 +63,8 @@ fn is_right(bytes: &[u8], wanted: bool) -> bool {
 
 #[test]
 fn changes_that_are_well_formed_and_not(rt: HostRuntime) {
-    let cases: [(&[Entry], bool); 6] = [
-        (&[], false),
-        (&[entry(0, 1)], true),
-        (&[entry(0, MAX_VALUE), entry(3, 1)], true),
-        (&[entry(0, MAX_VALUE + 1)], false),
-        (&[entry(4, 1)], false),
-        (&[entry(2, 1), entry(2, 1)], false),
-    ];
-    for (at, (entries, wanted)) in cases.iter().enumerate() {
-        holds(&rt, "a change", at, is_so(entries, *wanted));
+    for (at, (parts, wanted)) in CHANGES.iter().enumerate() {
+        holds(&rt, "a change", at, is_so(parts, *wanted));
     }
     let (last, past) = (Job::Get(3), Job::Get(4).copy());
     let is_right = last.is_well_formed(4) && !past.is_well_formed(4);

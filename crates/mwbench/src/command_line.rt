@@ -4,7 +4,7 @@
 use arrayvec::ArrayVec;
 use clap::ArgMatches;
 use clap::builder::ValueParser;
-use mw_command_line::{Argument, CommandLine, FLAG, TEXT};
+use mw_main::{Argument, CommandLine, FLAG, TEXT};
 use mw_words::{MAX_ENTRIES, Name};
 use std::alloc::{AllocError, Global};
 

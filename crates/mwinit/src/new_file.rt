@@ -12,7 +12,7 @@ use crate::dumped_file::{file_of_dump, file_of_zeros};
 use clap::ArgMatches;
 use clap::builder::ValueParser;
 use clap::error::ErrorKind;
-use mw_command_line::{Argument, CommandLine, PLACE, TEXT};
+use mw_main::{Argument, CommandLine, PLACE, TEXT};
 use mw_record::{FIRST_PLACES, size};
 use mw_words::MAX_WORDS;
 use std::alloc::{AllocError, Global};

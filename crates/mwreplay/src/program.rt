@@ -12,7 +12,7 @@ ghost use Rattle.mwreplay.specs.Replayed.{MayPrint, PrintsAll, Replays, fault_at
 
 use crate::player::{PlayFault, Player};
 use crate::reasons::Reason;
-use mw_command_line::{Argument, AskedFile, CommandLine, FILE, FLAG, FileFault, open_plain};
+use mw_main::{Argument, AskedFile, CommandLine, FILE, FLAG, FileFault, open_plain};
 use mw_schedule::{Schedule, ScheduleFault, ScheduleLine, broken_rule, read_schedule};
 use std::alloc::{AllocError, Global};
 use std::fs::File;

@@ -5,7 +5,7 @@
 ghost use Rattle.std.specs.Prelude.{◌≡◌, ◌≤◌};
 ghost use Rattle.mwshow.specs.Statuses.{status_of};
 
-use mw_command_line::{FileFault, open_plain};
+use mw_main::{FileFault, open_plain};
 use mw_record::MAX_FILE;
 use std::alloc::{AllocError, Global};
 use std::fs::{File, TryLockError};

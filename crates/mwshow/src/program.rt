@@ -7,7 +7,7 @@ ghost use Rattle.mwshow.specs.Text.{IsShown};
 
 use crate::input::{ShowFault, read_file};
 use crate::lines::show;
-use mw_command_line::{Argument, AskedFile, CommandLine, FILE, FLAG};
+use mw_main::{Argument, AskedFile, CommandLine, FILE, FLAG};
 use std::fs::File;
 use std::io::Write;
 use std::rt::Files;

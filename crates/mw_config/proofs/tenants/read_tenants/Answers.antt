@@ -2,6 +2,7 @@
 use Rattle.std.proofs.Common.{◌≡◌, List, sum_by, sym, ap, ◌∙◌, arith}
 use Rattle.mw_config.specs.declared.lines.TenantLine.{TenantLine}
 use Rattle.mw_config.proofs.FirstLines.{file_of, at_least_one, permitted}
+use Rattle.std.proofs.lemmas.Grind.{common_steps}
 use Rattle.mw_config.proofs.tenants.read_tenants.Goals as goal
 
 pub returns-clause-answers : goal.returns-clause-answers
@@ -13,3 +14,6 @@ returns-clause-answers c =
 
 pub returns-clause-limits : goal.returns-clause-limits
 returns-clause-limits c = permitted c.args.pool c.in_ok-tenants.tenants.items c.args.text.now (returns-clause-answers c)
+
+pub returns-then-quota_sum-pool-clause-answers : goal.returns-then-quota_sum-pool-clause-answers
+returns-then-quota_sum-pool-clause-answers c = grind (arith, common_steps)

@@ -1,10 +1,12 @@
 -- Goals of `read_front` (src/opening.rt).
-use Rattle.std.proofs.Common.{◌≡◌, ◌+◌, ◌-◌, ap, take, length, min, arith, sym, ◌∙◌}
+use Rattle.std.proofs.Common.{◌≡◌, ◌+◌, ◌-◌, ap, take, length, min, is_ok, arith, sym, ◌∙◌}
 use Rattle.std.proofs.lemmas.Bool.{eqb-false}
 use Rattle.mw_disk.proofs.RunLaws.{touched_none, touched_quiet}
 use Rattle.mw_file.specs.RollForward.{Nowhere}
+use Rattle.mw_file.proofs.OpeningCallLaws.{front_made}
 use Rattle.mw_file.proofs.Ran.{ran_one}
 use Rattle.mw_file.proofs.RollLoop.{on_ok}
+use Rattle.std.proofs.lemmas.Grind.{common_steps}
 use Rattle.mw_file.proofs.opening.read_front.Goals as goal
 
 pub returns-then-is_empty-clause-touched : goal.returns-then-is_empty-clause-touched
@@ -26,3 +28,10 @@ returns-clause-read g c =
     let n = length c.args.bytes.now in
     let all : 0 + n - 0 ≡ n = omega arith in
     on_ok _ _ c.read_at.result (λ read honest long. (read honest).1 ∙ ap (λ k. take k (g.D.Disk.facts c.args.disk.now).reads) all) c.read_at.ensures.read
+
+pub returns-clause-made : goal.returns-clause-made
+returns-clause-made g c =
+    front_made g.D.Disk.made (length c.args.bytes.now) (is_ok c.read_at.result) c.args.disk.now c.read_at.new.self (sym c.is_empty.ensures ∙ c.if-is_empty.false) c.read_at.ensures.made
+
+pub returns-then-is_empty-clause-read : goal.returns-then-is_empty-clause-read
+returns-then-is_empty-clause-read c = grind (arith, common_steps)

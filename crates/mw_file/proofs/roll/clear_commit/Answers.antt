@@ -1,6 +1,8 @@
 -- Goals of `clear_commit` (src/roll.rt).
-use Rattle.std.proofs.Common.{◌≤◌, ap, arith, length}
+use Rattle.std.proofs.Common.{◌≤◌, ap, arith, is_ok, length}
+use Rattle.mw_disk.proofs.MakesLaws.{makes_one}
 use Rattle.mw_disk.proofs.RunLaws.{touched_write}
+use Rattle.mw_file.specs.DeviceCalls.{clear_call}
 use Rattle.mw_file.specs.RollForward.{AtCommit}
 use Rattle.mw_file.proofs.Ran.{ran_one}
 use Rattle.mw_file.proofs.RollLoop.{on_ok, cleared}
@@ -27,3 +29,6 @@ returns-in-Sealed-clause-shut g c =
     on_ok _ _ c.write_at.result (λ written honest fits sealed.
     let at : c.args.commit ≤ length old = omega (arith, fits.reads) in
     cleared old new c.args.commit at (written honest at)) c.write_at.ensures.written
+
+pub returns-in-Sealed-clause-made : goal.returns-in-Sealed-clause-made
+returns-in-Sealed-clause-made g c = rw c.in-Sealed.is (makes_one g.D.Disk.made (clear_call c.args.commit) (is_ok c.write_at.result) c.args.disk.now c.write_at.new.self c.write_at.ensures.made)

@@ -7,8 +7,13 @@ use Rattle.mw_disk.specs.DeviceCalls.{Sync, Makes}
 use Rattle.mw_disk.proofs.Remembered.{on_err}
 use Rattle.mw_disk.proofs.MakesLaws.{makes_after, makes_cut}
 use Rattle.mw_file.specs.DeviceCalls.{home_calls, clear_calls}
-use Rattle.mw_file.proofs.Ran.{goes_on, stops}
+use Rattle.mw_file.proofs.Ran.{goes_on, stops, ran_err}
 use Rattle.mw_file.proofs.roll.roll_forward.Goals as goal
+
+pub returns-in_err-write_homes-clause-calls : goal.returns-in_err-write_homes-clause-calls
+returns-in_err-write_homes-clause-calls g c =
+    let states = c.args.states.now in
+    ran_err (home_writes states + 1) (roll_calls states) _ _ _ (omega arith) c.in_err-write_homes.ensures.calls c.from_residual.ensures.0
 
 pub returns-in_err-clear_commits-clause-calls : goal.returns-in_err-clear_commits-clause-calls
 returns-in_err-clear_commits-clause-calls g c =

@@ -10,3 +10,9 @@ unfolding word_of
 returns-in-REPORT c =
     let e : c.args.line.now ≡ codes "REPORT" = text_from_reads c.args.line.now (codes "REPORT") (omega arith) (omega arith, (omega arith, (omega arith, (omega arith, (omega arith, (omega arith, tt)))))) in
     rw e (refl, refl)
+
+pub returns-in-ADMIN : goal.returns-in-ADMIN
+unfolding word_of
+returns-in-ADMIN c =
+    let e : c.args.line.now ≡ codes "ADMIN" = text_from_reads c.args.line.now (codes "ADMIN") (omega arith) (omega arith, (omega arith, (omega arith, (omega arith, (omega arith, tt))))) in
+    rw e (refl, refl)

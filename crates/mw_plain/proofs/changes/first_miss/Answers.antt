@@ -20,3 +20,9 @@ loop-entry-preserved c = (
   grind (arith, common_steps),
   one_more_fits _ _ _ _ c.loop-entry-test.true c.loop-entry.invariant.2 c.if-words-entry.false,
 )
+
+pub bounds-words-entry : goal.bounds-words-entry
+bounds-words-entry c = grind (arith, common_steps)
+
+pub returns : goal.returns
+returns c = grind (arith, common_steps)

@@ -1,11 +1,12 @@
 -- Goals of `decode` (src/images.rt).
-use Rattle.std.proofs.Common.{◌≡◌, ℕ, ◌-◌, List, None, true, length, take, drop, sym, ap, ◌∙◌, refl}
-use Rattle.std.proofs.lemmas.Bool.{le-leb, lt-leb, eq-eqb, ne_eqb}
+use Rattle.std.proofs.Common.{◌≡◌, ℕ, ◌-◌, List, None, true, length, take, drop, sym, ap, ◌∙◌, ◌≤◌, subst, refl}
+use Rattle.std.proofs.lemmas.Bool.{le-leb, lt-leb, leb-true, eq-eqb, ne_eqb}
 use Rattle.std.proofs.lemmas.List.{take_rest}
 use Rattle.mw_record.specs.declared.layout.Layout.TheVariants.{First, Second}
+use Rattle.mw_record.specs.declared.layout.TheConstants.{HEAD_SIZE}
 use Rattle.mw_record.specs.LayoutBytes.{has_head, has_mark, words_told, places_told}
 use Rattle.mw_record.specs.Damages.{damage_of, second_tests, first_fault}
-use Rattle.mw_record.proofs.Faults.{part_fault, no_head, no_mark, first_damage, second_damage}
+use Rattle.mw_record.proofs.Faults.{part_fault, no_head, no_mark, first_damage, second_damage, within_image}
 use Rattle.mw_record.proofs.DecodedFiles.{handed_on, switched_damage, found_first, found_second}
 use Rattle.mw_record.proofs.images.decode.Goals as goal
 use Rattle.mw_record.proofs.images.decode.Goals.{Else-not-starts_with}
@@ -83,3 +84,13 @@ returns c =
     let f = c.in_ok-at.ensures in
     let rest : take (length bytes - at) (drop at bytes) ≡ drop at bytes = take_rest bytes at in
     (switched_damage bytes (head e) (mark e) at (eq-eqb _ _ c.if-bytes.false) f.0 f.1 f.2 f.3 ∙ ap (λ xs. part_fault Second xs) (sym rest) ∙ c.in_ok-file-2.ensures.0, refl)
+
+-- the second layout is within the bytes, and has a head
+pub slice_bounds-decode_part-count : goal.slice_bounds-decode_part-count
+slice_bounds-decode_part-count c = within_image c.args.bytes.now c.in_ok-at.at c.in_ok-at.ensures.2
+
+pub decode_part-requires-2 : goal.decode_part-requires-2
+decode_part-requires-2 c =
+    let bytes : List ℕ = c.args.bytes.now in
+    let at : ℕ = c.in_ok-at.at in
+    subst (λ (xs : List ℕ). HEAD_SIZE ≤ length xs) (sym (take_rest bytes at)) (leb-true _ _ c.in_ok-at.ensures.2)

@@ -2,6 +2,7 @@
 use Rattle.std.proofs.Common.{List, ℕ, refl, sym, subst, arith}
 use Rattle.mw_schedule.specs.Playable.{IsFree}
 use Rattle.mw_schedule.proofs.Tenants.{none_named}
+use Rattle.std.proofs.lemmas.Grind.{common_steps}
 use Rattle.mw_schedule.proofs.config.read_tenant.Goals as goal
 
 pub returns : goal.returns
@@ -16,3 +17,6 @@ returns c =
       slots = omega arith;
       fresh = refl;
     }
+
+pub returns-in_err-number_within-2 : goal.returns-in_err-number_within-2
+returns-in_err-number_within-2 c = grind (arith, common_steps)

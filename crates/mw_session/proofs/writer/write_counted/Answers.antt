@@ -1,10 +1,11 @@
 -- Goals of `write_counted` (src/writer.rt).
-use Rattle.std.proofs.Common.{◌≡◌, ◌==◌, false, rules, sym, subst, ◌∙◌, length, take, ◌≤◌, refl}
+use Rattle.std.proofs.Common.{◌≡◌, ◌==◌, false, rules, arith, sym, subst, ◌∙◌, length, take, ◌≤◌, refl}
+use Rattle.std.proofs.lemmas.Bool.{eq-eqb, eqb-false, eqb-true}
 use Rattle.mw_session.specs.KnownStreams.{inner_of, reads_of, writes_of}
 use Rattle.mw_session.specs.StreamRecords.{with_written}
 use Rattle.mw_session.proofs.Agreements.{agree_nothing, tied_then}
 use Rattle.mw_session.proofs.CallsMade.{made_nothing, made_then, made_write}
-use Rattle.mw_session.proofs.WrittenTexts.{sending_more, sending_starts, write_fits, write_takes}
+use Rattle.mw_session.proofs.WrittenTexts.{sending_done, sending_fails, sending_more, sending_starts, write_fits, write_takes, write_took_nothing}
 use Rattle.mw_session.proofs.writer.write_counted.Goals as goal
 
 pub loop-rest-init : goal.loop-rest-init
@@ -51,3 +52,18 @@ returns-then-taken-eq0-clause-made g c =
     let after = c.write.new.self in
     made_then T.called c.args.stream.now before after c.loop-rest.invariant.made
     (made_write T.called before after c.loop-rest.rest.now c.write.result c.write.ensures.called c.write.ensures.reads c.write.ensures.writes)
+
+pub returns-then-taken-eq0-clause-writes : goal.returns-then-taken-eq0-clause-writes
+returns-then-taken-eq0-clause-writes g c =
+    let first = writes_of c.args.stream.now in
+    let before = writes_of c.loop-rest.stream in
+    let after = writes_of c.write.new.self in
+    let rest = c.loop-rest.rest.now in
+    let some = eqb-false (length rest) 0 (sym c.loop-rest-test.ensures) in
+    sending_fails first before after c.args.count.now c.loop-rest.count c.args.text.now rest c.loop-rest.invariant.sending (omega (arith, some))
+    (write_took_nothing before after c.write.result rest c.write.ensures.writes (eq-eqb _ _ (sym c.unwrap_or-taken.ensures ∙ c.if-taken-eq0.true)))
+
+pub returns-clause-writes : goal.returns-clause-writes
+returns-clause-writes g c =
+    sending_done (writes_of c.args.stream.now) (writes_of c.loop-rest.stream) c.args.count.now c.loop-rest.count c.args.text.now c.loop-rest.rest.now c.loop-rest.invariant.sending
+    (eqb-true (length c.loop-rest.rest.now) 0 (sym c.loop-rest-test.ensures))

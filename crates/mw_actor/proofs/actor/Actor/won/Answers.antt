@@ -38,3 +38,10 @@ returns-in-PinOther c = λ next. goes_at c.args.self.now Won next c.self.view_is
 -- a slot that was freed is counted off the door
 pub returns-in-FreeSlot : goal.returns-in-FreeSlot
 returns-in-FreeSlot c = λ next. goes_at c.args.self.now Won next c.self.view_is c.in-FreeSlot.is refl
+
+-- the words of a slot are written one after the other
+pub returns-in-FillStatus : goal.returns-in-FillStatus
+returns-in-FillStatus c = λ next. goes_at c.args.self.now Won next c.self.view_is c.in-FillStatus.is refl
+
+pub returns-in-FillCount : goal.returns-in-FillCount
+returns-in-FillCount c = λ next. goes_at c.args.self.now Won next c.self.view_is c.in-FillCount.is refl

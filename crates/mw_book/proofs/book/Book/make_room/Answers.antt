@@ -15,6 +15,7 @@ use Rattle.mw_book.proofs.MovedRecords.{moved_lowest, moved_room, moved_same, ro
 use Rattle.mw_book.proofs.RecordsAhead.{some_vacant}
 use Rattle.mw_book.proofs.RepresentedFiles.{there_held}
 use Rattle.mw_book.proofs.TakenPlaces.{taken_permutes}
+use Rattle.std.proofs.lemmas.Grind.{common_steps}
 use Rattle.mw_book.proofs.book.Book.make_room.Goals as goal
 
 pub cancel-requires : goal.cancel-requires
@@ -163,3 +164,21 @@ returns-in-Some-highest_free-clause-made g c =
     moved_room g.D.Disk.facts old _ place free (omega (arith, used, most, few)) (omega (arith, also, most, few)) (omega arith) used also on c.in-Some-highest_free.ensures.free
     (ap (λ held. is_vacant (states_in held) old.table place) c.in-Some.is ∙ vacant) (ap (λ held. is_vacant (states_in held) old.table free) c.in-Some.is ∙ open_there)
     (record { is_held = sym c.in-Some.is; is_words = refl; is_places = refl; is_place_of = refl; is_table = c.take.ensures; is_failed = refl })
+
+pub returns-then-not-is_prepared_ahead-clause-room : goal.returns-then-not-is_prepared_ahead-clause-room
+returns-then-not-is_prepared_ahead-clause-room c = grind (arith, common_steps)
+
+pub invariant_of-self-in-Some-highest_free-clause-same_words : goal.invariant_of-self-in-Some-highest_free-clause-same_words
+invariant_of-self-in-Some-highest_free-clause-same_words c = grind (arith, common_steps)
+
+pub returns-then-not-is_prepared_ahead-clause-lowest : goal.returns-then-not-is_prepared_ahead-clause-lowest
+returns-then-not-is_prepared_ahead-clause-lowest c = grind (arith, common_steps)
+
+pub returns-then-not-is_prepared_ahead-clause-same : goal.returns-then-not-is_prepared_ahead-clause-same
+returns-then-not-is_prepared_ahead-clause-same c = grind (arith, common_steps)
+
+pub bounds-self-place : goal.bounds-self-place
+bounds-self-place c = grind (arith, common_steps)
+
+pub take-requires-clause-place : goal.take-requires-clause-place
+take-requires-clause-place c = grind (arith, common_steps)

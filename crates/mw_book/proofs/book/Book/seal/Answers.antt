@@ -13,6 +13,7 @@ use Rattle.mw_book.specs.OpenFile.{states_in}
 use Rattle.mw_book.specs.Representation.{place_at, place_in_file, stage_in_file}
 use Rattle.mw_book.proofs.FiledCalls.{refused, busy_in, seal_broken, seal_made}
 use Rattle.mw_book.proofs.RepresentedFiles.{words_held}
+use Rattle.std.proofs.lemmas.Grind.{common_steps}
 use Rattle.mw_book.proofs.book.Book.seal.Goals as goal
 
 pub returns-then-self : goal.returns-then-self
@@ -60,3 +61,6 @@ returns g c entries =
     (subst (λ cs. IsSealedWith (states_of file) (states_of c.seal_with.new.self) (place_in_file old.table (place_at old c.args.slot)) cs) c.as_slice.ensures.value
     (subst (λ n. IsSealedWith (states_of file) (states_of c.seal_with.new.self) n c.as_slice.result.now) c.file_place-number.ensures (went_well c.seal_with.result _ well c.seal_with.ensures.staged)))
     (record { is_held = refl; is_words = refl; is_places = refl; is_place_of = refl; is_table = refl; is_failed = refl })
+
+pub choose-requires-clause-permuted : goal.choose-requires-clause-permuted
+choose-requires-clause-permuted c = grind (arith, common_steps)

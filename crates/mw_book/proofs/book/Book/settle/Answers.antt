@@ -14,6 +14,7 @@ use Rattle.mw_book.specs.Representation.{is_settled, place_at, stage_in_file}
 use Rattle.mw_book.proofs.FiledCalls.{refused, met_fault, settle_broken, settle_made, settle_ahead}
 use Rattle.mw_book.proofs.PlacesAhead.{let_go_ahead, rolled_ahead, settles_within}
 use Rattle.mw_book.proofs.RepresentedFiles.{failed_as, words_held}
+use Rattle.std.proofs.lemmas.Grind.{common_steps}
 use Rattle.mw_book.proofs.book.Book.settle.Goals as goal
 
 pub returns-then-self : goal.returns-then-self
@@ -76,3 +77,12 @@ returns g c entries =
     (subst (λ cs. AreSettledWith (states_of file) (states_of c.settle_all.new.self) cs) c.as_slice.ensures.value (went_well c.settle_all.result _ well c.settle_all.ensures.freed))
     (subst (λ cs. WentWell g.D.Disk.facts (length cs + roll_calls (states_of file)) file c.settle_all.new.self) c.as_slice.ensures.value
     (ended_well g.D.Disk.facts (length c.as_slice.result.now + roll_calls (states_of file)) file c.settle_all.new.self c.settle_all.result well c.settle_all.ensures.ends))
+
+pub bounds-self-place-then-self-place : goal.bounds-self-place-then-self-place
+bounds-self-place-then-self-place c = grind (arith, common_steps)
+
+pub choose-requires-clause-permuted : goal.choose-requires-clause-permuted
+choose-requires-clause-permuted c = grind (arith, common_steps)
+
+pub bounds-settled-place : goal.bounds-settled-place
+bounds-settled-place c = grind (arith, common_steps)

@@ -8,6 +8,7 @@ use Rattle.mw_book.specs.PreparedAhead.{written_place}
 use Rattle.mw_book.proofs.RepresentedFiles.{there_held}
 use Rattle.mw_book.proofs.TakenPlaces.{prepare_taken, taken_permutes}
 use Rattle.mw_book.proofs.WrittenPlaces.{written_last}
+use Rattle.std.proofs.lemmas.Grind.{common_steps}
 use Rattle.mw_book.proofs.book.Book.take_written.Goals as goal
 
 pub take-requires-clause-written : goal.take-requires-clause-written
@@ -50,3 +51,6 @@ returns-clause-taken g c well most_ahead =
     ∙ sym (ap (λ held. written_place (states_in held) old.table c.args.slot c.args.entries.now.items old.places) c.in-Some.is))
     also c.requires.sound (omega (arith, c.ranges.slot.fits)) (omega arith) (omega (arith, used, most, few)) (omega (arith, also, most, few)) (omega arith)
     (record { is_held = refl; is_words = refl; is_places = refl; is_place_of = refl; is_table = c.take.ensures; is_failed = refl })
+
+pub returns-then-written-self-clause-taken : goal.returns-then-written-self-clause-taken
+returns-then-written-self-clause-taken c = grind (arith, common_steps)

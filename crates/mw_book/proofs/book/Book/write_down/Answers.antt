@@ -13,6 +13,7 @@ use Rattle.mw_book.proofs.PlacedAhead.{may_with_own}
 use Rattle.mw_book.proofs.FoundPlaces.{vacant_free}
 use Rattle.mw_book.specs.RecordsAhead.{first_ready}
 use Rattle.mw_book.proofs.RepresentedFiles.{failed_as, there_held, words_held}
+use Rattle.std.proofs.lemmas.Grind.{common_steps}
 use Rattle.mw_book.proofs.book.Book.write_down.Goals as goal
 
 pub prepare_all-requires : goal.prepare_all-requires
@@ -58,3 +59,9 @@ returns-clause-filed g c =
     (ended_well g.D.Disk.facts (length c.as_slice.result.now + 1) file c.prepare_all.new.self c.prepare_all.result well c.prepare_all.ensures.ends)
     (went_well c.prepare_all.result _ well c.prepare_all.ensures.staged)
     (subst (λ held. HasPlace (states_in held) old.table old.places) c.in-Some.is c.requires.room.room)
+
+pub returns-then-is_err-clause-tried : goal.returns-then-is_err-clause-tried
+returns-then-is_err-clause-tried c = grind (arith, common_steps)
+
+pub returns-clause-tried : goal.returns-clause-tried
+returns-clause-tried c = grind (arith, common_steps)

@@ -4,6 +4,7 @@ use Rattle.mw_book.specs.declared.waiting.Chosen.{Chosen}
 use Rattle.mw_book.specs.ChosenPlaces.{AreChosen, IsUnderWay, free_within}
 use Rattle.mw_book.specs.RecordsAhead.{first_ready}
 use Rattle.mw_book.proofs.ChosenChanges.{full_passes, next_of, old_passes}
+use Rattle.std.proofs.lemmas.Grind.{common_steps}
 use Rattle.mw_book.proofs.waiting.Chosen.choose.Goals as goal
 use Rattle.mw_book.proofs.waiting.Chosen.choose.Goals.{then-len-lt-MOST_AHEAD+then-is_new, else-len-lt-MOST_AHEAD, else-len-lt-MOST_AHEAD-via-then-len-lt-MOST_AHEAD+else-is_new, else-len-lt-MOST_AHEAD-via-else-len-lt-MOST_AHEAD}
 
@@ -51,3 +52,9 @@ loop-change-preserved c =
             ]);
       }
     ]
+
+pub loop-change-init : goal.loop-change-init
+loop-change-init c = grind (arith, common_steps)
+
+pub returns-clause-ahead : goal.returns-clause-ahead
+returns-clause-ahead c = grind (arith, common_steps)

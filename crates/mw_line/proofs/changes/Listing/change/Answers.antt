@@ -11,6 +11,12 @@ use Rattle.mw_line.proofs.changes.Listing.change.Goals as goal
 told : (test : List Entry → Bool) (slice kept all : List Entry) (result answer : Bool) → slice ≡ kept → kept ≡ all → result ≡ test slice → result ≡ answer → test all ≡ answer
 told test slice kept all result answer s k t a = cc
 
+pub returns-then-not-values_fit : goal.returns-then-not-values_fit
+returns-then-not-values_fit c = λ es some lists.
+    let k = all_kept es c.args.self lists c.if-self.false in
+    let values = told (list_all values_fit) c.deref.result.now c.args.self.kept.items es c.values_fit.result false c.deref.ensures.0 k.0 c.values_fit.ensures c.if-not-values_fit.true in
+    rw (k.1, values) refl
+
 pub returns-then-not-addresses_fit : goal.returns-then-not-addresses_fit
 returns-then-not-addresses_fit c = λ es some lists.
     let k = all_kept es c.args.self lists c.if-self.false in

@@ -3,6 +3,7 @@ use Rattle.std.proofs.Common.{◌≡◌, IsTrue, length, subst, sym, arith}
 use Rattle.mw_words.specs.Change.{is_well_formed}
 use Rattle.mw_lone.proofs.SoundStores.{sound-insert}
 use Rattle.mw_lone.proofs.store.Lone.ask.Goals.{in-Ok, in-Err}
+use Rattle.std.proofs.lemmas.Grind.{common_steps}
 use Rattle.mw_lone.proofs.store.Lone.ask.Goals as goal
 
 pub invariant_of-self : goal.invariant_of-self
@@ -13,3 +14,6 @@ invariant_of-self c =
       | in-Ok w ↦ rw w.in-Ok.ensures.ok (sound-insert _ _ _ _ _ fine c.self.invariant)
       | in-Err w ↦ rw w.in-Err.ensures.err c.self.invariant
     ]
+
+pub returns-clause-taken : goal.returns-clause-taken
+returns-clause-taken c = grind (arith, common_steps)

@@ -2,6 +2,7 @@
 use Rattle.std.proofs.Common.{sym, arith, length}
 use Rattle.mw_lone.proofs.Steps.{at_some, length-back}
 use Rattle.mw_lone.proofs.SoundStores.{sound-insert, sound-words, entries-fit}
+use Rattle.std.proofs.lemmas.Grind.{common_steps}
 use Rattle.mw_lone.proofs.store.Lone.seal.Goals as goal
 
 pub may_be_written-requires : goal.may_be_written-requires
@@ -16,3 +17,6 @@ pub invariant_of-self : goal.invariant_of-self
 invariant_of-self c =
     let same = length-back c.self.inside.words.len c.put.new.words c.self.inside.words.items (omega arith) (omega arith) in
     rw (at_some _ _ _ c.in-Some.ensures c.place.ensures) (sound-words _ _ _ _ same (sound-insert _ _ _ _ _ (c.self.invariant.jobs _ _ (sym c.in-Some.ensures)) c.self.invariant))
+
+pub returns : goal.returns
+returns c = grind (arith, common_steps)

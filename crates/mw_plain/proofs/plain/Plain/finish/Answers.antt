@@ -1,8 +1,9 @@
 -- Goals of `Plain::finish` (src/plain.rt).
-use Rattle.std.proofs.Common.{refl, subst, IsTrue}
+use Rattle.std.proofs.Common.{refl, subst, IsTrue, arith}
 use Rattle.mw_words.specs.Change.{is_change}
 use Rattle.mw_plain.specs.Books.{IsPrepared}
 use Rattle.mw_plain.proofs.Serves.{serves_one, part_here, has_words, has_book, finishes_as}
+use Rattle.std.proofs.lemmas.Grind.{common_steps}
 use Rattle.mw_plain.proofs.plain.Plain.finish.Goals as goal
 
 pub returns-clause-answers : goal.returns-clause-answers
@@ -35,3 +36,6 @@ finish-requires-clause-prepared g c =
     let tenant = c.args.ticket.tenant in
     let was = part_here old tenant c.index_mut.result.now c.requires.there c.index_mut.ensures.value in
     subst (λ book. IsPrepared book c.args.ticket.place.0 c.args.ticket.entries.items) (has_book old tenant c.index_mut.result.now was) c.requires.prepared
+
+pub invariant_of-self : goal.invariant_of-self
+invariant_of-self c = grind (arith, common_steps)

@@ -5,6 +5,7 @@ use Rattle.std.specs.Vec.Iter.{into_iter_items}
 use Rattle.mw_plain.specs.Lines.{FitLines, AreMadeOf, quotas_in}
 use Rattle.mw_plain.specs.Quotas.{quotas_of}
 use Rattle.mw_plain.proofs.NewStores.{line_is_there, next_of, made_more, shared_more, made_all, stands_new}
+use Rattle.std.proofs.lemmas.Grind.{common_steps}
 use Rattle.mw_plain.proofs.plain.Plain.new.Goals as goal
 
 pub new-part-requires-clause-within : goal.new-part-requires-clause-within
@@ -61,3 +62,6 @@ bounds-lines-len g c =
     let parts = c.loop-file.parts in
     let there = line_is_there c.args.lines.now (length parts.items) (into_iter_items c.loop-file.file-iterator) c.in-Some.file (into_iter_items c.next.new.self) c.in-Some.ensures.steps.0 c.loop-file.invariant.fit in
     subst (λ n. n < length c.args.lines.now) (sym (c.len.ensures ∙ parts.ok.0)) there
+
+pub loop-file-init : goal.loop-file-init
+loop-file-init c = grind (arith, common_steps)

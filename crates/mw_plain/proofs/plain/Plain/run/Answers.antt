@@ -3,6 +3,7 @@ use Rattle.std.proofs.Common.{subst, arith}
 use Rattle.std.proofs.lemmas.List.{drop_all}
 use Rattle.mw_plain.specs.Tasks.{AreTasks, Asked}
 use Rattle.mw_plain.proofs.TaskLaws.{next_task, tasks_stay, asked_more, asked_all, serves_all}
+use Rattle.std.proofs.lemmas.Grind.{common_steps}
 use Rattle.mw_plain.proofs.plain.Plain.run.Goals as goal
 
 pub loop-task-preserved : goal.loop-task-preserved
@@ -32,3 +33,9 @@ returns-clause-serves g c tenant s stands =
     serves_all g.D.Disk.facts c.args.self.now c.loop-task.self c.args.tasks.now c.loop-task.replies.items tenant s c.requires
     (asked_all g.D.Disk.facts c.args.self.now c.loop-task.self c.args.tasks.now c.loop-task.task-index c.loop-task.replies.items
     (drop_all _ c.args.tasks.now c.loop-task-test.false) c.loop-task.invariant.asked) stands
+
+pub ask-reply-requires-clause-tenant : goal.ask-reply-requires-clause-tenant
+ask-reply-requires-clause-tenant c = grind (arith, common_steps)
+
+pub ask-reply-requires-clause-formed : goal.ask-reply-requires-clause-formed
+ask-reply-requires-clause-formed c = grind (arith, common_steps)

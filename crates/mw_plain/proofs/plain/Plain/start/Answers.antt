@@ -1,7 +1,8 @@
 -- Goals of `Plain::start` (src/plain.rt).
-use Rattle.std.proofs.Common.{refl, ap, subst, IsTrue}
+use Rattle.std.proofs.Common.{refl, ap, subst, IsTrue, arith}
 use Rattle.mw_words.specs.Change.{is_well_formed}
 use Rattle.mw_plain.proofs.Serves.{start_of, serves_one, part_here, has_words, starts_here}
+use Rattle.std.proofs.lemmas.Grind.{common_steps}
 use Rattle.mw_plain.proofs.plain.Plain.start.Goals as goal
 
 pub returns-in-Done-clause-answers : goal.returns-in-Done-clause-answers
@@ -37,3 +38,6 @@ start-requires g c =
     let old = c.args.self.now in
     let was = part_here old c.args.tenant c.index_mut.result.now c.requires.tenant c.index_mut.ensures.value in
     record { formed = subst (λ n. IsTrue (is_well_formed n c.args.job.now)) (has_words old c.args.tenant c.index_mut.result.now was) c.requires.formed }
+
+pub invariant_of-self : goal.invariant_of-self
+invariant_of-self c = grind (arith, common_steps)

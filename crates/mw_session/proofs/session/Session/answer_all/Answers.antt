@@ -5,7 +5,7 @@ use Rattle.mw_session.specs.SessionParts.{Gives}
 use Rattle.mw_session.specs.ServiceCalls.{AreAnswered}
 use Rattle.mw_session.proofs.Agreements.{agree_nothing, tied_then}
 use Rattle.mw_session.proofs.CallsMade.{made_nothing, made_then}
-use Rattle.mw_session.proofs.LineJudgments.{turned_ok}
+use Rattle.mw_session.proofs.LineJudgments.{not_ok, turned_ok}
 use Rattle.mw_session.proofs.StepOutputs.{asked_nothing, asked_then}
 use Rattle.mw_session.proofs.AnsweredLines.{fewer_lines, gives_then, spoken_more, spoken_nothing, turned_then}
 use Rattle.mw_session.proofs.session.Session.answer_all.Goals as goal
@@ -94,3 +94,9 @@ returns-then-is_err-clause-made g c =
     let T = g.T.PeerStream in
     let a = c.answer-answered in
     made_then T.called c.args.stream.now c.loop-step.stream a.new.stream c.loop-step.invariant.made a.ensures.made
+
+pub returns-then-is_err-clause-all : goal.returns-then-is_err-clause-all
+returns-then-is_err-clause-all g c = not_ok c.answer-answered.result _ (sym c.is_err.ensures.value ∙ c.if-is_err.true)
+
+pub returns-then-is_err-clause-served : goal.returns-then-is_err-clause-served
+returns-then-is_err-clause-served g c = not_ok c.answer-answered.result _ (sym c.is_err.ensures.value ∙ c.if-is_err.true)

@@ -7,7 +7,7 @@ use Rattle.mw_session.specs.UnderWay.{UnderWay}
 use Rattle.mw_session.specs.ServiceCalls.{AreAnswered}
 use Rattle.mw_session.proofs.Agreements.{agree_nothing, tied_then}
 use Rattle.mw_session.proofs.CallsMade.{made_nothing, made_read, made_then}
-use Rattle.mw_session.proofs.LineJudgments.{on_ok, read_end, no_peer_end, read_failed, read_some, some_read}
+use Rattle.mw_session.proofs.LineJudgments.{on_ok, read_end, no_end_of_memory, no_end_of_fault, no_peer_end, read_failed, read_some, some_read}
 use Rattle.mw_session.proofs.StepOutputs.{asked_nothing, asked_then}
 use Rattle.mw_session.proofs.SessionEnds.{holds_nothing, starts, holds_peer_end, holds_read_fault, holds_memory, last_lines, more_lines}
 use Rattle.mw_session.proofs.session.Session.run.Goals as goal
@@ -77,6 +77,9 @@ pub returns-then-is_err-clause-tied : goal.returns-then-is_err-clause-tied
 returns-then-is_err-clause-tied g c =
     let T = g.T.PeerStream in
     tied_then T.remaining T.contents c.args.stream.now c.loop.stream c.read.new.self c.loop.invariant.tied c.read.ensures.tied
+
+pub returns-then-is_err-clause-at_end : goal.returns-then-is_err-clause-at_end
+returns-then-is_err-clause-at_end g c = λ is. no_end_of_memory is
 
 pub returns-in-Err-answer_all-clause-holds : goal.returns-in-Err-answer_all-clause-holds
 returns-in-Err-answer_all-clause-holds g c =
@@ -161,6 +164,9 @@ pub returns-in-Err-clause-tied : goal.returns-in-Err-clause-tied
 returns-in-Err-clause-tied g c =
     let T = g.T.PeerStream in
     tied_then T.remaining T.contents c.args.stream.now c.loop.stream c.read.new.self c.loop.invariant.tied c.read.ensures.tied
+
+pub returns-in-Err-clause-at_end : goal.returns-in-Err-clause-at_end
+returns-in-Err-clause-at_end g c = λ is. no_end_of_fault is
 
 pub returns-in_default-clause-made : goal.returns-in_default-clause-made
 returns-in_default-clause-made g c = made_nothing g.T.PeerStream.called c.args.stream.now

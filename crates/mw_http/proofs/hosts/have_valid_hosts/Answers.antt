@@ -1,0 +1,13 @@
+-- Goals of `have_valid_hosts` (src/hosts.rt).
+use Rattle.std.proofs.Common.{arith}
+use Rattle.std.proofs.lemmas.Grind.{common_steps}
+use Rattle.mw_http.proofs.hosts.have_valid_hosts.Goals as goal
+
+pub loop-field-preserved : goal.loop-field-preserved
+loop-field-preserved c = grind (arith, common_steps)
+
+pub returns-then-not-is_valid_field : goal.returns-then-not-is_valid_field
+returns-then-not-is_valid_field c = grind (arith, common_steps)
+
+pub returns : goal.returns
+returns c = grind (arith, common_steps)

@@ -1,0 +1,7 @@
+-- Goals of `put_figure` (src/server_lines.rt).
+use Rattle.std.proofs.Common.{arith}
+use Rattle.std.proofs.lemmas.Grind.{common_steps}
+use Rattle.mw_metrics.proofs.server_lines.put_figure.Goals as goal
+
+pub returns-clause-family : goal.returns-clause-family
+returns-clause-family c = grind (arith, common_steps)

@@ -1,0 +1,7 @@
+-- Goals of `serve_queue` (src/server.rt).
+use Rattle.std.proofs.Common.{arith}
+use Rattle.std.proofs.lemmas.Grind.{common_steps}
+use Rattle.mw_workers.proofs.server.serve_queue.Goals as goal
+
+pub scoped-requires : goal.scoped-requires
+scoped-requires c = grind (arith, common_steps)
