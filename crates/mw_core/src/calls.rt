@@ -1,6 +1,6 @@
 //! Makes one atomic step of a request at a time.
 //!
-//! mw_engine serves requests by these calls; mw_table_bench and tests use them without an engine. Change it with `specs/Steps`.
+//! mw_engine serves requests by these calls; tests use them without an engine. Change it with `specs/Steps`.
 ghost use Rattle.std.specs.Prelude.{◌≡◌, false, None};
 ghost use Rattle.mw_table.specs.FromRule.{MayCome};
 ghost use Rattle.mw_table.specs.CarriedRequest.{IsCarried};

@@ -1,4 +1,4 @@
-//! Tests the table of shared words, two threads that drive requests on one, and the lock and bells of threads that wait.
+//! Tests the table of shared words, two threads that drive requests or read on one, and the lock and bells of threads that wait.
 //! The tests are apart from the crates that they test, so that those are proved once.
 #![tactic(auto)]
 
@@ -6,6 +6,8 @@
 mod lock_tests;
 #[cfg(test)]
 mod making_tests;
+#[cfg(test)]
+mod neighbour_tests;
 #[cfg(test)]
 mod race_tests;
 #[cfg(test)]

@@ -1,6 +1,6 @@
 //! The configuration of two small tenants, with which a table begins.
 //!
-//! Used by: `making_tests`.
+//! Used by: `making_tests`, `neighbour_tests`.
 
 ghost use Rattle.std.specs.Prelude.{◌≡◌, [], ◌∷◌};
 ghost use Rattle.mw_world.specs.Definition.State.{IsConfig, no_tenant};

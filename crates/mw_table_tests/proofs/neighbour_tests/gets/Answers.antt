@@ -1,10 +1,10 @@
--- Goals of `gets` (src/runs.rt).
+-- Goals of `gets` (src/neighbour_tests.rt).
 use Rattle.std.proofs.Common.{ap, sym, subst, ◌∙◌}
 use Rattle.mw_words.specs.declared.jobs.Job.TheVariants.{Get}
 use Rattle.mw_actor.specs.ActorState.{ActorState, first}
 use Rattle.mw_core.specs.FromTable.{MayCome}
-use Rattle.mw_table_bench.proofs.GetsMayCome.{get_comes}
-use Rattle.mw_table_bench.proofs.runs.gets.Goals as goal
+use Rattle.mw_table_tests.proofs.ReadsMayCome.{get_comes}
+use Rattle.mw_table_tests.proofs.neighbour_tests.gets.Goals as goal
 
 pub try_look-requires-clause-comes : goal.try_look-requires-clause-comes
 try_look-requires-clause-comes c =

@@ -1,0 +1,6 @@
+-- Loop invariants of `gets` (src/neighbour_tests.rt).
+use Rattle.mw_table_tests.specs.Readers.{MayGet}
+use Rattle.mw_table_tests.proofs.neighbour_tests.gets.Given as goal
+
+abbrev pub invariant-loop : goal.invariant-loop
+invariant-loop l = MayGet l.core.shared l.pass l.tenant
