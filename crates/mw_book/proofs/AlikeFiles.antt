@@ -4,7 +4,7 @@ use Rattle.std.proofs.Common.{ℕ, List, length, sym, ap, subst, ◌∙◌}
 use Rattle.mw_words.specs.declared.jobs.Entry.{Entry}
 use Rattle.mw_disk.specs.Facts.{Facts}
 use Rattle.mw_record.specs.Layout.{pairs_of}
-use Rattle.mw_world_file.specs.Files.{Place, entries_in, is_empty, is_sealed}
+use Rattle.mw_world.specs.Files.State.{Place, entries_in, is_empty, is_sealed}
 use Rattle.mw_book.specs.Alike.{RepresentsAlike}
 use Rattle.mw_book.specs.OpenFile.{FileRecoversTo}
 use Rattle.mw_book.specs.Representation.{is_prepared_ahead, is_settled, stage_held}

@@ -11,9 +11,9 @@ use Rattle.mw_look.specs.declared.steps.Call.TheVariants.{Prepare as PrepareCall
 use Rattle.mw_disk.specs.Facts.{Facts}
 use Rattle.mw_file.specs.PlaceStates.{stage_of, IsOnlySealed}
 use Rattle.mw_file.proofs.SharedSettles.{one_count}
-use Rattle.mw_world_file.specs.Calls.{device_calls, place_for}
-use Rattle.mw_world_file.specs.Devices.{stage_told}
-use Rattle.mw_world_file.specs.Files.{File, Place, Empty, Prepared, Sealed, empty_from, entries_at, is_sealed}
+use Rattle.mw_world.specs.Files.Calls.{device_calls, place_for}
+use Rattle.mw_world.specs.Files.Stages.{stage_told}
+use Rattle.mw_world.specs.Files.State.{File, Place, Empty, Prepared, Sealed, empty_from, entries_at, is_sealed}
 use Rattle.mw_book.specs.declared.answers.Filed.{Filed}
 use Rattle.mw_book.specs.declared.answers.Filed.TheVariants.{Made, Broken, Untouched}
 use Rattle.mw_book.specs.declared.book.Book.{Book}

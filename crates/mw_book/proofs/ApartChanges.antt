@@ -1,4 +1,4 @@
--- If a simulated file (`File` of mw_world_file) lets a prepared change be sealed, so does the open file of a book that
+-- If a file of the world (`File` of mw_world) lets a prepared change be sealed, so does the open file of a book that
 -- represents it. Used by: AloneChanges, PermittedCalls.
 use Rattle.std.proofs.Common.{◌≡◌, ℕ, zero, suc, ◌<◌, ◌==◌, ◌&&◌, ◌||◌, not, Bool, true, false, List, [], ◌∷◌, refl, sym, ap, ◌∙◌, inl, inr, arith}
 use Rattle.std.specs.List.{list_any}
@@ -9,8 +9,8 @@ use Rattle.mw_record.specs.Layout.{pairs_of}
 use Rattle.mw_file.specs.declared.place_states.PlaceState.{PlaceState}
 use Rattle.mw_file.specs.declared.place_states.Stage.TheVariants.{Free as FreeStage, Prepared as PreparedStage, Sealed as SealedStage}
 use Rattle.mw_file.specs.PlaceStates.{stage_of, writes_of_place}
-use Rattle.mw_world_file.specs.Devices.{stage_told}
-use Rattle.mw_world_file.specs.Files.{File, Place, Empty, Prepared, Sealed, is_empty, is_prepared, is_sealed, entries_in, entries_at, share_a_word, is_apart}
+use Rattle.mw_world.specs.Files.Stages.{stage_told}
+use Rattle.mw_world.specs.Files.State.{File, Place, Empty, Prepared, Sealed, is_empty, is_prepared, is_sealed, entries_in, entries_at, share_a_word, is_apart}
 use Rattle.mw_book.specs.declared.place_table.PlaceTable.{PlaceTable}
 use Rattle.mw_book.specs.FilePlaces.{IsPermutation}
 use Rattle.mw_book.specs.Permits.{MaySealOwn}

@@ -16,7 +16,7 @@ use Rattle.mw_file.specs.Copies.{CopyEnds as FileCopyEnds, IsOnlyRead as FileIsO
 use Rattle.mw_file.specs.File.{disk_of}
 use Rattle.mw_file.specs.OpeningEnds.{read_calls}
 use Rattle.mw_file.proofs.OnlyRead.{not_read, only_read_safe}
-use Rattle.mw_world_file.specs.Files.{File}
+use Rattle.mw_world.specs.Files.State.{File}
 use Rattle.mw_book.specs.declared.book.Book.{Book}
 use Rattle.mw_book.specs.Copies.{CopyEnds, HeldIsOnlyRead, IsOnlyRead}
 use Rattle.mw_book.specs.Representation.{ArePlaced, HasParts, PartsRepresent, Represents}

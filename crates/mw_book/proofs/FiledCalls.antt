@@ -26,11 +26,11 @@ use Rattle.mw_file.specs.RecoveryInvariant.{RecoversTo, CrashSafe, ContentsStay,
 use Rattle.mw_file.specs.PlaceStates.{is_free_stage, roll_calls, stage_of, writes_of_place, IsStaged}
 use Rattle.mw_file.specs.declared.new_changes.NewChange.{NewChange}
 use Rattle.mw_file.specs.NewChanges.{ArePrepared, AreSettledWith, IsNoPlaceOf, IsSealedWith}
-use Rattle.mw_world_file.specs.Calls.{fails_on, place_for, device_calls, is_made, doubt_of}
-use Rattle.mw_world_file.specs.Crashes.{at_stake}
-use Rattle.mw_world_file.specs.Files.{File, Empty, Prepared, Sealed, entries_at, broken, prepared, sealed, emptied}
-use Rattle.mw_world_file.specs.Maps.{upd}
-use Rattle.mw_world_file.proofs.KeptPlaces.{set_number}
+use Rattle.mw_world.specs.Files.Calls.{fails_on, place_for, device_calls, is_made, doubt_of}
+use Rattle.mw_world.specs.Files.Crashes.{at_stake}
+use Rattle.mw_world.specs.Files.State.{File, Empty, Prepared, Sealed, entries_at, broken, prepared, sealed, emptied}
+use Rattle.mw_world.specs.Maps.{upd}
+use Rattle.mw_world.proofs.MapLaws.{set_number}
 use Rattle.mw_book.specs.declared.answers.Filed.{Filed}
 use Rattle.mw_book.specs.declared.answers.Filed.TheVariants.{Made, Broken, Untouched}
 use Rattle.mw_book.specs.declared.book.Book.{Book}

@@ -1,4 +1,4 @@
--- If a book represents a simulated file (`File` of mw_world_file), the lowest vacant place of the book is the lowest empty
+-- If a book represents a file of the world (`File` of mw_world), the lowest vacant place of the book is the lowest empty
 -- place of that file.
 -- Used by: vacant_place, Book::has_place.
 use Rattle.std.proofs.Common.{◌≡◌, ℕ, zero, suc, ◌+◌, ◌-◌, ◌<◌, ◌≤◌, ◌&&◌, not, Bool, true, false, List, if◌then◌else◌, refl, sym, ap, ◌∙◌, inl, inr, arith}
@@ -7,7 +7,7 @@ use Rattle.mw_file.specs.declared.place_states.PlaceState.{PlaceState}
 use Rattle.mw_file.specs.declared.place_states.Stage.{Stage}
 use Rattle.mw_file.specs.declared.place_states.Stage.TheVariants.{Free, Prepared as PreparedStage, Sealed as SealedStage}
 use Rattle.mw_file.specs.PlaceStates.{is_free_stage}
-use Rattle.mw_world_file.specs.Files.{File, Place, Empty, Prepared, Sealed, is_empty, is_sealed, empty_from}
+use Rattle.mw_world.specs.Files.State.{File, Place, Empty, Prepared, Sealed, is_empty, is_sealed, empty_from}
 use Rattle.mw_book.specs.declared.place_table.PlaceTable.{PlaceTable}
 use Rattle.mw_book.specs.Permits.{is_left, is_prepared_stage, is_vacant, vacant_from, vacant_place}
 use Rattle.mw_book.specs.Representation.{ArePlaced, is_prepared_ahead, is_settled, stage_held, stage_in_file}

@@ -8,7 +8,7 @@ use Rattle.mw_disk.specs.Facts.{Facts}
 use Rattle.mw_file.specs.declared.place_states.PlaceState.{PlaceState}
 use Rattle.mw_file.specs.declared.place_states.Stage.TheVariants.{Free as FreeStage, Prepared as PreparedStage}
 use Rattle.mw_file.specs.PlaceStates.{is_free_stage, stage_of, writes_of_place}
-use Rattle.mw_world_file.specs.Files.{Place, is_empty}
+use Rattle.mw_world.specs.Files.State.{Place, is_empty}
 use Rattle.mw_book.specs.declared.book.Book.{Book}
 use Rattle.mw_book.specs.declared.place_table.PlaceTable.{PlaceTable}
 use Rattle.mw_book.specs.FilePlaces.{IsPermutation}

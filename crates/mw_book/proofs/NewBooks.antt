@@ -11,7 +11,7 @@ use Rattle.mw_file.specs.File.{disk_of, words_of, states_of}
 use Rattle.mw_file.proofs.Free.{stage_of-all_free}
 use Rattle.mw_file.specs.RecoveryInvariant.{RecoversTo}
 use Rattle.mw_file.specs.PlaceStates.{all_free}
-use Rattle.mw_world_file.specs.Files.{Empty, file_of}
+use Rattle.mw_world.specs.Files.State.{Empty, file_of}
 use Rattle.mw_book.specs.declared.place_table.PlaceTable.{PlaceTable}
 use Rattle.mw_book.specs.FilePlaces.{flag_of}
 use Rattle.mw_book.specs.PreparedAhead.{written_place}

@@ -1,4 +1,4 @@
--- If a call can be made on a simulated file (`File` of mw_world_file), it may be made on each book that represents the file.
+-- If a call can be made on a file of the world (`File` of mw_world), it may be made on each book that represents the file.
 -- Used by: mw_core (`permits` alone), calls_that_can_be_made.
 use Rattle.std.proofs.Common.{◌≡◌, ℕ, ◌<◌, ◌&&◌, true, false, List, length, nat_lt, refl, sym, ap, subst, ◌∙◌, arith}
 use Rattle.std.proofs.lemmas.Bool.{and_parts, ltb-true}
@@ -8,8 +8,8 @@ use Rattle.mw_words.specs.Change.{is_change}
 use Rattle.mw_look.specs.declared.steps.Call.{Call}
 use Rattle.mw_look.specs.declared.steps.Call.TheVariants.{Prepare as PrepareCall, Seal as SealCall, Settle as SettleCall, Cancel as CancelCall}
 use Rattle.mw_disk.specs.Facts.{Facts}
-use Rattle.mw_world_file.specs.Calls.{fails_on, place_for, can_be_made}
-use Rattle.mw_world_file.specs.Files.{File, empty_from, is_prepared, is_sealed, is_apart, entries_at}
+use Rattle.mw_world.specs.Files.Calls.{fails_on, place_for, can_be_made}
+use Rattle.mw_world.specs.Files.State.{File, empty_from, is_prepared, is_sealed, is_apart, entries_at}
 use Rattle.mw_book.specs.declared.book.Book.{Book}
 use Rattle.mw_book.specs.OpenFile.{states_in}
 use Rattle.mw_book.specs.Permits.{MayCall, MayCancel, MaySealOwn, MaySettle, HasRoom, PermitsCalls}

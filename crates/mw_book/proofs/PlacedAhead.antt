@@ -11,9 +11,9 @@ use Rattle.mw_file.specs.declared.place_states.Stage.{Stage}
 use Rattle.mw_file.specs.declared.place_states.Stage.TheVariants.{Free, Prepared, Sealed}
 use Rattle.mw_file.specs.NewChanges.{AreSettledWith, MayPrepare}
 use Rattle.mw_file.specs.PlaceStates.{stage_of, writes_of_place, freed}
-use Rattle.mw_world_file.specs.Devices.{stage_told}
-use Rattle.mw_world_file.specs.Files.{Place, Prepared as PreparedPlace, Sealed as SealedPlace, Empty, is_empty, entries_in}
-use Rattle.mw_world_file.specs.Maps.{upd}
+use Rattle.mw_world.specs.Files.Stages.{stage_told}
+use Rattle.mw_world.specs.Files.State.{Place, Prepared as PreparedPlace, Sealed as SealedPlace, Empty, is_empty, entries_in}
+use Rattle.mw_world.specs.Maps.{upd}
 use Rattle.mw_book.specs.declared.place_table.PlaceTable.{PlaceTable}
 use Rattle.mw_book.specs.ChosenPlaces.{AreChosen, IsChosen}
 use Rattle.mw_book.specs.FilePlaces.{flag_of, IsPermutation}

@@ -14,10 +14,10 @@ use Rattle.mw_file.specs.declared.place_states.Stage.{Stage}
 use Rattle.mw_file.specs.declared.place_states.Stage.TheVariants.{Free as FreeStage, Prepared as PreparedStage, Sealed as SealedStage}
 use Rattle.mw_file.specs.declared.tenant_file.TenantFile.{TenantFile}
 use Rattle.mw_file.specs.PlaceStates.{is_free_stage, stage_at, stage_of, writes_of_place, freed}
-use Rattle.mw_world_file.specs.Devices.{stage_told}
-use Rattle.mw_world_file.specs.Files.{Place, Empty, Prepared, Sealed, is_empty, is_sealed, entries_in}
-use Rattle.mw_world_file.specs.Maps.{upd}
-use Rattle.mw_world_file.proofs.KeptPlaces.{upd_here, upd_there}
+use Rattle.mw_world.specs.Files.Stages.{stage_told}
+use Rattle.mw_world.specs.Files.State.{Place, Empty, Prepared, Sealed, is_empty, is_sealed, entries_in}
+use Rattle.mw_world.specs.Maps.{upd}
+use Rattle.mw_world.proofs.MapLaws.{upd_here, upd_there}
 use Rattle.mw_book.specs.declared.place_table.PlaceTable.{PlaceTable}
 use Rattle.mw_book.specs.FilePlaces.{flag_of, IsPermutation}
 use Rattle.mw_book.specs.SettledAhead.{is_sealed_stage, ahead_by_settle}

@@ -6,8 +6,8 @@ use Rattle.mw_words.specs.declared.jobs.Entry.{Entry}
 use Rattle.mw_look.specs.declared.steps.Call.TheVariants.{Prepare as PrepareCall}
 use Rattle.mw_disk.specs.Facts.{Facts}
 use Rattle.mw_disk.specs.Runs.{Bad, Good, Later}
-use Rattle.mw_world_file.specs.Calls.{filed, place_for}
-use Rattle.mw_world_file.specs.Files.{File, entries_at}
+use Rattle.mw_world.specs.Files.Calls.{filed, place_for}
+use Rattle.mw_world.specs.Files.State.{File, entries_at}
 use Rattle.mw_book.specs.declared.answers.Filed.{Filed}
 use Rattle.mw_book.specs.declared.answers.Filed.TheVariants.{Made, Broken, Untouched}
 use Rattle.mw_book.specs.declared.book.Book.{Book}

@@ -14,10 +14,10 @@ use Rattle.mw_file.specs.declared.tenant_file.TenantFile.{TenantFile}
 use Rattle.mw_file.specs.File.{disk_of, words_of, states_of, has_failed}
 use Rattle.mw_file.specs.RecoveryInvariant.{RecoversTo, IsBeforeOrAfter}
 use Rattle.mw_file.specs.PlaceStates.{is_free_stage, stage_of}
-use Rattle.mw_world_file.specs.Crashes.{IsFileOfEither}
-use Rattle.mw_world_file.specs.Devices.{stage_told}
-use Rattle.mw_world_file.specs.Files.{File, Place, Empty, Prepared, Sealed, is_empty, entries_at}
-use Rattle.mw_world_file.proofs.CrashedFiles.{of_either}
+use Rattle.mw_world.specs.Files.Crashes.{IsFileOfEither}
+use Rattle.mw_world.specs.Files.Stages.{stage_told}
+use Rattle.mw_world.specs.Files.State.{File, Place, Empty, Prepared, Sealed, is_empty, entries_at}
+use Rattle.mw_world.proofs.EitherFile.{of_either}
 use Rattle.mw_book.specs.declared.book.Book.{Book}
 use Rattle.mw_book.specs.declared.place_table.PlaceTable.{PlaceTable}
 use Rattle.mw_book.specs.Crashes.{LeavesEither}

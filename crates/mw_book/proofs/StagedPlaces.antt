@@ -8,10 +8,10 @@ use Rattle.mw_file.specs.declared.place_states.PlaceState.{PlaceState}
 use Rattle.mw_file.specs.declared.place_states.Stage.{Stage}
 use Rattle.mw_file.specs.declared.place_states.Stage.TheVariants.{Free as FreeStage}
 use Rattle.mw_file.specs.PlaceStates.{stage_of, writes_of_place, IsStaged}
-use Rattle.mw_world_file.specs.Devices.{stage_told}
-use Rattle.mw_world_file.specs.Files.{Place, is_empty, is_sealed, entries_in}
-use Rattle.mw_world_file.specs.Maps.{upd}
-use Rattle.mw_world_file.proofs.KeptPlaces.{upd_here, upd_there}
+use Rattle.mw_world.specs.Files.Stages.{stage_told}
+use Rattle.mw_world.specs.Files.State.{Place, is_empty, is_sealed, entries_in}
+use Rattle.mw_world.specs.Maps.{upd}
+use Rattle.mw_world.proofs.MapLaws.{upd_here, upd_there}
 use Rattle.mw_book.specs.declared.place_table.PlaceTable.{PlaceTable}
 use Rattle.mw_book.specs.FilePlaces.{IsPermutation}
 use Rattle.mw_book.specs.Representation.{ArePlaced, ArePlacedBy, is_prepared_ahead, is_settled, place_in_file, stage_held}

@@ -14,11 +14,11 @@ use Rattle.mw_disk.proofs.RunLaws.{later_refl, good_none}
 use Rattle.mw_record.specs.Layout.{pairs_of}
 use Rattle.mw_file.specs.declared.place_states.PlaceState.{PlaceState}
 use Rattle.mw_file.specs.PlaceStates.{stage_of, writes_of_place}
-use Rattle.mw_world_file.specs.Calls.{place_for}
-use Rattle.mw_world_file.specs.Devices.{stage_told}
-use Rattle.mw_world_file.specs.Files.{File, Place, Prepared, is_empty, is_sealed, entries_at, entries_in, prepared}
-use Rattle.mw_world_file.specs.Maps.{upd}
-use Rattle.mw_world_file.proofs.KeptPlaces.{set_number, upd_here, upd_there}
+use Rattle.mw_world.specs.Files.Calls.{place_for}
+use Rattle.mw_world.specs.Files.Stages.{stage_told}
+use Rattle.mw_world.specs.Files.State.{File, Place, Prepared, is_empty, is_sealed, entries_at, entries_in, prepared}
+use Rattle.mw_world.specs.Maps.{upd}
+use Rattle.mw_world.proofs.MapLaws.{set_number, upd_here, upd_there}
 use Rattle.mw_book.specs.declared.answers.Filed.TheVariants.{Made}
 use Rattle.mw_book.specs.declared.book.Book.{Book}
 use Rattle.mw_book.specs.declared.place_table.PlaceTable.{PlaceTable}

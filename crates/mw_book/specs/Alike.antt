@@ -1,10 +1,10 @@
--- Defines which simulated files (`File` of mw_world_file) a book can't tell apart, and claims that it represents all of them
+-- Defines which files of the world (`File` of mw_world) a book can't tell apart, and claims that it represents all of them
 -- or none.
 -- Used by: laws.rt. A change here changes the law files_that_are_alike.
 use Rattle.std.specs.Prelude.{ℕ, ◌≡◌, ◌<◌}
 use Rattle.mw_words.specs.declared.limits.TheConstants.{MAX_POOL}
 use Rattle.mw_disk.specs.Facts.{Facts}
-use Rattle.mw_world_file.specs.Files.{File}
+use Rattle.mw_world.specs.Files.State.{File}
 use Rattle.mw_book.specs.declared.book.Book.{Book}
 use Rattle.mw_book.specs.Representation.{Represents}
 

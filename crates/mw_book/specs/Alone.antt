@@ -6,8 +6,8 @@ use Rattle.mw_words.specs.declared.limits.TheConstants.{MAX_POOL}
 use Rattle.mw_words.specs.declared.jobs.Entry.{Entry}
 use Rattle.mw_look.specs.declared.steps.Call.{Call}
 use Rattle.mw_disk.specs.Facts.{Facts}
-use Rattle.mw_world_file.specs.Calls.{device_calls, place_for, suits}
-use Rattle.mw_world_file.specs.Files.{File, entries_at, is_sealed}
+use Rattle.mw_world.specs.Files.Calls.{device_calls, place_for, suits}
+use Rattle.mw_world.specs.Files.State.{File, entries_at, is_sealed}
 use Rattle.mw_book.specs.declared.answers.Filed.{Filed}
 use Rattle.mw_book.specs.declared.book.Book.{Book}
 use Rattle.mw_book.specs.declared.waiting.Waiting.{Waiting}

@@ -7,7 +7,7 @@ use Rattle.mw_look.specs.declared.steps.Call.{Call}
 use Rattle.mw_look.specs.declared.steps.Call.TheVariants.{Cancel as CancelCall}
 use Rattle.mw_disk.specs.Facts.{Facts}
 use Rattle.mw_disk.specs.Runs.{Later}
-use Rattle.mw_world_file.specs.Files.{File}
+use Rattle.mw_world.specs.Files.State.{File}
 use Rattle.mw_book.specs.declared.answers.Filed.{Filed}
 use Rattle.mw_book.specs.declared.book.Book.{Book}
 use Rattle.mw_book.specs.declared.waiting.Waiting.{Waiting}

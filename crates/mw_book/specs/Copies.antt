@@ -11,7 +11,7 @@ use Rattle.mw_file.specs.Copies.{IsOnlyRead as FileIsOnlyRead}
 use Rattle.mw_file.specs.File.{disk_of, states_of}
 use Rattle.mw_file.specs.OpeningEnds.{read_calls}
 use Rattle.mw_file.specs.RecoveryInvariant.{IsFile}
-use Rattle.mw_world_file.specs.Files.{File}
+use Rattle.mw_world.specs.Files.State.{File}
 use Rattle.mw_book.specs.declared.book.Book.{Book}
 use Rattle.mw_book.specs.OpenFile.{disk_in, OnDisk}
 use Rattle.mw_book.specs.Representation.{Represents}

@@ -5,9 +5,9 @@ use Rattle.mw_words.specs.declared.jobs.Entry.{Entry}
 use Rattle.mw_look.specs.declared.steps.Call.{Call}
 use Rattle.mw_disk.specs.Facts.{Facts}
 use Rattle.mw_disk.specs.Runs.{LeavesOnly}
-use Rattle.mw_world_file.specs.Calls.{place_for}
-use Rattle.mw_world_file.specs.Crashes.{IsFileOfEither, at_stake}
-use Rattle.mw_world_file.specs.Files.{File}
+use Rattle.mw_world.specs.Files.Calls.{place_for}
+use Rattle.mw_world.specs.Files.Crashes.{IsFileOfEither, at_stake}
+use Rattle.mw_world.specs.Files.State.{File}
 use Rattle.mw_book.specs.declared.answers.Filed.{Filed}
 use Rattle.mw_book.specs.declared.answers.Filed.TheVariants.{Made, Broken, Untouched}
 use Rattle.mw_book.specs.declared.book.Book.{Book}

@@ -1,4 +1,4 @@
--- Defines how a call on a book ends, for each simulated file (`File` of mw_world_file) that the book represented before it.
+-- Defines how a call on a book ends, for each file of the world (`File` of mw_world) that the book represented before it.
 -- Used by: mw_core, CallOutcome. A change here changes what a call promises of the file.
 use Rattle.std.specs.Prelude.{◌≡◌, ◌+◌, ◌-◌, ℕ, Bool, true, false, List, length}
 use Rattle.mw_words.specs.declared.jobs.Entry.{Entry}
@@ -8,8 +8,8 @@ use Rattle.mw_disk.specs.Facts.{Facts}
 use Rattle.mw_disk.specs.Runs.{Good, Bad}
 use Rattle.mw_file.specs.declared.place_states.PlaceState.{PlaceState}
 use Rattle.mw_file.specs.PlaceStates.{roll_calls}
-use Rattle.mw_world_file.specs.Calls.{fails_on, place_for, device_calls, is_made, filed, doubt_of}
-use Rattle.mw_world_file.specs.Files.{File, entries_at, broken}
+use Rattle.mw_world.specs.Files.Calls.{fails_on, place_for, device_calls, is_made, filed, doubt_of}
+use Rattle.mw_world.specs.Files.State.{File, entries_at, broken}
 use Rattle.mw_book.specs.declared.answers.Filed.{Filed}
 use Rattle.mw_book.specs.declared.answers.Filed.TheVariants.{Made, Broken, Untouched}
 use Rattle.mw_book.specs.declared.book.Book.{Book}

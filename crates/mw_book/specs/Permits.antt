@@ -13,8 +13,8 @@ use Rattle.mw_file.specs.declared.place_states.PlaceState.{PlaceState}
 use Rattle.mw_file.specs.declared.place_states.Stage.{Stage}
 use Rattle.mw_file.specs.declared.place_states.Stage.TheVariants.{Free, Prepared, Sealed}
 use Rattle.mw_file.specs.PlaceStates.{is_free_stage, MaySeal}
-use Rattle.mw_world_file.specs.Calls.{fails_on, place_for, can_be_made}
-use Rattle.mw_world_file.specs.Files.{File}
+use Rattle.mw_world.specs.Files.Calls.{fails_on, place_for, can_be_made}
+use Rattle.mw_world.specs.Files.State.{File}
 use Rattle.mw_book.specs.declared.book.Book.{Book}
 use Rattle.mw_book.specs.declared.place_table.PlaceTable.{PlaceTable}
 use Rattle.mw_book.specs.OpenFile.{states_in}

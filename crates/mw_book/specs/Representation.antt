@@ -1,5 +1,5 @@
--- Defines when a book represents a simulated file of mw_world_file: same words, fault and change in doubt, and the same
--- changes in the places, but for those settled or prepared ahead. Every call keeps this relation.
+-- Defines when a book represents a file of the world (`File` of mw_world): same words, fault and change in doubt, and the
+-- same changes in the places, but for those settled or prepared ahead. Every call keeps this relation.
 -- Used by: mw_core, mw_engine, book.rt, place_table.rt, waiting.rt.
 use Rattle.std.specs.Prelude.{◌≡◌, ◌<◌, ◌≤◌, ℕ, Bool, true, false, List, length, get_or, slice_index, Option, None, is_some}
 use Rattle.mw_words.specs.declared.limits.TheConstants.{MAX_POOL}
@@ -10,8 +10,8 @@ use Rattle.mw_file.specs.declared.place_states.Stage.{Stage}
 use Rattle.mw_file.specs.declared.place_states.Stage.TheVariants.{Free, Prepared}
 use Rattle.mw_file.specs.declared.tenant_file.TenantFile.{TenantFile}
 use Rattle.mw_file.specs.PlaceStates.{stage_of, writes_of_place}
-use Rattle.mw_world_file.specs.Devices.{stage_told}
-use Rattle.mw_world_file.specs.Files.{File, Place, is_empty, is_sealed, entries_in, file_of}
+use Rattle.mw_world.specs.Files.Stages.{stage_told}
+use Rattle.mw_world.specs.Files.State.{File, Place, is_empty, is_sealed, entries_in, file_of}
 use Rattle.mw_book.specs.declared.book.Book.{Book}
 use Rattle.mw_book.specs.declared.place_table.PlaceTable.{PlaceTable}
 use Rattle.mw_book.specs.FilePlaces.{flag_of, place_in}

@@ -13,7 +13,7 @@ ghost use Rattle.mw_words.specs.declared.jobs.Entry.{Entry as EntryAt};
 ghost use Rattle.mw_file.specs.File.{disk_of, words_of, states_of, has_failed};
 ghost use Rattle.mw_file.specs.PlaceStates.{all_free};
 ghost use Rattle.mw_file.specs.RecoveryInvariant.{RecoversTo};
-ghost use Rattle.mw_world_file.specs.Files.{File, empty_from, file_of};
+ghost use Rattle.mw_world.specs.Files.State.{File, empty_from, file_of};
 ghost use Rattle.mw_book.specs.declared.waiting.Waiting.{Waiting as WaitingAt};
 ghost use Rattle.mw_book.specs.FilePlaces.{IsPermutation};
 ghost use Rattle.mw_book.specs.OpenFile.{words_in, places_in, has_failed_in};

@@ -4,7 +4,7 @@
 //! Whoever holds the tenant's lock makes the calls. Each call tells whether the device failed. After the first
 //! failure only a cancel does anything, until the file is opened again.
 //!
-//! A book represents files as the world's definitions know them (`File` of `mw_world_file`): the words, the places
+//! A book represents files as the world's definitions know them (`File` of `mw_world`): the words, the places
 //! with their changes, the place of each slot, whether the file has failed, and the change in doubt. If a book
 //! represents a file before a call, it represents after the call the file that the world has then. A call that the
 //! world can make on the file may be made on the book.

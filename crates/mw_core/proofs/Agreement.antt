@@ -10,9 +10,9 @@ use Rattle.mw_look.specs.declared.steps.Call.{Call}
 use Rattle.mw_look.specs.declared.steps.Call.TheVariants.{Prepare as PrepareCall, Seal as SealCall, Settle as SettleCall, Cancel as CancelCall}
 use Rattle.mw_actor.specs.ActorState.{own_entries}
 use Rattle.mw_disk.specs.Facts.{Facts}
-use Rattle.mw_world_file.specs.Calls.{can_be_made, doubt_of, filed, place_for}
-use Rattle.mw_world_file.specs.Files.{File, broken, entries_at, file_of}
-use Rattle.mw_world_file.proofs.KeptPlaces.{upd_there}
+use Rattle.mw_world.specs.Files.Calls.{can_be_made, doubt_of, filed, place_for}
+use Rattle.mw_world.specs.Files.State.{File, broken, entries_at, file_of}
+use Rattle.mw_world.proofs.MapLaws.{upd_there}
 use Rattle.mw_book.specs.declared.answers.Filed.TheVariants.{Made, Broken, Untouched}
 use Rattle.mw_book.specs.declared.book.Book.{Book}
 use Rattle.mw_book.specs.Representation.{Represents}

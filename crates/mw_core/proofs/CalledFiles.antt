@@ -12,8 +12,8 @@ use Rattle.mw_look.specs.Steps.{op_of}
 use Rattle.mw_actor.specs.ActorState.{ActorState, own_entries}
 use Rattle.mw_actor.specs.Asks.{asks}
 use Rattle.mw_disk.specs.Facts.{Facts}
-use Rattle.mw_world_file.specs.declared.outcomes.Outcome.TheVariants.{Good}
-use Rattle.mw_world_file.specs.Files.{File}
+use Rattle.mw_world.specs.declared.outcomes.Outcome.TheVariants.{Good}
+use Rattle.mw_world.specs.Files.State.{File}
 use Rattle.mw_world.specs.Definition.Calls.{Called as CallOn, called_at, starts_from}
 use Rattle.mw_world.specs.Definition.Events.{File as FileEvent}
 use Rattle.mw_book.specs.declared.answers.Filed.{Filed}

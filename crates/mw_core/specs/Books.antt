@@ -8,8 +8,8 @@ use Rattle.mw_words.specs.declared.statuses.Status.{Status}
 use Rattle.mw_look.specs.declared.steps.Call.{Call}
 use Rattle.mw_actor.specs.ActorState.{ActorState, own_entries}
 use Rattle.mw_disk.specs.Facts.{Facts}
-use Rattle.mw_world_file.specs.Calls.{doubt_of, fails_on, place_for}
-use Rattle.mw_world_file.specs.Files.{entries_at, file_of}
+use Rattle.mw_world.specs.Files.Calls.{doubt_of, fails_on, place_for}
+use Rattle.mw_world.specs.Files.State.{entries_at, file_of}
 use Rattle.mw_world.specs.Definition.Calls.{Called as CallOn}
 use Rattle.mw_book.specs.declared.answers.Filed.{Filed}
 use Rattle.mw_book.specs.declared.answers.Filed.TheVariants.{Made, Broken, Untouched}

@@ -11,9 +11,9 @@ use Rattle.mw_look.specs.declared.observations.Observation.TheVariants.{Filed}
 use Rattle.mw_actor.specs.ActorState.{ActorState, own_entries}
 use Rattle.mw_actor.specs.Program.{tells}
 use Rattle.mw_disk.specs.Facts.{Facts}
-use Rattle.mw_world_file.specs.declared.outcomes.Outcome.TheVariants.{Good, Fail}
-use Rattle.mw_world_file.specs.Calls.{place_for}
-use Rattle.mw_world_file.specs.Crashes.{at_stake}
+use Rattle.mw_world.specs.declared.outcomes.Outcome.TheVariants.{Good, Fail}
+use Rattle.mw_world.specs.Files.Calls.{place_for}
+use Rattle.mw_world.specs.Files.Crashes.{at_stake}
 use Rattle.mw_world.specs.Definition.Calls.{Called as CallOn, called_at}
 use Rattle.mw_world.specs.Definition.Events.{WorldEvent, File as FileEvent}
 use Rattle.mw_book.specs.declared.book.Book.{Book}

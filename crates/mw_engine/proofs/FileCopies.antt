@@ -6,7 +6,7 @@ use Rattle.std.proofs.Common.{refl, subst, ◌∙◌, inr}
 use Rattle.std.proofs.Math.Logic.{∥∥₁_map}
 use Rattle.mw_disk.specs.Facts.{Facts}
 use Rattle.mw_file.specs.declared.tenant_file.CopyFault.{CopyFault}
-use Rattle.mw_world_file.specs.Files.{File}
+use Rattle.mw_world.specs.Files.State.{File}
 use Rattle.mw_book.specs.declared.book.Book.{Book}
 use Rattle.mw_book.specs.Copies.{CopyEnds, IsOnlyRead}
 use Rattle.mw_book.specs.Representation.{Represents}

@@ -10,7 +10,7 @@ use Rattle.mw_file.specs.File.{disk_of, words_of, states_of, has_failed}
 use Rattle.mw_file.specs.RecoveryInvariant.{RecoversTo}
 use Rattle.mw_file.specs.PlaceStates.{all_free}
 use Rattle.mw_config.specs.declared.lines.TenantLine.{TenantLine}
-use Rattle.mw_world_file.specs.Files.{File, file_of}
+use Rattle.mw_world.specs.Files.State.{File, file_of}
 use Rattle.mw_world.specs.declared.config.Tenant.{Tenant}
 use Rattle.mw_world.specs.Definition.State.{TenantStart}
 use Rattle.mw_book.specs.declared.book.Book.{Book}

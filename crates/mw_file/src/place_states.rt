@@ -2,8 +2,8 @@
 //! write.
 //!
 //! `opening.rt` makes them, `tenant_file.rt` and `new_changes.rt` change them, `roll.rt` reads them. Used also by mw_book
-//! (`place_table.rt`, `waiting.rt`), and by contracts of mw_plain, mw_world_file and mw_engine. A new [`Stage`] needs
-//! a case in `specs/PlaceStates`, `specs/DeviceCalls`, `specs/RollForward`, `specs/Stores` and `specs/Taken`, and in
+//! (`place_table.rt`, `waiting.rt`), and by definitions of mw_plain, mw_world, mw_world_file and mw_engine. A new [`Stage`]
+//! needs a case in `specs/PlaceStates`, `specs/DeviceCalls`, `specs/RollForward`, `specs/Stores` and `specs/Taken`, and in
 //! `specs/Permits`, `specs/SettledAhead` and `place_table.rt` of mw_book.
 ghost use Rattle.std.specs.Prelude.{◌≡◌, IfOk};
 ghost use Rattle.mw_record.specs.Layout.{pairs_of};

@@ -12,8 +12,8 @@ use Rattle.mw_look.specs.Observations.{IsObservationInRange}
 use Rattle.mw_actor.specs.declared.points.Slot.{Slot}
 use Rattle.mw_actor.specs.ActorState.{ActorState, own_entries}
 use Rattle.mw_actor.proofs.RangeLaws.{tells_in_range}
-use Rattle.mw_world_file.specs.declared.outcomes.Outcome.{Outcome}
-use Rattle.mw_world_file.specs.declared.outcomes.Outcome.TheVariants.{Good, Fail}
+use Rattle.mw_world.specs.declared.outcomes.Outcome.{Outcome}
+use Rattle.mw_world.specs.declared.outcomes.Outcome.TheVariants.{Good, Fail}
 use Rattle.mw_world.specs.declared.config.Config.{Config}
 use Rattle.mw_world.specs.Definition.Calls.{Called, call, call_if, called_at, calling, ends, moved_if, starts_from, fails_on, place_for, can_be_made, calls_made, is_made, skips, faults, goes_well, breaks}
 use Rattle.mw_world.specs.Definition.Cells.{Cells}

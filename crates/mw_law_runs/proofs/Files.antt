@@ -18,10 +18,10 @@ use Rattle.mw_look.specs.declared.steps.Call.TheVariants.{Prepare as PrepareCall
 use Rattle.mw_actor.specs.declared.points.Slot.{Slot}
 use Rattle.mw_actor.specs.ActorState.{ActorState, entries_of_job, own_entries}
 use Rattle.mw_actor.specs.Ranges.{IsFormed}
-use Rattle.mw_world_file.specs.declared.outcomes.Outcome.{Outcome}
-use Rattle.mw_world_file.specs.declared.outcomes.Outcome.TheVariants.{Good, Fail}
-use Rattle.mw_world_file.specs.Files.{File, Place, Empty, Prepared, Sealed, file_of, entries_in, entries_at, broken}
-use Rattle.mw_world_file.specs.Maps.{upd}
+use Rattle.mw_world.specs.declared.outcomes.Outcome.{Outcome}
+use Rattle.mw_world.specs.declared.outcomes.Outcome.TheVariants.{Good, Fail}
+use Rattle.mw_world.specs.Files.State.{File, Place, Empty, Prepared, Sealed, file_of, entries_in, entries_at, broken}
+use Rattle.mw_world.specs.Maps.{upd}
 use Rattle.mw_world.specs.declared.config.Config.{Config}
 use Rattle.mw_world.specs.declared.step_labels.StepLabel.TheVariants.{Nothing}
 use Rattle.mw_world.specs.Definition.Calls.{Called, breaks, called_at, doubt_of, ends, faults, filed, goes_well, is_made, moved_if, place_for, skips}

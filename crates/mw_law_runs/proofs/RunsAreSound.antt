@@ -8,7 +8,7 @@ use Rattle.mw_words.specs.declared.replies.Reply.{Reply}
 use Rattle.mw_words.specs.Change.{AreWords}
 use Rattle.mw_actor.specs.ActorState.{ActorState, own_entries}
 use Rattle.mw_actor.specs.Program.{replied}
-use Rattle.mw_world_file.specs.declared.outcomes.Outcome.{Outcome}
+use Rattle.mw_world.specs.declared.outcomes.Outcome.{Outcome}
 use Rattle.mw_world.specs.declared.config.Config.{Config}
 use Rattle.mw_world.specs.Definition.Calls.{Called, call, call_if, called_at, calling, calls_made, can_be_made, fails_on, moved_if, place_for, starts_from}
 use Rattle.mw_world.specs.Definition.Extent.{has_slot}

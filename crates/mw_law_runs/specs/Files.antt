@@ -5,7 +5,7 @@ use Rattle.std.specs.List.{list_all}
 use Rattle.mw_words.specs.declared.jobs.Entry.{Entry}
 use Rattle.mw_words.specs.declared.limits.TheConstants.{MAX_WORDS}
 use Rattle.mw_words.specs.Change.{AreWords, is_in_range}
-use Rattle.mw_world_file.specs.Files.{File, entries_at}
+use Rattle.mw_world.specs.Files.State.{File, entries_at}
 use Rattle.mw_world.specs.Definition.State.{State}
 
 -- each of these entries has an address that a tenant may have, and its values are values of a word

@@ -9,7 +9,7 @@ use Rattle.std.proofs.lemmas.List.{take-append-le}
 use Rattle.std.proofs.lemmas.Option.{same_Some, none-some, slice_get_within}
 use Rattle.mw_lone.specs.declared.marks.Mark.{Mark}
 use Rattle.mw_lone.specs.declared.marks.Mark.TheVariants.{Ask, Admit, Busy, Look, Miss, Seal, SealFail, FileFail, GiveUp, Retire, Reply as HandOut, Restart}
-use Rattle.mw_world_file.proofs.KeptPlaces.{get_written, get_others}
+use Rattle.mw_world.proofs.MapLaws.{get_written, get_others}
 use Rattle.mw_law_store.specs.Late.LateMarks.{more}
 use Rattle.mw_law_store.specs.Laws.{LinesAreAbstractStates}
 use Rattle.mw_law_store.specs.AbstractStates.{AbstractState, after_mark, after_line, abstract_state_of, abstract_state_at}

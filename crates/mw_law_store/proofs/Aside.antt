@@ -10,7 +10,7 @@ use Rattle.mw_words.specs.declared.statuses.Status.TheVariants.{Yes, No}
 use Rattle.mw_lone.specs.Store.{Store}
 use Rattle.mw_actor.specs.declared.points.Slot.{Slot}
 use Rattle.mw_actor.specs.ActorState.{ActorState, own_entries, first}
-use Rattle.mw_world_file.specs.Maps.{upd_two}
+use Rattle.mw_world.specs.Maps.{upd_two}
 use Rattle.mw_world.specs.declared.config.Config.{Config}
 use Rattle.mw_world.specs.declared.step_labels.StepLabel.{StepLabel}
 use Rattle.mw_world.specs.declared.step_labels.StepLabel.TheVariants.{Claimed, Decided, Refused, GaveUp, SealedIt, FailedToSeal}

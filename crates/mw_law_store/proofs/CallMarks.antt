@@ -14,10 +14,10 @@ use Rattle.mw_look.specs.declared.observations.Observation.{Observation}
 use Rattle.mw_look.specs.declared.steps.Call.{Call}
 use Rattle.mw_actor.specs.declared.points.Slot.{Slot}
 use Rattle.mw_actor.specs.ActorState.{ActorState}
-use Rattle.mw_world_file.specs.declared.outcomes.Outcome.{Outcome}
-use Rattle.mw_world_file.specs.declared.outcomes.Outcome.TheVariants.{Good, Fail}
-use Rattle.mw_world_file.specs.Files.{File, entries_at, sealed, broken}
-use Rattle.mw_world_file.specs.Maps.{upd}
+use Rattle.mw_world.specs.declared.outcomes.Outcome.{Outcome}
+use Rattle.mw_world.specs.declared.outcomes.Outcome.TheVariants.{Good, Fail}
+use Rattle.mw_world.specs.Files.State.{File, entries_at, sealed, broken}
+use Rattle.mw_world.specs.Maps.{upd}
 use Rattle.mw_world.specs.declared.step_labels.StepLabel.{StepLabel}
 use Rattle.mw_world.specs.declared.step_labels.StepLabel.TheVariants.{Nothing, SealedIt, FailedToSeal, FailedFile}
 use Rattle.mw_world.specs.Definition.Calls.{breaks, ends, faults, goes_well, is_made, moved_if, skips}

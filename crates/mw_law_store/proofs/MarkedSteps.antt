@@ -13,8 +13,8 @@ use Rattle.mw_law_store.specs.Late.MarkEffects.{Admits, RefusesBusy, GivesUp, Lo
 use Rattle.mw_look.specs.declared.observations.Observation.{Observation}
 use Rattle.mw_actor.specs.declared.points.Slot.{Slot}
 use Rattle.mw_actor.specs.ActorState.{ActorState, entry_at}
-use Rattle.mw_world_file.specs.Files.{File}
-use Rattle.mw_world_file.specs.Maps.{upd}
+use Rattle.mw_world.specs.Files.State.{File}
+use Rattle.mw_world.specs.Maps.{upd}
 use Rattle.mw_world.specs.declared.step_labels.StepLabel.{StepLabel}
 use Rattle.mw_world.specs.declared.step_labels.StepLabel.TheVariants.{Admitted, FoundBusy, FoundFault, Looked, LookedBefore, Refused, Lowered as IsLowered, GaveUp}
 use Rattle.mw_world.specs.Definition.Cells.{Cells}

@@ -9,7 +9,7 @@ use Rattle.mw_words.specs.declared.replies.Reply.{Reply}
 use Rattle.mw_lone.specs.Store.{RequestState, entries_of}
 use Rattle.mw_actor.specs.declared.points.Slot.{Slot}
 use Rattle.mw_actor.specs.ActorState.{ActorState}
-use Rattle.mw_world_file.specs.Maps.{upd}
+use Rattle.mw_world.specs.Maps.{upd}
 use Rattle.mw_world.specs.Definition.State.{WorkerState}
 use Rattle.mw_law_runs.specs.Obligations.{own_of}
 use Rattle.mw_law_store.proofs.Ends.{OwnGoes}

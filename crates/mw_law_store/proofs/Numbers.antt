@@ -18,7 +18,7 @@ use Rattle.mw_actor.specs.ActorState.{ActorState, first_point}
 use Rattle.mw_actor.specs.Admission.{is_worn}
 use Rattle.mw_actor.specs.Asks.{asks, asks_at}
 use Rattle.mw_actor.specs.Program.{replied}
-use Rattle.mw_world_file.specs.declared.outcomes.Outcome.{Outcome}
+use Rattle.mw_world.specs.declared.outcomes.Outcome.{Outcome}
 use Rattle.mw_world.specs.declared.config.Config.{Config}
 use Rattle.mw_world.specs.Claim.Headline.{HasNumbers}
 use Rattle.mw_world.specs.Definition.Calls.{Called, call, call_if, called_at}

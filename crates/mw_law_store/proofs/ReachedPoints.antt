@@ -8,8 +8,8 @@ use Rattle.mw_words.specs.declared.replies.Reply.{Reply}
 use Rattle.mw_look.specs.declared.observations.Observation.TheVariants.{Filed}
 use Rattle.mw_actor.specs.ActorState.{ActorState, own_entries, first}
 use Rattle.mw_actor.specs.Program.{goes as goes_to, replied}
-use Rattle.mw_world_file.specs.declared.outcomes.Outcome.{Outcome}
-use Rattle.mw_world_file.specs.Maps.{upd}
+use Rattle.mw_world.specs.declared.outcomes.Outcome.{Outcome}
+use Rattle.mw_world.specs.Maps.{upd}
 use Rattle.mw_world.specs.declared.config.Config.{Config}
 use Rattle.mw_world.specs.Claim.Headline.{IsExecution}
 use Rattle.mw_world.specs.declared.step_labels.StepLabel.TheVariants.{Nothing}

@@ -9,9 +9,9 @@ use Rattle.mw_lone.specs.Store.{Store, RequestState, request}
 use Rattle.mw_law_store.specs.Late.LateMarks.{IsNumbered}
 use Rattle.mw_look.specs.declared.observations.Observation.{Observation}
 use Rattle.mw_actor.specs.ActorState.{ActorState}
-use Rattle.mw_world_file.specs.Files.{File}
+use Rattle.mw_world.specs.Files.State.{File}
 use Rattle.mw_world.specs.declared.step_labels.StepLabel.{StepLabel}
-use Rattle.mw_world_file.specs.Maps.{upd, upd_two}
+use Rattle.mw_world.specs.Maps.{upd, upd_two}
 use Rattle.mw_world.specs.Definition.Cells.{Cells}
 use Rattle.mw_world.specs.Definition.LabelEffects.{with_label, with_labels}
 use Rattle.mw_world.specs.Definition.State.{State, WorkerState, TenantState}

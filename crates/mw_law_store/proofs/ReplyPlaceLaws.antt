@@ -10,7 +10,7 @@ use Rattle.mw_words.specs.declared.jobs.Job.{Job}
 use Rattle.mw_lone.specs.declared.marks.Mark.{Mark}
 use Rattle.mw_lone.specs.declared.marks.Mark.TheVariants.{Ask, Seal}
 use Rattle.mw_actor.specs.ActorState.{ActorState, first}
-use Rattle.mw_world_file.specs.declared.outcomes.Outcome.{Outcome}
+use Rattle.mw_world.specs.declared.outcomes.Outcome.{Outcome}
 use Rattle.mw_world.specs.declared.config.Config.{Config}
 use Rattle.mw_world.specs.declared.step_labels.StepLabel.{StepLabel}
 use Rattle.mw_world.specs.declared.step_labels.StepLabel.TheVariants.{Reserved, Freed}

@@ -12,7 +12,7 @@ use Rattle.mw_lone.specs.Store.{Store, RequestState, request}
 use Rattle.mw_lone.proofs.SoundStores.{get-insert_same, get-insert_other}
 use Rattle.mw_actor.specs.declared.points.Slot.{Slot}
 use Rattle.mw_actor.specs.ActorState.{ActorState}
-use Rattle.mw_world_file.specs.Maps.{upd}
+use Rattle.mw_world.specs.Maps.{upd}
 use Rattle.mw_world.specs.Definition.State.{WorkerState}
 use Rattle.mw_law_runs.proofs.Knowledge.Updates.Preservation.{upd_here, upd_else}
 use Rattle.mw_law_runs.specs.Obligations.{own_of}

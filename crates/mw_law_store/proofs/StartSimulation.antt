@@ -19,8 +19,8 @@ use Rattle.mw_actor.specs.declared.points.Point.TheVariants.{Prepare, Seal, Sett
 use Rattle.mw_actor.specs.declared.points.Slot.{Slot}
 use Rattle.mw_actor.specs.declared.points.Task.{Task}
 use Rattle.mw_actor.specs.ActorState.{ActorState, own_entries}
-use Rattle.mw_world_file.specs.Files.{is_empty, entries_in, entries_at}
-use Rattle.mw_world_file.specs.Calls.{device_calls}
+use Rattle.mw_world.specs.Files.State.{is_empty, entries_in, entries_at}
+use Rattle.mw_world.specs.Files.Calls.{device_calls}
 use Rattle.mw_world.specs.declared.config.Config.{Config}
 use Rattle.mw_world.specs.declared.events.Interrupted.{Interrupted}
 use Rattle.mw_world.specs.Claim.Headline.{RepresentsStore, LeavesStore}

@@ -15,7 +15,7 @@ use Rattle.mw_look.specs.Steps.{Step, Load, Change, File as FileStep}
 use Rattle.mw_actor.specs.ActorState.{ActorState}
 use Rattle.mw_actor.specs.Asks.{asks}
 use Rattle.mw_actor.specs.Program.{replied}
-use Rattle.mw_world_file.specs.Maps.{upd}
+use Rattle.mw_world.specs.Maps.{upd}
 use Rattle.mw_world.specs.declared.config.Config.{Config}
 use Rattle.mw_world.specs.Definition.Cells.{Cells, read, write}
 use Rattle.mw_look.specs.declared.steps.Shape.{Shape}

@@ -23,7 +23,7 @@ use Rattle.mw_actor.specs.declared.points.Sweep.{Sweep}
 use Rattle.mw_actor.specs.declared.points.Sweep.TheVariants.{Yes as SweepYes}
 use Rattle.mw_actor.specs.ActorState.{ActorState, entry_of}
 use Rattle.mw_actor.specs.Asks.{asks_at}
-use Rattle.mw_world_file.specs.Maps.{upd}
+use Rattle.mw_world.specs.Maps.{upd}
 use Rattle.mw_world.specs.declared.step_labels.StepLabel.{StepLabel}
 use Rattle.mw_world.specs.declared.step_labels.StepLabel.TheVariants.{Nothing, Admitted, Claimed, Freed, Lowered as IsLowered}
 use Rattle.mw_world.specs.Definition.Cells.{Cells, write}

@@ -13,8 +13,8 @@ use Rattle.mw_lone.specs.Store.{Store, request, entries_of, is_cas}
 use Rattle.mw_look.specs.declared.observations.Observation.{Observation}
 use Rattle.mw_actor.specs.declared.points.Slot.{Slot}
 use Rattle.mw_actor.specs.ActorState.{ActorState, own_entries, entries_of_job}
-use Rattle.mw_world_file.specs.Files.{File}
-use Rattle.mw_world_file.specs.Maps.{upd, upd_two}
+use Rattle.mw_world.specs.Files.State.{File}
+use Rattle.mw_world.specs.Maps.{upd, upd_two}
 use Rattle.mw_world.specs.declared.step_labels.StepLabel.{StepLabel}
 use Rattle.mw_world.specs.declared.step_labels.StepLabel.TheVariants.{Nothing, Reserved, Claimed, Decided, Refused, Moved, Freed, GaveUp}
 use Rattle.mw_world.specs.Definition.Cells.{Cells}

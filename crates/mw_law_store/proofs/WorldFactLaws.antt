@@ -21,7 +21,7 @@ use Rattle.mw_world.specs.Definition.Requests.{came, gave}
 use Rattle.mw_world.specs.Definition.Restarts.{restarted}
 use Rattle.mw_world.specs.Definition.State.{State, TenantState, IsConfig, WorkerState, started, world_at}
 use Rattle.mw_world.specs.Definition.World.{come, hand, handed, may_come, run, step}
-use Rattle.mw_world_file.specs.Maps.{upd}
+use Rattle.mw_world.specs.Maps.{upd}
 use Rattle.mw_law_runs.proofs.Counts.Startable.{may_start}
 use Rattle.mw_law_runs.proofs.Knowledge.Updates.Preservation.{upd_else, upd_here}
 use Rattle.mw_law_runs.specs.Files.{FilesFit}

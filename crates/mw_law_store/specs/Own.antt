@@ -6,7 +6,7 @@ use Rattle.std.specs.Option.{option_map, unwrap_or}
 use Rattle.mw_lone.specs.declared.marks.Mark.{Mark}
 use Rattle.mw_lone.specs.declared.marks.Mark.TheVariants.{SealFail, FileFail}
 use Rattle.mw_actor.specs.ActorState.{ActorState}
-use Rattle.mw_world_file.specs.declared.outcomes.Outcome.TheVariants.{Fail}
+use Rattle.mw_world.specs.declared.outcomes.Outcome.TheVariants.{Fail}
 use Rattle.mw_world.specs.declared.config.Config.{Config}
 use Rattle.mw_world.specs.Claim.Headline.{IsExecution}
 use Rattle.mw_world.specs.Definition.Events.{WorldEvent, Come, Step, File, Hand, Restart}

@@ -103,12 +103,9 @@ where
     requires promise { Promises D.facts J.identity Q.kept Q.shown }
     requires pages { PagesKeep G.answered Q.shown }
 {
-    if passes.is_empty() {
-        return Err(ServeFault::Memory);
-    }
     let meter = counted(server.listening, server.meters);
-    let workers = workers_for(server.rt, engine, passes, server.watch, meter)?;
-    serve_clients(server, workers, pages, console)
+    let workers = workers_for(server.rt, engine, passes, server.watch, meter);
+    serve_made(server, workers, pages, console)
 }
 
 /// Serves clients that share the passes, by a borrower for each of them. If there is an address for the administrator, the

@@ -539,14 +539,60 @@ where
     ensures script { (path : _) → setup.now.args.mode ≡ Script path
         → OnOk result (RunsScript R.is_plain R.Plain.remaining (string_bytes path) (C.printed console.old) (C.printed console.new) J.identity) }
 {
-    let engine = parts.into_engine::<J>(rt.alloc())?;
-    let network = network.for_engine::<J>();
-    match &setup.args.mode {
-        Mode::Script(path) => run_script(
+    match parts.into_engine::<J>(rt.alloc()) {
+        Ok(engine) => serve_started(
             rt,
             &engine,
             passes,
-            &network,
+            &network.for_engine::<J>(),
+            setup,
+            console,
+            notes,
+            watch,
+            meters,
+        ),
+        Err(_) => Err(ServeFault::Memory),
+    }
+}
+
+/// Serves what the command line asks for, by a started engine.
+fn serve_started<
+    'e,
+    J: EngineBrand + Send + Sync,
+    D: Disk + Drop + Send + Sync,
+    R,
+    N,
+    Q: ServerPromise,
+    C: ScriptConsole<Q>,
+    L: Log + Sync,
+    T: FaultWatch + FileLook + Sync,
+>(
+    rt: &'e R,
+    engine: &'e Engine<J, D, NoHold>,
+    passes: Vec<Pass>,
+    network: &'e EngineNetwork<'e, N, Q, J>,
+    setup: &'e Setup<'e>,
+    console: &mut C,
+    notes: &'e L,
+    watch: &'e T,
+    meters: &'e Meters,
+) -> Result<(), ServeFault>
+where
+    R: Files<File = File> + AllocGlobal + Threads + Wait + Clock + Sync + OpensPaths,
+    N: Files<File = File> + Net<Listener = TcpListener, Stream = TcpStream> + Clock + Sync,
+    requires new { All (IsNew J.identity) passes.items }
+    requires some { 0 < vec_len passes }
+    requires args { ArePermittedArgs setup.now.args }
+    requires promise { Promises D.facts J.identity (Q.kept_by J.identity) (Q.shown_by J.identity) }
+    ensures script { (path : _) → setup.now.args.mode ≡ Script path
+        → OnOk result (RunsScript R.is_plain R.Plain.remaining (string_bytes path) (C.printed console.old) (C.printed console.new) J.identity) }
+{
+    match &setup.args.mode {
+        Mode::Script(path) => run_script(
+            rt,
+            engine,
+            passes,
+            network,
             path.as_str(),
             console,
             notes,
@@ -563,7 +609,7 @@ where
                 meters,
                 held: held.as_ref(),
             };
-            serve_all_clients(&server, &engine, passes, console)
+            serve_all_clients(&server, engine, passes, console)
         }
     }
 }

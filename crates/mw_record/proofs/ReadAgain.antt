@@ -1,5 +1,5 @@
 -- The head of a file and the body of a record are read as they were written.
--- Used by: mw_file, mw_plain, mw_world_file, mw_book.
+-- Used by: mw_file, mw_plain, mw_world, mw_world_file, mw_book.
 use Rattle.std.proofs.Common.{◌≡◌, ℕ, ◌+◌, ◌-◌, ◌*◌, ◌^◌, ◌<◌, ◌≤◌, ◌&&◌, nat_eq, nat_le, nat_lt, Bool, true, Some, List, [], ◌∷◌, ◌++◌, length, get_or, take, set, replicate, slice_index, refl, sym, ap, ◌∙◌, subst, arith, append_assoc, add-zero}
 use Rattle.std.specs.Cmp.Lexicographic.{pointwise}
 use Rattle.std.specs.List.{flat_map, list_all}

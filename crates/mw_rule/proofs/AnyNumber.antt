@@ -7,8 +7,8 @@ use Rattle.std.proofs.lemmas.Bool.Decides.{nat_tests}
 use Rattle.std.proofs.lemmas.Option.{same_Some}
 use Rattle.mw_words.specs.declared.statuses.Status.{Status}
 use Rattle.mw_actor.specs.ActorState.{ActorState, own_entries}
-use Rattle.mw_world_file.specs.declared.outcomes.Outcome.TheVariants.{Fail}
-use Rattle.mw_world_file.specs.Files.{File, entries_at}
+use Rattle.mw_world.specs.declared.outcomes.Outcome.TheVariants.{Fail}
+use Rattle.mw_world.specs.Files.State.{File, entries_at}
 use Rattle.mw_world.specs.declared.config.Config.{Config}
 use Rattle.mw_world.specs.Definition.Calls.{Called, breaks, called_at, device_calls, is_made, place_for, starts_from}
 use Rattle.mw_world.specs.Definition.Events.{WorldEvent, File as FileEvent}

@@ -12,7 +12,7 @@ use Rattle.mw_look.specs.Steps.{Step, op_of, place}
 use Rattle.mw_actor.specs.ActorState.{ActorState}
 use Rattle.mw_actor.specs.Asks.{asks}
 use Rattle.mw_actor.specs.Program.{goes, tells}
-use Rattle.mw_world_file.specs.declared.outcomes.Outcome.{Outcome}
+use Rattle.mw_world.specs.declared.outcomes.Outcome.{Outcome}
 use Rattle.mw_world.specs.declared.config.Config.{Config}
 use Rattle.mw_world.specs.Claim.Headline.{IsExecution}
 use Rattle.mw_world.specs.Definition.Calls.{Called as CallOn, call, called_at}

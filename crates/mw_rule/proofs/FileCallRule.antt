@@ -11,7 +11,7 @@ use Rattle.mw_look.specs.declared.observations.Observation.TheVariants.{Filed}
 use Rattle.mw_look.specs.Places.{pack}
 use Rattle.mw_look.specs.Steps.{Step, op_of, place}
 use Rattle.mw_actor.specs.ActorState.{ActorState}
-use Rattle.mw_world_file.specs.declared.outcomes.Outcome.{Outcome}
+use Rattle.mw_world.specs.declared.outcomes.Outcome.{Outcome}
 use Rattle.mw_world.specs.declared.config.Config.{Config}
 use Rattle.mw_world.specs.Definition.Calls.{Called as CallOn, called_at}
 use Rattle.mw_world.specs.Definition.Cells.{Cells, read}

@@ -15,9 +15,9 @@ use Rattle.mw_look.specs.declared.steps.Call.TheVariants.{Prepare as PrepareCall
 use Rattle.mw_look.specs.Places.{pack}
 use Rattle.mw_look.specs.Steps.{op_of}
 use Rattle.mw_actor.specs.ActorState.{ActorState, own_entries}
-use Rattle.mw_world_file.specs.Files.{entries_at}
-use Rattle.mw_world_file.specs.declared.outcomes.Outcome.{Outcome}
-use Rattle.mw_world_file.specs.declared.outcomes.Outcome.TheVariants.{Good, Fail}
+use Rattle.mw_world.specs.Files.State.{entries_at}
+use Rattle.mw_world.specs.declared.outcomes.Outcome.{Outcome}
+use Rattle.mw_world.specs.declared.outcomes.Outcome.TheVariants.{Good, Fail}
 use Rattle.mw_world.specs.declared.config.Config.{Config}
 use Rattle.mw_world.specs.declared.step_labels.StepLabel.TheVariants.{Nothing}
 use Rattle.mw_world.specs.Claim.BitExactness.{IsBitExact}

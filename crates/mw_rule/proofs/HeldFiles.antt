@@ -11,7 +11,7 @@ use Rattle.mw_world.specs.Definition.Calls.{starts_from}
 use Rattle.mw_world.specs.Definition.Events.{WorldEvent, Come, Step}
 use Rattle.mw_world.specs.Definition.State.{State, TenantStart}
 use Rattle.mw_world.specs.Definition.World.{run}
-use Rattle.mw_world_file.specs.Files.{File}
+use Rattle.mw_world.specs.Files.State.{File}
 use Rattle.mw_rule.specs.Calls.OtherEvents.{AreBesideFile}
 use Rattle.mw_rule.specs.Calls.FileTokens.{TellsFile}
 use Rattle.mw_rule.proofs.Calls.OtherEventLaws.{others_leave_files_long}

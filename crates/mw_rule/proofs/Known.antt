@@ -8,7 +8,7 @@ use lib.ListN.{get_elem?}
 use Rattle.atomic_table.specs.Table.{State as Table}
 use Rattle.mw_words.specs.declared.statuses.Status.{Status}
 use Rattle.mw_actor.specs.ActorState.{ActorState, own_entries}
-use Rattle.mw_world_file.specs.Files.{File}
+use Rattle.mw_world.specs.Files.State.{File}
 use Rattle.mw_world.specs.declared.config.Config.{Config}
 use Rattle.mw_world.specs.Definition.Calls.{Called as CallOn, called_at, starts_from}
 use Rattle.mw_world.specs.Definition.Events.{WorldEvent}

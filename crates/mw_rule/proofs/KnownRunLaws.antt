@@ -3,7 +3,7 @@
 -- Used by: mw_table, mw_law_threads.
 use Rattle.std.specs.Prelude.{ℕ, ◌≡◌, List, [], ◌∷◌, ◌++◌, map, Option, Some, None}
 use Rattle.std.proofs.Common.{refl, sym, ap, subst, ◌∙◌, append_assoc, append-nil}
-use Rattle.mw_world_file.specs.declared.outcomes.Outcome.TheVariants.{Fail}
+use Rattle.mw_world.specs.declared.outcomes.Outcome.TheVariants.{Fail}
 use Rattle.mw_world.specs.declared.config.Config.{Config}
 use Rattle.mw_world.specs.Definition.Events.{WorldEvent, File as FileEvent}
 use Rattle.mw_world.specs.Definition.State.{TenantStart, world_at}

@@ -11,7 +11,7 @@ use Rattle.mw_look.specs.Steps.{op_of}
 use Rattle.mw_actor.specs.ActorState.{ActorState, own_entries}
 use Rattle.mw_actor.specs.Asks.{asks}
 use Rattle.mw_actor.specs.Program.{tells}
-use Rattle.mw_world_file.specs.Files.{entries_at}
+use Rattle.mw_world.specs.Files.State.{entries_at}
 use Rattle.mw_world.specs.Definition.Calls.{Called as CallOn, called_at, can_be_made, doubt_of, fails_on, place_for, starts_from}
 use Rattle.mw_rule.specs.declared.file_token.FileToken.{FileToken}
 use Rattle.mw_rule.specs.Calls.FileTokens.{file_told, file_token_broken, file_token_filed}

@@ -1,7 +1,7 @@
 -- Defines what a thread knows of the table's run: the run of the world that leads to the words in the table.
 -- Used by: src/views.rt, mw_table, mw_service, mw_law_threads. A change here changes the contracts of mw_table.
 use Rattle.std.specs.Prelude.{ℕ, zero, suc, ◌≡◌, List, [], ◌∷◌, ◌++◌, map, Option, Some, None}
-use Rattle.mw_world_file.specs.declared.outcomes.Outcome.TheVariants.{Fail}
+use Rattle.mw_world.specs.declared.outcomes.Outcome.TheVariants.{Fail}
 use Rattle.mw_world.specs.declared.config.Config.{Config}
 use Rattle.mw_world.specs.Definition.Events.{WorldEvent, File}
 use Rattle.mw_world.specs.Definition.State.{TenantStart, tenants_of}

@@ -10,7 +10,7 @@ use Rattle.mw_look.specs.declared.steps.Op.{Op}
 use Rattle.mw_look.specs.Places.{pack}
 use Rattle.mw_look.specs.Steps.{op_of, place_of}
 use Rattle.mw_actor.specs.ActorState.{ActorState}
-use Rattle.mw_world_file.specs.Files.{entries_at}
+use Rattle.mw_world.specs.Files.State.{entries_at}
 use Rattle.mw_world.specs.declared.config.Config.{Config}
 use Rattle.mw_world.specs.Claim.Headline.{IsExecution}
 use Rattle.mw_world.specs.Definition.Calls.{Called as CallOn, device_calls, is_made}

@@ -17,8 +17,8 @@ use Rattle.mw_look.specs.Places.{pack}
 use Rattle.mw_look.specs.Steps.{op_of, place_of}
 use Rattle.mw_actor.specs.ActorState.{ActorState}
 use Rattle.mw_actor.specs.Program.{replied}
-use Rattle.mw_world_file.specs.Files.{entries_at}
-use Rattle.mw_world_file.specs.declared.outcomes.Outcome.TheVariants.{Good, Fail}
+use Rattle.mw_world.specs.Files.State.{entries_at}
+use Rattle.mw_world.specs.declared.outcomes.Outcome.TheVariants.{Good, Fail}
 use Rattle.mw_world.specs.declared.config.Config.{Config}
 use Rattle.mw_world.specs.Definition.Calls.{Called as CallOn, device_calls, is_made, starts_from}
 use Rattle.mw_world.specs.Definition.Events.{WorldEvent, Come, Step, File as FileEvent, Hand}

@@ -21,12 +21,12 @@ use Rattle.mw_actor.specs.Program.{tells}
 use Rattle.mw_world_file.specs.declared.simulated_file.SimulatedFile.{SimulatedFile}
 use Rattle.mw_world_file.specs.declared.faults.BookFault.{BookFault}
 use Rattle.mw_world_file.specs.declared.faults.BookFault.TheVariants.{NotEnabled, Memory}
-use Rattle.mw_world_file.specs.declared.outcomes.Outcome.{Outcome}
-use Rattle.mw_world_file.specs.declared.outcomes.Outcome.TheVariants.{Good, Fail}
+use Rattle.mw_world.specs.declared.outcomes.Outcome.{Outcome}
+use Rattle.mw_world.specs.declared.outcomes.Outcome.TheVariants.{Good, Fail}
 use Rattle.mw_world_file.specs.Books.{Represents as ShowsFile, quota_of}
-use Rattle.mw_world_file.specs.Files.{File, entries_at}
+use Rattle.mw_world.specs.Files.State.{File, entries_at}
 use Rattle.mw_world_file.specs.CallEffects.{Works, worked, may_end, left_by}
-use Rattle.mw_world_file.specs.Maps.{upd}
+use Rattle.mw_world.specs.Maps.{upd}
 use Rattle.mw_world.specs.declared.step_labels.StepLabel.TheVariants.{Nothing}
 use Rattle.mw_world.specs.declared.config.Config.{Config}
 use Rattle.mw_world.specs.Definition.Calls.{Called, calling, ends, starts_from, fails_on, is_formed, suits, place_for, device_calls, is_made, status_after, skips, called_at, call_if, moved_if}

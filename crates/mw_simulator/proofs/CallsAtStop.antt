@@ -11,7 +11,7 @@ use Rattle.mw_look.specs.declared.steps.Call.{Call}
 use Rattle.mw_look.specs.declared.steps.Call.TheVariants.{Prepare as PrepareCall, Seal as SealCall, Settle as SettleCall, Cancel as CancelCall}
 use Rattle.mw_actor.specs.ActorState.{ActorState, own_entries}
 use Rattle.mw_world_file.specs.DeviceCalls.{call_list}
-use Rattle.mw_world_file.specs.Files.{entries_at}
+use Rattle.mw_world.specs.Files.State.{entries_at}
 use Rattle.mw_world.specs.declared.config.Config.{Config}
 use Rattle.mw_world.specs.Definition.Calls.{Called, device_calls, fails_on, is_formed, place_for, starts_from, suits}
 use Rattle.mw_world.specs.Definition.Extent.{has_slot}

@@ -14,11 +14,11 @@ use Rattle.mw_look.specs.declared.steps.Call.{Call}
 use Rattle.mw_look.specs.declared.steps.Call.TheVariants.{Prepare as PrepareCall, Seal as SealCall, Settle as SettleCall, Cancel as CancelCall}
 use Rattle.mw_actor.specs.ActorState.{ActorState, own_entries}
 use Rattle.mw_world_file.specs.declared.simulated_file.SimulatedFile.{SimulatedFile}
-use Rattle.mw_world_file.specs.declared.outcomes.Outcome.{Outcome}
+use Rattle.mw_world.specs.declared.outcomes.Outcome.{Outcome}
 use Rattle.mw_world_file.specs.Books.{Represents as ShowsFile, quota_of}
-use Rattle.mw_world_file.specs.Crashes.{IsFileOfEither, at_stake}
+use Rattle.mw_world.specs.Files.Crashes.{IsFileOfEither, at_stake}
 use Rattle.mw_world_file.specs.Devices.{disk_under}
-use Rattle.mw_world_file.specs.Files.{File, entries_at}
+use Rattle.mw_world.specs.Files.State.{File, entries_at}
 use Rattle.mw_world.specs.declared.config.Config.{Config}
 use Rattle.mw_world.specs.Definition.Calls.{Called, called_at, calling, calls_made, can_be_made, device_calls, ends, fails_on, place_for, starts_from}
 use Rattle.mw_world.specs.Definition.Extent.{has_slot}

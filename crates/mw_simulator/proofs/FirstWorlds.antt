@@ -13,9 +13,9 @@ use Rattle.mw_words.specs.declared.jobs.Entry.{Entry}
 use Rattle.mw_words.specs.Change.{AreWords, is_change, put}
 use Rattle.mw_words.specs.declared.limits.TheConstants.{MAX_VALUE}
 use Rattle.mw_world_file.specs.declared.simulated_file.SimulatedFile.{SimulatedFile}
-use Rattle.mw_world_file.specs.declared.unopened.TheConstants.{OLD_ENTRIES, OLD_PLACES}
+use Rattle.mw_world.specs.declared.old_files.TheConstants.{OLD_ENTRIES, OLD_PLACES}
 use Rattle.mw_world_file.specs.Books.{Represents as ShowsFile}
-use Rattle.mw_world_file.specs.Files.{File, broken, file_of}
+use Rattle.mw_world.specs.Files.State.{File, broken, file_of}
 use Rattle.mw_world_file.specs.StartValues.{IsGiven}
 use Rattle.mw_world.specs.declared.config.Config.{Config}
 use Rattle.mw_world.specs.Definition.History.{no_history}

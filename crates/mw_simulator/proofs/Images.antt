@@ -7,9 +7,9 @@ use Rattle.mw_disk.specs.Facts.{MayLeave}
 use Rattle.mw_disk.specs.Memory.{memory_facts}
 use Rattle.mw_world_file.specs.declared.device.Device.{Device}
 use Rattle.mw_world_file.specs.declared.device.Device.TheVariants.{Open, Shut}
-use Rattle.mw_world_file.specs.Crashes.{IsFileOfEither}
+use Rattle.mw_world.specs.Files.Crashes.{IsFileOfEither}
 use Rattle.mw_world_file.specs.Devices.{disk_under, DeviceRecoversTo}
-use Rattle.mw_world_file.proofs.CrashedFiles.{of_either}
+use Rattle.mw_world.proofs.EitherFile.{of_either}
 use Rattle.mw_world_file.specs.declared.simulated_file.SimulatedFile.{SimulatedFile}
 use Rattle.mw_lone.specs.Store.{entries_in_doubt}
 use Rattle.mw_world.specs.Claim.Headline.{EveryRunIsDurablyLinearizable}

@@ -11,7 +11,7 @@ use Rattle.mw_disk.specs.Memory.{memory_facts}
 use Rattle.mw_lone.specs.Store.{Store, entries_in_doubt}
 use Rattle.mw_world_file.specs.declared.simulated_file.SimulatedFile.{SimulatedFile}
 use Rattle.mw_world_file.specs.Devices.{disk_under}
-use Rattle.mw_world_file.specs.Files.{File}
+use Rattle.mw_world.specs.Files.State.{File}
 use Rattle.mw_world.specs.declared.config.Config.{Config}
 use Rattle.mw_world.specs.declared.events.Event.TheVariants.{Restart as IsRestart}
 use Rattle.mw_world.specs.declared.events.Interrupted.{Interrupted}

@@ -7,14 +7,14 @@ use Rattle.mw_look.specs.declared.steps.Call.{Call}
 use Rattle.mw_look.specs.declared.steps.Kind.TheVariants.{Fault as FaultKind}
 use Rattle.mw_look.specs.declared.observations.Observation.TheVariants.{Filed}
 use Rattle.mw_actor.specs.declared.points.Slot.{Slot}
-use Rattle.mw_world_file.specs.declared.outcomes.Outcome.{Outcome}
-use Rattle.mw_world_file.specs.declared.outcomes.Outcome.TheVariants.{Good, Fail}
+use Rattle.mw_world.specs.declared.outcomes.Outcome.{Outcome}
+use Rattle.mw_world.specs.declared.outcomes.Outcome.TheVariants.{Good, Fail}
 use Rattle.mw_world_file.specs.declared.faults.BookFault.{BookFault}
 use Rattle.mw_world_file.specs.declared.faults.BookFault.TheVariants.{NotEnabled, Memory}
 use Rattle.mw_world_file.specs.declared.simulated_file.SimulatedFile.{SimulatedFile}
 use Rattle.mw_world_file.specs.Books.{Represents as ShowsFile, places_of_file, quota_of}
 use Rattle.mw_world_file.specs.Crashes.{IsCrashSafe as IsCallSafe}
-use Rattle.mw_world_file.specs.Files.{File}
+use Rattle.mw_world.specs.Files.State.{File}
 use Rattle.mw_world.specs.declared.step_labels.StepLabel.{StepLabel}
 use Rattle.mw_world.specs.declared.step_labels.StepLabel.TheVariants.{Nothing}
 use Rattle.mw_world.specs.declared.config.Config.{Config}

@@ -4,7 +4,7 @@ use Rattle.std.specs.Prelude.{ℕ, ◌≡◌, true, Option, Some, Result, Ok}
 use Rattle.mw_disk.specs.Memory.{memory_facts}
 use Rattle.mw_disk.specs.Runs.{LeavesOnly}
 use Rattle.mw_world_file.specs.declared.simulated_file.SimulatedFile.{SimulatedFile}
-use Rattle.mw_world_file.specs.Crashes.{IsFileOfEither}
+use Rattle.mw_world.specs.Files.Crashes.{IsFileOfEither}
 use Rattle.mw_world_file.specs.Devices.{disk_under}
 use Rattle.mw_world.specs.declared.config.Config.{Config}
 use Rattle.mw_world.specs.declared.events.Event.{Event}

@@ -4,7 +4,7 @@ use Rattle.std.specs.Prelude.{ℕ, ◌≡◌, ◌&&◌, Bool, true, false, not, 
 use Rattle.mw_words.specs.declared.jobs.Entry.{Entry}
 use Rattle.mw_actor.specs.ActorState.{ActorState, own_entries}
 use Rattle.mw_world_file.specs.declared.simulated_file.SimulatedFile.{SimulatedFile}
-use Rattle.mw_world_file.specs.declared.outcomes.Outcome.{Outcome}
+use Rattle.mw_world.specs.declared.outcomes.Outcome.{Outcome}
 use Rattle.mw_world_file.specs.DeviceCalls.{CameExactly}
 use Rattle.mw_world.specs.declared.events.Event.{Event}
 use Rattle.mw_world.specs.declared.events.Event.TheVariants.{File as IsFile}

@@ -10,7 +10,7 @@ use Rattle.mw_disk.specs.DeviceCalls.{DeviceCall}
 use Rattle.mw_world_file.specs.declared.simulated_file.SimulatedFile.{SimulatedFile}
 use Rattle.mw_world_file.specs.DeviceCalls.{call_list}
 use Rattle.mw_world_file.specs.Devices.{disk_under}
-use Rattle.mw_world_file.specs.Files.{File}
+use Rattle.mw_world.specs.Files.State.{File}
 use Rattle.mw_world_file.specs.Openings.{CameOfBytes}
 use Rattle.mw_world_file.specs.Recovery.{IsLeftOf, IsCutImage}
 use Rattle.mw_world.specs.declared.events.Event.{Event}

@@ -8,8 +8,8 @@ use Rattle.mw_disk.specs.Memory.{memory_facts}
 use Rattle.mw_lone.specs.Store.{Store, entries_in_doubt}
 use Rattle.mw_record.specs.Damages.{file_words}
 use Rattle.mw_world_file.specs.declared.simulated_file.SimulatedFile.{SimulatedFile}
-use Rattle.mw_world_file.specs.declared.outcomes.Outcome.{Outcome}
-use Rattle.mw_world_file.specs.Crashes.{IsFileOfEither}
+use Rattle.mw_world.specs.declared.outcomes.Outcome.{Outcome}
+use Rattle.mw_world.specs.Files.Crashes.{IsFileOfEither}
 use Rattle.mw_world_file.specs.Devices.{disk_under}
 use Rattle.mw_world.specs.declared.config.Config.{Config}
 use Rattle.mw_world.specs.declared.events.Event.TheVariants.{File as IsFile, Restart as IsRestart}

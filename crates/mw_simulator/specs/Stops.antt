@@ -10,7 +10,7 @@ use Rattle.mw_world_file.specs.declared.faults.BookFault.{BookFault}
 use Rattle.mw_world_file.specs.declared.faults.BookFault.TheVariants.{NotEnabled, Memory}
 use Rattle.mw_world_file.specs.declared.simulated_file.SimulatedFile.{SimulatedFile}
 use Rattle.mw_world_file.specs.DeviceCalls.{cut_list}
-use Rattle.mw_world_file.specs.Files.{File}
+use Rattle.mw_world.specs.Files.State.{File}
 use Rattle.mw_world_file.specs.Recovery.{doubt_left, is_sealed_left, made_of, may_be_made}
 use Rattle.mw_world.specs.declared.config.Config.{Config}
 use Rattle.mw_world.specs.declared.events.Interrupted.{Interrupted}

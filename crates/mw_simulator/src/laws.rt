@@ -6,7 +6,7 @@
 //! definition in `specs`.
 ghost use Rattle.std.specs.Prelude.{◌≡◌, ℕ};
 ghost use Rattle.mw_world_file.specs.declared.simulated_file.SimulatedFile.{SimulatedFile};
-ghost use Rattle.mw_world_file.specs.declared.outcomes.Outcome.{Outcome};
+ghost use Rattle.mw_world.specs.declared.outcomes.Outcome.{Outcome};
 ghost use Rattle.mw_world_file.specs.Devices.{disk_under};
 ghost use Rattle.mw_world.specs.Definition.Events.{Found};
 ghost use Rattle.mw_world.specs.Definition.State.{State};

@@ -12,7 +12,7 @@ use Rattle.mw_words.specs.Patterns.{packed_status, unpacked_status}
 use Rattle.mw_look.specs.declared.steps.Call.{Call}
 use Rattle.mw_look.specs.declared.steps.Call.TheVariants.{Prepare as PrepareCall, Seal as SealCall, Settle as SettleCall, Cancel as CancelCall}
 use Rattle.mw_actor.specs.ActorState.{ActorState}
-use Rattle.mw_world_file.specs.declared.outcomes.Outcome.TheVariants.{Good}
+use Rattle.mw_world.specs.declared.outcomes.Outcome.TheVariants.{Good}
 use Rattle.mw_world.specs.declared.config.Config.{Config}
 use Rattle.mw_world.specs.Definition.Calls.{Called, called_at, starts_from, status_after}
 use Rattle.mw_world.specs.Definition.Extent.{has_place}

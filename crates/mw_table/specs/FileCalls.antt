@@ -5,8 +5,8 @@ use Rattle.mw_words.specs.declared.statuses.Status.{Status}
 use Rattle.mw_words.specs.Patterns.{IsStatusInRange, unpacked_status}
 use Rattle.mw_look.specs.declared.steps.Call.{Call}
 use Rattle.mw_actor.specs.ActorState.{ActorState}
-use Rattle.mw_world_file.specs.declared.outcomes.Outcome.TheVariants.{Good, Fail}
-use Rattle.mw_world_file.specs.Files.{entries_at}
+use Rattle.mw_world.specs.declared.outcomes.Outcome.TheVariants.{Good, Fail}
+use Rattle.mw_world.specs.Files.State.{entries_at}
 use Rattle.mw_world.specs.declared.config.Config.{Config}
 use Rattle.mw_world.specs.Claim.Headline.{IsExecution}
 use Rattle.mw_world.specs.Definition.Calls.{Called, device_calls, is_made}

@@ -12,11 +12,13 @@ use mw_words::{At, Job, Reply};
 use std::alloc::{AllocError, Global};
 use std::thread::{Threads, join};
 
-/// How often a word is loaded, and how often a thread reads one by whole requests. Both are odd: what an even number of
-/// equal values gives is 0.
+/// How often a word is loaded, and how often a thread reads one by whole requests.
 const LOADS: u64 = 100_000_001;
 
 const GETS: u64 = 1_000_001;
+
+/// The word of each tenant.
+const WORDS: [u64; 2] = [7, 9];
 
 /// What is done on the table.
 #[derive(Clone, Copy)]
@@ -74,7 +76,7 @@ fn new_neighbours(alloc: Global) -> Option<Neighbours>
     Some(Neighbours { core, one, other })
 }
 
-/// Loads the first tenant's word so often. Gives the exclusive or of the bits: of equal ones, the word's bits.
+/// Loads the first tenant's word so often. Gives how many loads found it, up to the first that didn't.
 fn loads(core: &Core, pass: &mut Pass) -> u64
     requires { MayGet core.now.shared pass.old 0 }
 {
@@ -82,40 +84,44 @@ fn loads(core: &Core, pass: &mut Pass) -> u64
         tenant: 0,
         address: 0,
     };
-    let mut found = 0;
-    for _ in 0..LOADS {
-        found ^= core.shared().figure(pass, at);
-    }
-    found
-}
-
-/// Reads the tenant's word so often, each time by a request. Gives the exclusive or of the values. If a read has to
-/// begin again, it stops and gives 0.
-fn gets(core: &Core, mut pass: Pass, tenant: u8) -> u64
-    requires { MayGet core.now.shared pass tenant }
-{
-    let mut found = 0;
-    for _ in 0..GETS {
-        let mut actor = Actor::new(pass.worker(), tenant, 1, 2, Job::Get(0));
-        match core.try_look(&mut pass, &mut actor) {
-            Ok(Reply::Val(value)) => found ^= value,
-            Ok(_) => {}
-            Err(_) => return 0,
+    for number in 0..LOADS {
+        if core.shared().figure(pass, at) != WORDS[0] {
+            return number;
         }
     }
-    found
+    LOADS
 }
 
-/// Two threads read at once, each on a tenant of its own.
+/// Reads the tenant's word so often, each time by a request. Gives how many reads gave this word, up to the first that gave
+/// something else, or had to begin again.
+fn gets(core: &Core, mut pass: Pass, tenant: u8, word: u64) -> u64
+    requires { MayGet core.now.shared pass tenant }
+{
+    for number in 0..GETS {
+        let mut actor = Actor::new(pass.worker(), tenant, 1, 2, Job::Get(0));
+        match core.try_look(&mut pass, &mut actor) {
+            Ok(Reply::Val(found)) if found == word => {}
+            _ => return number,
+        }
+    }
+    GETS
+}
+
+/// Two threads read at once, each on a tenant of its own. Gives how many reads of both gave the tenant's word.
 fn gets_of_two<R: Threads + Sync>(rt: &R, core: &Core, one: Pass, other: Pass) -> u64
     requires one { MayGet core.now.shared one 0 }
     requires other { MayGet core.now.shared other 1 }
 {
-    let (first, second) = join(rt, || gets(core, one, 0), || gets(core, other, 1));
-    first ^ second
+    let [first, second] = WORDS;
+    let (ones, others) = join(
+        rt,
+        || gets(core, one, 0, first),
+        || gets(core, other, 1, second),
+    );
+    ones.saturating_add(others)
 }
 
-/// Does this on a new table. Gives what was found, and None if memory is refused.
+/// Does this on a new table. Gives how often the words were found, and None if memory is refused.
 fn found<R: Threads + Sync>(rt: &R, alloc: Global, mode: Mode) -> Option<u64> {
     let Neighbours {
         core,
@@ -124,22 +130,22 @@ fn found<R: Threads + Sync>(rt: &R, alloc: Global, mode: Mode) -> Option<u64> {
     } = new_neighbours(alloc)?;
     Some(match mode {
         Mode::Loads => loads(&core, &mut one),
-        Mode::Gets => gets(&core, one, 0),
+        Mode::Gets => gets(&core, one, 0, WORDS[0]),
         Mode::GetsOfTwo => gets_of_two(rt, &core, one, other),
     })
 }
 
 #[test]
 fn loads_of_a_word(rt: HostRuntime) {
-    assert!(rt; found(&rt, rt.alloc(), Mode::Loads) == Some(7));
+    assert!(rt; found(&rt, rt.alloc(), Mode::Loads) == Some(LOADS));
 }
 
 #[test]
 fn gets_of_a_word(rt: HostRuntime) {
-    assert!(rt; found(&rt, rt.alloc(), Mode::Gets) == Some(7));
+    assert!(rt; found(&rt, rt.alloc(), Mode::Gets) == Some(GETS));
 }
 
 #[test]
 fn gets_of_two_tenants(rt: HostRuntime) {
-    assert!(rt; found(&rt, rt.alloc(), Mode::GetsOfTwo) == Some(7 ^ 9));
+    assert!(rt; found(&rt, rt.alloc(), Mode::GetsOfTwo) == Some(2 * GETS));
 }

@@ -11,8 +11,8 @@ use Rattle.arrayvec.specs.ArrayVec.{ArrayVec}
 use Rattle.mw_words.specs.declared.jobs.Entry.{Entry}
 use Rattle.mw_words.specs.declared.limits.TheConstants.{MAX_ENTRIES}
 use Rattle.mw_words.specs.Change.{AreWords, is_change, is_in_range, put, rises, word_at}
-use Rattle.mw_world_file.specs.declared.unopened.TheConstants.{OLD_ENTRIES, OLD_PLACES}
-use Rattle.mw_world_file.proofs.EnoughPlaces.{places_enough}
+use Rattle.mw_world.specs.declared.old_files.TheConstants.{OLD_ENTRIES, OLD_PLACES}
+use Rattle.mw_world.proofs.EnoughPlaces.{places_enough}
 use Rattle.mw_lone.proofs.KeptRuns.{put_words}
 use Rattle.mw_lone.proofs.SoundStores.{length-put}
 use Rattle.mw_actor.specs.ActorState.{ActorState}

@@ -1,2 +1,4 @@
 pub mod Claim
 pub mod Definition
+pub mod Files
+pub mod Maps

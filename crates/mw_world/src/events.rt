@@ -5,8 +5,8 @@
 //! events for proofs: a new kind needs a case there, in `specs/Definition/World`, and in `World::step` of
 //! mw_simulator.
 
+use crate::outcomes::Outcome;
 use mw_words::Job;
-pub use mw_world_file::Outcome;
 
 /// A call on a file that was interrupted: it never came to its end.
 #[derive(Clone, Copy, PartialEq, Eq)]

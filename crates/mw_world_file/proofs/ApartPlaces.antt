@@ -11,8 +11,9 @@ use Rattle.mw_file.specs.declared.place_states.PlaceState.{PlaceState}
 use Rattle.mw_file.specs.declared.place_states.Stage.TheVariants.{Free as FreeStage, Prepared as PreparedStage, Sealed as SealedStage}
 use Rattle.mw_file.specs.PlaceStates.{writes_of_place, MaySeal}
 use Rattle.mw_world_file.specs.declared.places.Place.{Place as KeptPlace}
-use Rattle.mw_world_file.specs.Files.{File, Place, Empty, Prepared, Sealed, is_empty, is_sealed, entries_in, entries_at, share_a_word, is_apart}
-use Rattle.mw_world_file.specs.Devices.{told, told_at, place_in, stage_told, is_clear, AreKept}
+use Rattle.mw_world.specs.Files.State.{File, Place, Empty, Prepared, Sealed, is_empty, is_sealed, entries_in, entries_at, share_a_word, is_apart}
+use Rattle.mw_world.specs.Files.Stages.{stage_told}
+use Rattle.mw_world_file.specs.Devices.{told, told_at, place_in, is_clear, AreKept}
 
 -- a test that all elements pass, at one of them
 all_at : {X : Type 0} (test : X → Bool) (xs : List X) (k : ℕ) (x : X) → list_all test xs ≡ true → slice_get xs k ≡ Some x → test x ≡ true

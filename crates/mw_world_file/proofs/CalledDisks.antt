@@ -12,8 +12,8 @@ use Rattle.mw_file.specs.declared.tenant_file.FileFault.TheVariants.{Disk, Faile
 use Rattle.mw_file.specs.File.{disk_of, has_failed, Ends}
 use Rattle.mw_world_file.specs.declared.device.Device.TheVariants.{Open}
 use Rattle.mw_world_file.specs.declared.simulated_file.SimulatedFile.{SimulatedFile}
-use Rattle.mw_world_file.specs.declared.outcomes.Outcome.{Outcome}
-use Rattle.mw_world_file.specs.declared.outcomes.Outcome.TheVariants.{Good, Fail}
+use Rattle.mw_world.specs.declared.outcomes.Outcome.{Outcome}
+use Rattle.mw_world.specs.declared.outcomes.Outcome.TheVariants.{Good, Fail}
 use Rattle.mw_world_file.specs.Devices.{disk_under, IsReady}
 use Rattle.mw_world_file.specs.CallEffects.{calls_for, failing, CallsRan, CameOf}
 use Rattle.mw_world_file.proofs.WorkedFiles.{unfailed_open}

@@ -1,5 +1,5 @@
 -- A crash at any moment of a call leaves the words from before the call, or these with one complete change.
--- Used by: SimulatedFile::prepare, seal, settle, cancel, mw_book, mw_simulator.
+-- Used by: SimulatedFile::prepare, seal, settle, cancel.
 use Rattle.std.proofs.Common.{◌≡◌, ℕ, true, false, List, length, Some, Result, Ok, Err, refl, sym, ap, subst, ◌∙◌, inl, inr}
 use Rattle.mw_words.specs.declared.jobs.Entry.{Entry}
 use Rattle.arrayvec.specs.ArrayVec.{ArrayVec}
@@ -20,21 +20,18 @@ use Rattle.mw_file.specs.PlaceStates.{writes_of_place}
 use Rattle.mw_world_file.specs.declared.device.Device.TheVariants.{Open}
 use Rattle.mw_world_file.specs.declared.places.Place.TheVariants.{Prepared as KeptPrepared}
 use Rattle.mw_world_file.specs.declared.simulated_file.SimulatedFile.{SimulatedFile}
-use Rattle.mw_world_file.specs.declared.outcomes.Outcome.{Outcome}
-use Rattle.mw_world_file.specs.declared.outcomes.Outcome.TheVariants.{Good, Fail}
+use Rattle.mw_world.specs.declared.outcomes.Outcome.{Outcome}
+use Rattle.mw_world.specs.declared.outcomes.Outcome.TheVariants.{Good, Fail}
 use Rattle.mw_world_file.specs.Books.{Represents, quota_of}
-use Rattle.mw_world_file.specs.Calls.{place_for}
-use Rattle.mw_world_file.specs.Crashes.{IsFileOfEither, IsCrashSafe, at_stake}
+use Rattle.mw_world.specs.Files.Calls.{place_for}
+use Rattle.mw_world.specs.Files.Crashes.{IsFileOfEither, at_stake}
+use Rattle.mw_world_file.specs.Crashes.{IsCrashSafe}
 use Rattle.mw_world_file.specs.Devices.{disk_under}
-use Rattle.mw_world_file.specs.Files.{File, entries_in}
+use Rattle.mw_world.specs.Files.State.{File, entries_in}
 use Rattle.mw_world_file.specs.CallEffects.{failing}
 use Rattle.mw_world_file.proofs.SealedFiles.{writes_are}
 use Rattle.mw_world_file.proofs.WorkedFiles.{IsAt, keeps_open, told_there}
-
--- bytes from before or after the change are a file of either words
-pub of_either : (places : ℕ) (words : List ℕ) (change : List Entry) (image : List ℕ) → IsBeforeOrAfter places words (pairs_of change) image → IsFileOfEither words change image
-of_either places words change image (inl is) = inl is.words_are
-of_either places words change image (inr is) = inr (is.words_are ∙ ap Some (sym (put-put_pairs change words)))
+use Rattle.mw_world.proofs.EitherFile.{of_either}
 
 -- what a crash leaves of a disk doesn't depend on the scripted fault
 untold : {P : List ℕ → Type 0} (outcome : Outcome) (disk before now : Memory) → (outcome ≡ Good → before ≡ disk) → ((number : ℕ) → outcome ≡ Fail number → before ≡ failing disk number)

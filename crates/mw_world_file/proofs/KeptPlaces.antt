@@ -1,5 +1,5 @@
 -- A simulated file's book keeps the record places of its file when one changes, and both find the same lowest empty one.
--- Used by: mw_book, mw_law_store, mw_rule, mw_table, mw_core.
+-- Used by: WorkedFiles.
 use Rattle.std.proofs.Common.{◌≡◌, ◌≢◌, ℕ, suc, ◌+◌, ◌<◌, ◌≤◌, ◌||◌, min, nat_lt, Bool, true, false, List, [], ◌∷◌, length, Option, Some, None, slice_get, slice_set, get_or, if◌then◌else◌, refl, sym, ap, ◌∙◌, inl, inr, arith}
 use Rattle.std.specs.List.{list_any}
 use Rattle.std.proofs.lemmas.Bool.{cases_Bool, cases_eq, cond-true, cond-false, eq-eqb, ne_eqb, or_left, lt-ltb, le-ltb}
@@ -11,33 +11,17 @@ use Rattle.mw_file.specs.declared.place_states.PlaceState.{PlaceState}
 use Rattle.mw_file.specs.declared.place_states.Stage.{Stage}
 use Rattle.mw_file.specs.PlaceStates.{is_free_stage, is_free, free_from, free_place, stage_of, writes_of_place, IsStaged}
 use Rattle.mw_world_file.specs.declared.places.Place.{Place as KeptPlace}
-use Rattle.mw_world_file.specs.Maps.{upd}
-use Rattle.mw_world_file.specs.Files.{File, Place, Empty, Prepared, Sealed, is_empty, entries_in, empty_from}
-use Rattle.mw_world_file.specs.Devices.{told, told_at, place_in, stage_told, AreKept}
-
--- a list after one element was written
-pub get_written : {X : Type 0} (xs : List X) (i : ℕ) (x : X) → i < length xs → slice_get (slice_set xs i x) i ≡ Some x
-get_written xs i x within = slice_get_read (slice_set xs i x) (length xs) i x (sym (length-set xs i x)) within (sym (get_or-set_same xs i x x within))
-
-pub get_others : {X : Type 0} (xs : List X) (i j : ℕ) (x : X) → j ≢ i → slice_get (slice_set xs i x) j ≡ slice_get xs j
-get_others xs i j x apart = elim ((slice_get_cases xs j).1) [
-  | inl there ↦
-      slice_get_read (slice_set xs i x) (length xs) j there.0 (sym (length-set xs i x)) there.1 (sym (get_or-set_other xs i j x there.0 apart ∙ there.3)) ∙ sym there.2
-  | inr past ↦ slice_get_past (slice_set xs i x) j (let e = length-set xs i x in let le = past.0 in omega arith) ∙ sym past.1
-]
+use Rattle.mw_world.specs.Maps.{upd}
+use Rattle.mw_world.specs.Files.State.{File, Place, Empty, Prepared, Sealed, is_empty, entries_in, empty_from}
+use Rattle.mw_world.specs.Files.Stages.{stage_told}
+use Rattle.mw_world_file.specs.Devices.{told, told_at, place_in, AreKept}
+use Rattle.mw_world.proofs.MapLaws.{get_written, get_others, upd_here, upd_there}
 
 pub place_written : (places : List KeptPlace) (number : ℕ) (p : KeptPlace) → number < length places → place_in (slice_set places number p) number ≡ told p
 place_written places number p within = ap told_at (get_written places number p within)
 
 pub place_others : (places : List KeptPlace) (number k : ℕ) (p : KeptPlace) → k ≢ number → place_in (slice_set places number p) k ≡ place_in places k
 place_others places number k p apart = ap told_at (get_others places number k p apart)
-
--- a map that was changed at one place
-pub upd_here : {A : Type 0} (f : ℕ → A) (i k : ℕ) (x : A) → k ≡ i → upd f i x k ≡ x
-upd_here f i k x same = cond-true _ x (f k) (eq-eqb k i same)
-
-pub upd_there : {A : Type 0} (f : ℕ → A) (i k : ℕ) (x : A) → k ≢ i → upd f i x k ≡ f k
-upd_there f i k x apart = cond-false _ x (f k) (ne_eqb k i apart)
 
 -- the places after one of them was written
 pub set_told : (at : ℕ → Place) (places : List KeptPlace) (number : ℕ) (p : KeptPlace) (place : Place) → place ≡ told p → number < length places
@@ -46,14 +30,6 @@ pub set_told : (at : ℕ → Place) (places : List KeptPlace) (number : ℕ) (p 
 set_told at places number p place is within same k lt = elim (cases_eq k number) [
   | inl here ↦ upd_here at number k place here ∙ is ∙ sym (ap (place_in (slice_set places number p)) here ∙ place_written places number p within)
   | inr apart ↦ upd_there at number k place apart ∙ same k (let e = length-set places number p in omega (arith, e, lt)) ∙ sym (place_others places number k p apart)
-]
-
--- the numbers after one of them was written
-pub set_number : (at : ℕ → ℕ) (numbers : List ℕ) (i n most : ℕ) → most ≤ length numbers → i < most → ((k : ℕ) → k < most → at k ≡ get_or numbers k 0)
-    → (k : ℕ) → k < most → upd at i n k ≡ get_or (slice_set numbers i n) k 0
-set_number at numbers i n most long within same k lt = elim (cases_eq k i) [
-  | inl here ↦ upd_here at i k n here ∙ sym (ap (λ j. get_or (slice_set numbers i n) j 0) here ∙ get_or-set_same numbers i n 0 (omega (arith, long, within)))
-  | inr apart ↦ upd_there at i k n apart ∙ same k lt ∙ sym (get_or-set_other numbers i k n 0 apart)
 ]
 
 -- the places are those of the file after one place of both changed

@@ -1,7 +1,6 @@
 pub mod ApartPlaces
 pub mod CalledDisks
 pub mod CrashedFiles
-pub mod EnoughPlaces
 pub mod ExactDisks
 mod FaultedFiles
 pub mod KeptPlaces

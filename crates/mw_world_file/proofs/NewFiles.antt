@@ -10,7 +10,7 @@ use Rattle.mw_record.specs.Contents.{MayHave}
 use Rattle.mw_record.proofs.ClosedPlaces.{new_file_has, new_file_first}
 use Rattle.mw_record.proofs.Sound.{first_file}
 use Rattle.mw_file.specs.RecoveryInvariant.{IsFile}
-use Rattle.mw_world_file.specs.FirstPlaces.{first_places}
+use Rattle.mw_world.specs.Files.FirstPlaces.{first_places}
 
 -- A new file represents zeros. The places that it was made with grow by PLACES_GROW when it is opened.
 new_is_file : (words places : ℕ) → MayHave First words places → IsFile (PLACES_GROW * places) (replicate words 0) (new_file words places)

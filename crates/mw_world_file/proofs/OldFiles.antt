@@ -25,10 +25,11 @@ use Rattle.mw_disk.specs.Memory.{Memory, memory_facts}
 use Rattle.mw_world_file.specs.declared.device.Device.TheVariants.{Shut}
 use Rattle.mw_world_file.specs.declared.places.Place.{Place as KeptPlace}
 use Rattle.mw_world_file.specs.declared.places.Place.TheVariants.{Empty as KeptEmpty}
-use Rattle.mw_world_file.specs.declared.unopened.TheConstants.{OLD_BODY, OLD_ENTRIES}
+use Rattle.mw_world.specs.declared.old_files.TheConstants.{OLD_ENTRIES}
+use Rattle.mw_world_file.specs.declared.unopened.TheConstants.{OLD_BODY}
 use Rattle.mw_world_file.specs.Books.{PartsRepresent}
 use Rattle.mw_world_file.specs.Devices.{place_in}
-use Rattle.mw_world_file.specs.Files.{broken, file_of}
+use Rattle.mw_world.specs.Files.State.{broken, file_of}
 use Rattle.mw_world_file.specs.OldFiles.{old_body, old_file}
 use Rattle.mw_world_file.proofs.OpenedFiles.{none_there, zero_there}
 

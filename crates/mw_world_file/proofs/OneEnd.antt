@@ -10,9 +10,9 @@ use Rattle.mw_world_file.specs.declared.faults.BookFault.TheVariants.{NotEnabled
 use Rattle.mw_world_file.specs.Books.{Represents, quota_of}
 use Rattle.mw_world_file.specs.DeviceCalls.{cut_list}
 use Rattle.mw_world_file.specs.Devices.{disk_under}
-use Rattle.mw_world_file.specs.Files.{File}
+use Rattle.mw_world.specs.Files.State.{File}
 use Rattle.mw_world_file.specs.Recovery.{Restarts, doubt_left, made_of}
-use Rattle.mw_world_file.specs.Restarts.{takes, may_fail, opened_file}
+use Rattle.mw_world.specs.Files.Restarts.{takes, may_fail, opened_file}
 use Rattle.mw_world_file.proofs.ExactDisks.{one_image}
 
 some_same : (x y : List ℕ) → Some x ≡ Some y → x ≡ y

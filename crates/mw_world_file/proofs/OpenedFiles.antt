@@ -18,8 +18,9 @@ use Rattle.mw_file.specs.RecoveryInvariant.{RecoversTo}
 use Rattle.mw_world_file.specs.declared.device.Device.TheVariants.{Open}
 use Rattle.mw_world_file.specs.declared.places.Place.{Place as KeptPlace}
 use Rattle.mw_world_file.specs.declared.places.Place.TheVariants.{Empty as KeptEmpty}
-use Rattle.mw_world_file.specs.Files.{Empty, is_empty, file_of}
-use Rattle.mw_world_file.specs.Devices.{place_in, stage_told, AreKept, DeviceRecoversTo}
+use Rattle.mw_world.specs.Files.State.{Empty, is_empty, file_of}
+use Rattle.mw_world.specs.Files.Stages.{stage_told}
+use Rattle.mw_world_file.specs.Devices.{place_in, AreKept, DeviceRecoversTo}
 use Rattle.mw_world_file.specs.Books.{PartsRepresent}
 
 -- each of `n` empty places is empty, and so is every place after them

@@ -12,8 +12,8 @@ use Rattle.mw_world_file.specs.declared.cut.Cut.{Cut}
 use Rattle.mw_world_file.specs.declared.cut.Left.{Left}
 use Rattle.mw_world_file.specs.declared.faults.BookFault.{BookFault}
 use Rattle.mw_world_file.specs.declared.faults.BookFault.TheVariants.{NotEnabled, Memory as NoMemory}
-use Rattle.mw_world_file.specs.Files.{File}
-use Rattle.mw_world_file.specs.Restarts.{takes, may_find, opened_file}
+use Rattle.mw_world.specs.Files.State.{File}
+use Rattle.mw_world.specs.Files.Restarts.{takes, may_find, opened_file}
 use Rattle.mw_world_file.specs.Books.{Represents, quota_of, places_of_file}
 use Rattle.mw_world_file.specs.Recovery.{doubt_left, is_sealed_left, IsRestarted, Restarts}
 use Rattle.mw_world_file.specs.StoppedFiles.{IsStopped, Stops, IsReopened, ReopenEnds}

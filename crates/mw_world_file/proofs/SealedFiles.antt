@@ -25,12 +25,13 @@ use Rattle.mw_world_file.specs.declared.device.Device.TheVariants.{Open, Shut}
 use Rattle.mw_world_file.specs.declared.places.Place.{Place as KeptPlace}
 use Rattle.mw_world_file.specs.declared.places.Place.TheVariants.{Empty as KeptEmpty, Prepared as KeptPrepared, Sealed as KeptSealed}
 use Rattle.mw_world_file.specs.declared.simulated_file.SimulatedFile.{SimulatedFile}
-use Rattle.mw_world_file.specs.declared.outcomes.Outcome.{Outcome}
-use Rattle.mw_world_file.specs.declared.outcomes.Outcome.TheVariants.{Good, Fail}
-use Rattle.mw_world_file.specs.Maps.{upd}
-use Rattle.mw_world_file.specs.Files.{File, Empty, Prepared, Sealed, is_empty, is_prepared, is_sealed, is_apart, entries_at, entries_in, sealed, emptied}
-use Rattle.mw_world_file.specs.Calls.{suits, device_calls}
-use Rattle.mw_world_file.specs.Devices.{told, told_at, place_in, stage_told, states_on, is_clear, AreKept}
+use Rattle.mw_world.specs.declared.outcomes.Outcome.{Outcome}
+use Rattle.mw_world.specs.declared.outcomes.Outcome.TheVariants.{Good, Fail}
+use Rattle.mw_world.specs.Maps.{upd}
+use Rattle.mw_world.specs.Files.State.{File, Empty, Prepared, Sealed, is_empty, is_prepared, is_sealed, is_apart, entries_at, entries_in, sealed, emptied}
+use Rattle.mw_world.specs.Files.Calls.{suits, device_calls}
+use Rattle.mw_world.specs.Files.Stages.{stage_told}
+use Rattle.mw_world_file.specs.Devices.{told, told_at, place_in, states_on, is_clear, AreKept}
 use Rattle.mw_world_file.specs.Books.{Represents, HasParts, quota_of}
 use Rattle.mw_world_file.specs.CallEffects.{may_end, worked, Turns}
 use Rattle.mw_world_file.proofs.ApartPlaces.{may_seal, is_apart_as}

@@ -20,11 +20,11 @@ use Rattle.mw_world_file.specs.declared.places.Place.TheVariants.{Empty as KeptE
 use Rattle.mw_world_file.specs.declared.faults.BookFault.{BookFault}
 use Rattle.mw_world_file.specs.declared.faults.BookFault.TheVariants.{NotEnabled, Memory as NoMemory}
 use Rattle.mw_world_file.specs.Books.{Represents, HasParts, quota_of, places_of_file}
-use Rattle.mw_world_file.specs.Calls.{is_made}
+use Rattle.mw_world.specs.Files.Calls.{is_made}
 use Rattle.mw_world_file.specs.Devices.{disk_under}
-use Rattle.mw_world_file.specs.Files.{broken, file_of}
+use Rattle.mw_world.specs.Files.State.{broken, file_of}
 use Rattle.mw_world_file.specs.Openings.{CameOfBytes, OpeningRan}
-use Rattle.mw_world_file.specs.Restarts.{may_fail, opened_file}
+use Rattle.mw_world.specs.Files.Restarts.{may_fail, opened_file}
 use Rattle.mw_world_file.specs.StoppedFiles.{named, IsReopened, ReopenEnds}
 use Rattle.mw_world_file.proofs.OpenedFiles.{none_there, zero_there, same_calls, opened_words, opened_places}
 use Rattle.mw_world_file.proofs.WorkedFiles.{shows_parts}

@@ -6,7 +6,7 @@ use Rattle.std.proofs.Math.Logic.{∥∥₁_map}
 use Rattle.mw_world_file.specs.declared.cut.Cut.{Cut}
 use Rattle.mw_world_file.specs.declared.simulated_file.SimulatedFile.{SimulatedFile}
 use Rattle.mw_world_file.specs.Books.{Represents}
-use Rattle.mw_world_file.specs.Files.{File}
+use Rattle.mw_world.specs.Files.State.{File}
 use Rattle.mw_world_file.specs.Recovery.{Restarts}
 use Rattle.mw_world_file.specs.CallEffects.{Turns}
 use Rattle.mw_world_file.specs.SoundBooks.{HasSound, IsSound, file_in}

@@ -26,9 +26,9 @@ use Rattle.mw_world_file.specs.declared.device.Device.TheVariants.{Open, Shut}
 use Rattle.mw_world_file.specs.declared.simulated_file.SimulatedFile.{SimulatedFile}
 use Rattle.mw_world_file.specs.declared.cut.Cut.{Cut}
 use Rattle.mw_world_file.specs.declared.cut.Left.{Left}
-use Rattle.mw_world_file.specs.Files.{File, entries_at}
-use Rattle.mw_world_file.specs.Calls.{place_for, suits, fails_on, device_calls}
-use Rattle.mw_world_file.specs.Restarts.{takes, may_find, doubt_if, is_whole_seal}
+use Rattle.mw_world.specs.Files.State.{File, entries_at}
+use Rattle.mw_world.specs.Files.Calls.{place_for, suits, fails_on, device_calls}
+use Rattle.mw_world.specs.Files.Restarts.{takes, may_find, doubt_if, is_whole_seal}
 use Rattle.mw_world_file.specs.DeviceCalls.{cut_list}
 use Rattle.mw_world_file.specs.Devices.{disk_under, IsReady, DeviceRecoversTo}
 use Rattle.mw_world_file.specs.Books.{Represents, quota_of, places_of_file}

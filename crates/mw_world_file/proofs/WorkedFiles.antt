@@ -23,17 +23,19 @@ use Rattle.mw_world_file.specs.declared.device.Device.TheVariants.{Open}
 use Rattle.mw_world_file.specs.declared.places.Place.{Place as KeptPlace}
 use Rattle.mw_world_file.specs.declared.places.Place.TheVariants.{Prepared as KeptPrepared}
 use Rattle.mw_world_file.specs.declared.simulated_file.SimulatedFile.{SimulatedFile}
-use Rattle.mw_world_file.specs.declared.outcomes.Outcome.{Outcome}
-use Rattle.mw_world_file.specs.declared.outcomes.Outcome.TheVariants.{Good, Fail}
+use Rattle.mw_world.specs.declared.outcomes.Outcome.{Outcome}
+use Rattle.mw_world.specs.declared.outcomes.Outcome.TheVariants.{Good, Fail}
 use Rattle.mw_world_file.specs.declared.faults.BookFault.{BookFault}
 use Rattle.mw_world_file.specs.declared.faults.BookFault.TheVariants.{NotEnabled, Memory as NoMemory}
-use Rattle.mw_world_file.specs.Files.{File, Prepared, is_empty, entries_in, entries_at, broken, prepared, empty_from, file_of}
-use Rattle.mw_world_file.specs.Calls.{place_for, suits, device_calls, filed, doubt_of}
-use Rattle.mw_world_file.specs.Maps.{upd}
-use Rattle.mw_world_file.specs.Devices.{told, told_at, place_in, stage_told, DeviceRecoversTo, AreKept, states_on, words_on, has_failed_on, is_open}
+use Rattle.mw_world.specs.Files.State.{File, Prepared, is_empty, entries_in, entries_at, broken, prepared, empty_from, file_of}
+use Rattle.mw_world.specs.Files.Calls.{place_for, suits, device_calls, filed, doubt_of}
+use Rattle.mw_world.specs.Maps.{upd}
+use Rattle.mw_world.specs.Files.Stages.{stage_told}
+use Rattle.mw_world_file.specs.Devices.{told, told_at, place_in, DeviceRecoversTo, AreKept, states_on, words_on, has_failed_on, is_open}
 use Rattle.mw_world_file.specs.Books.{PartsRepresent, Represents, HasParts, quota_of, places_of_file}
 use Rattle.mw_world_file.specs.CallEffects.{may_end, left_by, worked_at, worked, Turns, Works}
-use Rattle.mw_world_file.proofs.KeptPlaces.{lowest, Lowest, empty_among, set_told, set_number, kept_on}
+use Rattle.mw_world.proofs.MapLaws.{set_number}
+use Rattle.mw_world_file.proofs.KeptPlaces.{lowest, Lowest, empty_among, set_told, kept_on}
 
 -- a call during which memory was out
 pub refused : (old : SimulatedFile) (call : Call) (slot : ℕ) (entries : List Entry) (outcome : Outcome) (r : Result SimulatedFile BookFault) → IsErrAnd r (λ e. e ≡ NoMemory) → Works old call slot entries outcome r

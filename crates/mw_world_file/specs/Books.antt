@@ -9,7 +9,7 @@ use Rattle.mw_world_file.specs.declared.device.Device.{Device}
 use Rattle.mw_world_file.specs.declared.places.Place.{Place as KeptPlace}
 use Rattle.mw_world_file.specs.declared.simulated_file.SimulatedFile.{SimulatedFile}
 use Rattle.mw_world_file.specs.Devices.{place_in, DeviceRecoversTo}
-use Rattle.mw_world_file.specs.Files.{File}
+use Rattle.mw_world.specs.Files.State.{File}
 
 -- These parts of a book represent this file. Each is what the file has, and the file in memory recovers to its words,
 -- with `file_places` places and its change in doubt.

@@ -5,13 +5,13 @@ use Rattle.mw_disk.specs.Memory.{Memory as Disk, memory_facts, with_name}
 use Rattle.mw_disk.specs.Runs.{Later, Good as AllWell, Bad as OneFailed}
 use Rattle.mw_words.specs.declared.jobs.Entry.{Entry}
 use Rattle.mw_look.specs.declared.steps.Call.{Call}
-use Rattle.mw_world_file.specs.declared.outcomes.Outcome.{Outcome}
-use Rattle.mw_world_file.specs.declared.outcomes.Outcome.TheVariants.{Good, Fail}
+use Rattle.mw_world.specs.declared.outcomes.Outcome.{Outcome}
+use Rattle.mw_world.specs.declared.outcomes.Outcome.TheVariants.{Good, Fail}
 use Rattle.mw_world_file.specs.declared.faults.BookFault.{BookFault}
 use Rattle.mw_world_file.specs.declared.faults.BookFault.TheVariants.{NotEnabled, Memory}
 use Rattle.mw_world_file.specs.declared.simulated_file.SimulatedFile.{SimulatedFile}
-use Rattle.mw_world_file.specs.Files.{File, entries_in, entries_at, broken}
-use Rattle.mw_world_file.specs.Calls.{place_for, suits, device_calls, is_made, filed, doubt_of}
+use Rattle.mw_world.specs.Files.State.{File, entries_in, entries_at, broken}
+use Rattle.mw_world.specs.Files.Calls.{place_for, suits, device_calls, is_made, filed, doubt_of}
 use Rattle.mw_world_file.specs.Devices.{place_in, disk_under}
 use Rattle.mw_world_file.specs.Books.{Represents, quota_of, places_of_file}
 

@@ -1,5 +1,5 @@
 -- Defines what a crash in the middle of a call leaves of a tenant's file.
--- Used by: src/calls.rt, mw_book, mw_core, mw_simulator, mw_law_threads.
+-- Used by: src/calls.rt, mw_simulator.
 use Rattle.std.specs.Prelude.{ℕ, ◌≡◌, ◌⊎◌, List, Some, Result, Ok, Err}
 use Rattle.mw_words.specs.declared.jobs.Entry.{Entry}
 use Rattle.mw_words.specs.Change.{put}
@@ -8,21 +8,13 @@ use Rattle.mw_disk.specs.Runs.{LeavesOnly}
 use Rattle.mw_record.specs.Damages.{file_words}
 use Rattle.mw_look.specs.declared.steps.Call.{Call}
 use Rattle.mw_look.specs.declared.steps.Call.TheVariants.{Seal as SealCall}
+use Rattle.mw_world.specs.Files.Crashes.{IsFileOfEither, at_stake}
 use Rattle.mw_world_file.specs.declared.faults.BookFault.{BookFault}
 use Rattle.mw_world_file.specs.declared.simulated_file.SimulatedFile.{SimulatedFile}
 use Rattle.mw_world_file.specs.Books.{Represents, quota_of}
-use Rattle.mw_world_file.specs.Calls.{place_for}
+use Rattle.mw_world.specs.Files.Calls.{place_for}
 use Rattle.mw_world_file.specs.Devices.{disk_under}
-use Rattle.mw_world_file.specs.Files.{File, entries_at}
-
--- These bytes are a file of these words, or of these words with this change put over them.
-abbrev pub IsFileOfEither : List ℕ → List Entry → List ℕ → Type 0
-IsFileOfEither words change image = (file_words image ≡ Some words) ⊎ (file_words image ≡ Some (put words change))
-
--- the change at stake during a call about a place: the one that a seal seals, else the change in doubt
-abbrev pub at_stake : Call → File → ℕ → List Entry
-at_stake SealCall file place = entries_at file place
-at_stake call file place = file.doubt
+use Rattle.mw_world.specs.Files.State.{File, entries_at}
 
 -- A crash at any moment since the call on this book began left a file of the words before the call, or of these with
 -- the change at stake put over them.

@@ -1,6 +1,6 @@
 -- Defines a tenant's file on a disk in memory, open or shut, and its record places as a book keeps them.
 -- Used by: src/calls.rt, src/laws.rt, src/opened.rt, src/opening.rt, src/places.rt, src/simulated_file.rt, src/stops.rt,
--- mw_book, mw_simulator.
+-- mw_simulator.
 use Rattle.std.specs.Prelude.{◌≡◌, ℕ, Bool, true, false, not, List, [], Option, Some, None, slice_get}
 use Rattle.mw_disk.specs.Facts.{MayLeave}
 use Rattle.mw_disk.specs.Memory.{Memory, memory_facts}
@@ -12,11 +12,12 @@ use Rattle.mw_file.specs.declared.place_states.Stage.TheVariants.{Free as FreeSt
 use Rattle.mw_file.specs.File.{disk_of, words_of, states_of, has_failed}
 use Rattle.mw_file.specs.RecoveryInvariant.{IsFile, RecoversTo}
 use Rattle.mw_file.specs.PlaceStates.{stage_of, writes_of_place}
+use Rattle.mw_world.specs.Files.Stages.{stage_told}
 use Rattle.mw_world_file.specs.declared.device.Device.{Device}
 use Rattle.mw_world_file.specs.declared.device.Device.TheVariants.{Open, Shut}
 use Rattle.mw_world_file.specs.declared.places.Place.{Place as KeptPlace}
 use Rattle.mw_world_file.specs.declared.places.Place.TheVariants.{Empty as KeptEmpty, Prepared as KeptPrepared, Sealed as KeptSealed}
-use Rattle.mw_world_file.specs.Files.{Place, Empty, Prepared, Sealed, entries_in, is_empty, share_a_word}
+use Rattle.mw_world.specs.Files.State.{Place, Empty, Prepared, Sealed, entries_in, is_empty, share_a_word}
 
 -- the place that a place in a book represents; past the last one it is empty
 abbrev pub told : KeptPlace → Place
@@ -38,12 +39,6 @@ abbrev pub is_clear : List Entry → Place → Bool
 is_clear entries Empty = true
 is_clear entries (Prepared others) = true
 is_clear entries (Sealed others) = not (share_a_word entries others)
-
--- the stage of a place's change in `mw_file`: free, prepared or sealed
-abbrev pub stage_told : Place → Stage
-stage_told Empty = FreeStage
-stage_told (Prepared entries) = PreparedStage
-stage_told (Sealed entries) = SealedStage
 
 -- the file was opened
 abbrev pub is_open : Device → Bool

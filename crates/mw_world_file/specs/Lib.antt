@@ -1,16 +1,11 @@
 pub mod Books
-pub mod Calls
 pub mod Crashes
 pub mod DeviceCalls
 pub mod Devices
-pub mod Files
-pub mod FirstPlaces
 pub mod StartValues
-pub mod Maps
 pub mod OldFiles
 pub mod Openings
 pub mod Recovery
-pub mod Restarts
 pub mod SoundBooks
 pub mod StoppedFiles
 pub mod CallEffects

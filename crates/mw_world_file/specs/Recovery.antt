@@ -18,10 +18,10 @@ use Rattle.mw_world_file.specs.declared.faults.BookFault.{BookFault}
 use Rattle.mw_world_file.specs.declared.faults.BookFault.TheVariants.{NotEnabled, Memory}
 use Rattle.mw_world_file.specs.DeviceCalls.{cut_list, LedBy}
 use Rattle.mw_world_file.specs.Devices.{disk_under}
-use Rattle.mw_world_file.specs.Files.{File, entries_at}
+use Rattle.mw_world.specs.Files.State.{File, entries_at}
 use Rattle.mw_world_file.specs.Openings.{CameOfBytes}
-use Rattle.mw_world_file.specs.Calls.{place_for, suits, fails_on, device_calls}
-use Rattle.mw_world_file.specs.Restarts.{takes, may_find, may_fail, opened_file, doubt_if, is_whole_seal}
+use Rattle.mw_world.specs.Files.Calls.{place_for, suits, fails_on, device_calls}
+use Rattle.mw_world.specs.Files.Restarts.{takes, may_find, may_fail, opened_file, doubt_if, is_whole_seal}
 use Rattle.mw_world_file.specs.Books.{Represents, quota_of, places_of_file}
 
 -- how many device calls a call makes about a place: none if the place doesn't suit it or the file has failed

@@ -5,7 +5,7 @@ use Rattle.std.specs.Prelude.{ℕ, ◌≡◌, length, slice_index}
 use Rattle.mw_world_file.specs.declared.simulated_file.SimulatedFile.{SimulatedFile}
 use Rattle.mw_world_file.specs.Books.{Represents}
 use Rattle.mw_world_file.specs.Devices.{place_in}
-use Rattle.mw_world_file.specs.Files.{File}
+use Rattle.mw_world.specs.Files.State.{File}
 
 -- the file with the book's own words, places and change in doubt
 abbrev pub file_in : SimulatedFile → File

@@ -8,9 +8,9 @@ use Rattle.mw_world_file.specs.declared.simulated_file.SimulatedFile.{SimulatedF
 use Rattle.mw_world_file.specs.declared.faults.BookFault.{BookFault}
 use Rattle.mw_world_file.specs.declared.faults.BookFault.TheVariants.{NotEnabled, Memory}
 use Rattle.mw_world_file.specs.Devices.{disk_under}
-use Rattle.mw_world_file.specs.Files.{File}
+use Rattle.mw_world.specs.Files.State.{File}
 use Rattle.mw_world_file.specs.Openings.{CameOfBytes}
-use Rattle.mw_world_file.specs.Restarts.{may_fail, opened_file}
+use Rattle.mw_world.specs.Files.Restarts.{may_fail, opened_file}
 use Rattle.mw_world_file.specs.Books.{Represents, quota_of, places_of_file}
 use Rattle.mw_world_file.specs.Recovery.{IsLeft, doubt_left, may_be_made}
 

@@ -14,18 +14,18 @@ ghost use Rattle.mw_world_file.specs.Devices.{told, is_clear, AreKept, IsReady};
 ghost use Rattle.std.specs.List.{list_all};
 ghost use Rattle.mw_world_file.specs.Books.{HasParts, places_of_file};
 ghost use Rattle.mw_world_file.specs.CallEffects as spec;
-ghost use Rattle.mw_world_file.specs.Calls as counts;
+ghost use Rattle.mw_world.specs.Files.Calls as counts;
 
 use crate::changes::{share_a_word, with_change};
 use crate::device::Device;
 use crate::faults::BookFault;
-use crate::outcomes::Outcome;
 use crate::places::{Place, copies, has_empty, prepared_in, sealed_in};
 use crate::simulated_file::SimulatedFile;
 use mw_disk::MemDisk;
 use mw_file::{Place as FilePlace, TenantFile};
 use mw_look::Call;
 use mw_words::{Entries, Entry, copy_of};
+use mw_world::Outcome;
 use std::alloc::{AllocError, Global};
 
 /// Returns how many device calls a call makes for a change with these entries.

@@ -5,7 +5,7 @@
 ghost use Rattle.std.specs.Prelude.{◌≡◌, ◌==◌, IfOk};
 ghost use Rattle.std.specs.List.{list_any};
 ghost use Rattle.mw_words.specs.Change as change;
-ghost use Rattle.mw_world_file.specs.Files as spec;
+ghost use Rattle.mw_world.specs.Files.State as spec;
 
 use mw_words::Entry;
 use std::alloc::{AllocError, Global};

@@ -9,12 +9,12 @@ ghost use Rattle.mw_words.specs.declared.jobs.Entry.{Entry};
 ghost use Rattle.mw_look.specs.declared.steps.Call.{Call};
 ghost use Rattle.mw_world_file.specs.declared.simulated_file.SimulatedFile.{SimulatedFile};
 ghost use Rattle.mw_world_file.specs.declared.cut.Cut.{Cut};
-ghost use Rattle.mw_world_file.specs.declared.outcomes.Outcome.{Outcome};
+ghost use Rattle.mw_world.specs.declared.outcomes.Outcome.{Outcome};
 ghost use Rattle.mw_world_file.specs.declared.faults.BookFault.TheVariants.{NotEnabled};
 ghost use Rattle.mw_world_file.specs.Books.{Represents};
 ghost use Rattle.mw_world_file.specs.DeviceCalls.{CameExactly};
 ghost use Rattle.mw_world_file.specs.Devices.{disk_under};
-ghost use Rattle.mw_world_file.specs.Files.{File};
+ghost use Rattle.mw_world.specs.Files.State.{File};
 ghost use Rattle.mw_world_file.specs.Recovery.{IsCutImage, Restarts};
 
 /// From one book the same call, with the same outcome, leads to one disk.

@@ -4,9 +4,9 @@
 //! A call on a book makes a new book and leaves the old one. The caller says which device call fails, if one does.
 //! `restart` makes the book after all stopped, also in the middle of a call, and started again.
 //!
-//! Used by: many crates from mw_book on. `specs/Files`, `specs/Calls` and `specs/Restarts` define a tenant's file in a
-//! world, whatever disk it is on: a change of these three is a change of what is proved. So is one of
-//! `specs/FirstPlaces`, which mw_world reads, and of `specs/Crashes`, which mw_book and mw_core read.
+//! What a tenant's file is in a world, whatever disk it is on, `specs/Files` of mw_world defines.
+//!
+//! Used by: mw_world_memory, mw_simulator, mw_table_tests.
 #![tactic(auto)]
 
 mod calls;
@@ -18,7 +18,6 @@ mod laws;
 mod new_books;
 mod opened;
 mod opening;
-mod outcomes;
 mod places;
 mod restarts;
 mod simulated_file;
@@ -29,6 +28,4 @@ mod unopened;
 pub use cut::Cut;
 pub use faults::BookFault;
 pub use laws::{calls_lead_to_one_disk, restarts_have_one_end, stops_leave_one_image};
-pub use outcomes::Outcome;
 pub use simulated_file::SimulatedFile;
-pub use unopened::{OLD_ENTRIES, OLD_PLACES};

@@ -13,8 +13,8 @@ use std::alloc::{AllocError, Global};
 
 impl SimulatedFile {
     ghost use Rattle.mw_world_file.specs.Books.{Represents, quota_of, places_of_file};
-    ghost use Rattle.mw_world_file.specs.Files.{file_of};
-    ghost use Rattle.mw_world_file.specs.FirstPlaces.{first_places};
+    ghost use Rattle.mw_world.specs.Files.State.{file_of};
+    ghost use Rattle.mw_world.specs.Files.FirstPlaces.{first_places};
 
     /// Makes the book of a new file, whose words are all 0. `words` is 1 to `MAX_WORDS`, and `quota`, the
     /// tenant's, is 1 to `MAX_QUOTA`. The file is made in the first layout, with as many places as the quota,

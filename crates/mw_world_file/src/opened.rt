@@ -9,7 +9,7 @@ ghost use Rattle.mw_file.specs.RecoveryInvariant.{RecoversTo};
 ghost use Rattle.mw_file.specs.PlaceStates.{all_free};
 ghost use Rattle.mw_world_file.specs.Books.{Represents, quota_of, places_of_file};
 ghost use Rattle.mw_world_file.specs.Devices.{IsReady};
-ghost use Rattle.mw_world_file.specs.Files.{file_of};
+ghost use Rattle.mw_world.specs.Files.State.{file_of};
 ghost use Rattle.mw_world_file.specs.declared.device.Device.TheVariants.{Open};
 ghost use Rattle.mw_world_file.specs.declared.places.Place.TheVariants.{Empty};
 

@@ -10,7 +10,7 @@ ghost use Rattle.mw_file.specs.PlaceStates.{all_free};
 ghost use Rattle.mw_record.specs.Damages.{words_in, file_words, places_of};
 ghost use Rattle.mw_world_file.specs.Books.{HasParts, Represents, quota_of, places_of_file};
 ghost use Rattle.mw_world_file.specs.Devices.{IsReady};
-ghost use Rattle.mw_world_file.specs.Files.{file_of};
+ghost use Rattle.mw_world.specs.Files.State.{file_of};
 ghost use Rattle.mw_world_file.specs.StoppedFiles.{named};
 ghost use Rattle.mw_world_file.specs.declared.device.Device.TheVariants.{Open, Shut};
 

@@ -4,7 +4,7 @@
 ghost use Rattle.std.specs.Prelude.{◌≡◌, Some, false, slice_get, IfOk, MatchOption};
 ghost use Rattle.std.specs.List.{list_any};
 ghost use Rattle.mw_world_file.specs.Devices.{told, place_in};
-ghost use Rattle.mw_world_file.specs.Files as file;
+ghost use Rattle.mw_world.specs.Files.State as file;
 
 use mw_words::{Entries, copy_of};
 use std::alloc::{AllocError, Global};

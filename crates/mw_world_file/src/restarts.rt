@@ -3,7 +3,7 @@
 //! mw_simulator calls `SimulatedFile::restart` for each tenant when all starts again. Change it with
 //! `specs/Restarts`, `specs/Books` and `specs/Recovery`.
 ghost use Rattle.std.specs.Prelude.{◌≡◌, ◌≤◌, length, IfOk};
-ghost use Rattle.mw_world_file.specs.Restarts.{takes};
+ghost use Rattle.mw_world.specs.Files.Restarts.{takes};
 
 use crate::changes::with_change;
 use crate::cut::{Cut, Left};

@@ -20,27 +20,18 @@ use mw_record::{
     home_at, size,
 };
 use mw_words::{Entries, MAX_ENTRIES};
+use mw_world::{OLD_ENTRIES, OLD_PLACES};
 use std::alloc::{AllocError, Global};
-
-/// The most entries of the change whose record is open in an old file.
-pub const OLD_ENTRIES: usize = 8;
 
 /// How many bytes a record place of an old file has after its commit byte.
 const OLD_BODY: usize = 135;
-
-/// The greatest quota of a tenant with an old file, which has as many places as the quota.
-pub const OLD_PLACES: u8 = 32;
-
-const _: () = prove!(OLD_ENTRIES == FIRST_ENTRIES);
-
-const _: () = prove!(OLD_PLACES as u16 == FIRST_PLACES);
 
 const _: () = prove!(OLD_BODY + ENTRY_SIZE * (MAX_ENTRIES - FIRST_ENTRIES) == BODY_SIZE);
 
 impl SimulatedFile {
     ghost use Rattle.mw_world_file.specs.Books.{Represents, quota_of, places_of_file};
-    ghost use Rattle.mw_world_file.specs.Files.{broken, file_of};
-    ghost use Rattle.mw_world_file.specs.FirstPlaces.{first_places};
+    ghost use Rattle.mw_world.specs.Files.State.{broken, file_of};
+    ghost use Rattle.mw_world.specs.Files.FirstPlaces.{first_places};
 
     /// Makes the book of an old file, which no start has opened yet. `words` is 1 to `MAX_WORDS`, and `quota`,
     /// the tenant's, is 1 to `FIRST_PLACES`. The file has as many places as the quota, and uses them all; the

@@ -11,7 +11,7 @@ use Rattle.mw_look.specs.Program.{freed as freed_gate}
 use Rattle.mw_look.specs.Runs.{if_same}
 use Rattle.mw_world.specs.declared.config.Config.{Config}
 use Rattle.mw_world.specs.Claim.Invariant.{IsPinnedAs}
-use Rattle.mw_world_file.specs.Maps.{upd, upd_two}
+use Rattle.mw_world.specs.Maps.{upd, upd_two}
 use Rattle.mw_world.specs.Definition.State.{State, tenant_at, tenants_of}
 use Rattle.mw_law_runs.specs.Counts.CountInvariant.{CountsStand}
 use Rattle.mw_law_runs.specs.Counts.Sides.{left_pin, idle}

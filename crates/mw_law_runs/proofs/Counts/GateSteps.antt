@@ -27,7 +27,7 @@ use Rattle.mw_world.specs.declared.config.Config.{Config}
 use Rattle.mw_world.specs.Definition.Cells.{Cells, write}
 use Rattle.mw_world.specs.Definition.Counts.{pins_held, frees_at, waits_at, waits_for}
 use Rattle.mw_world.specs.Definition.History.{History}
-use Rattle.mw_world_file.specs.Maps.{upd_two}
+use Rattle.mw_world.specs.Maps.{upd_two}
 use Rattle.mw_world.specs.Definition.StepLabels.{give_up_label}
 use Rattle.mw_world.specs.Definition.LabelEffects.{with_label}
 use Rattle.mw_world.specs.Definition.State.{State, tenant_at}

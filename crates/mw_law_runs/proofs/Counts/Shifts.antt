@@ -8,7 +8,7 @@ use Rattle.mw_actor.specs.ActorState.{ActorState}
 use Rattle.mw_world.specs.declared.config.Config.{Config}
 use Rattle.mw_world.specs.Definition.Counts.{pins_held, frees_at, waits_for, waits_at, counted, over_workers, slots_taken_for}
 use Rattle.mw_world.specs.Claim.Invariant.{IsPinnedAs, IsOfWorker}
-use Rattle.mw_world_file.specs.Maps.{upd}
+use Rattle.mw_world.specs.Maps.{upd}
 use Rattle.mw_world.specs.Definition.State.{TenantState, State, WorkerState, QuotasFit, places_of, quotas_of, quotas_together, tenants_of}
 use Rattle.mw_law_runs.specs.Counts.Ready.{IsReady}
 use Rattle.mw_law_runs.specs.Counts.Sides.{left_pin, idle}

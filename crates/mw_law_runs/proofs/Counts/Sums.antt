@@ -6,7 +6,7 @@ use Rattle.std.proofs.lemmas.Bool.{cases_eq}
 use Rattle.std.proofs.lemmas.Bool.Decides.{nat_tests}
 use Rattle.mw_actor.specs.ActorState.{ActorState}
 use Rattle.mw_world.specs.Definition.Counts.{counted, over_workers, slots_taken_for}
-use Rattle.mw_world_file.specs.Maps.{upd}
+use Rattle.mw_world.specs.Maps.{upd}
 use Rattle.mw_world.specs.Definition.State.{State, WorkerState}
 
 upd_here : (worker_states : ℕ → WorkerState) (worker : ℕ) (worker_state : WorkerState) → upd worker_states worker worker_state worker ≡ worker_state

@@ -10,11 +10,11 @@ use Rattle.mw_look.specs.declared.steps.Call.TheVariants.{Prepare as PrepareCall
 use Rattle.mw_actor.specs.declared.points.Slot.{Slot}
 use Rattle.mw_actor.specs.ActorState.{ActorState, own_entries}
 use Rattle.mw_world.specs.declared.config.Config.{Config}
-use Rattle.mw_world_file.specs.declared.outcomes.Outcome.{Outcome}
-use Rattle.mw_world_file.specs.declared.outcomes.Outcome.TheVariants.{Good, Fail}
+use Rattle.mw_world.specs.declared.outcomes.Outcome.{Outcome}
+use Rattle.mw_world.specs.declared.outcomes.Outcome.TheVariants.{Good, Fail}
 use Rattle.mw_world.specs.Definition.Calls.{Called, call, called_at, call_if, starts_from, fails_on, calling, ends, moved_if, place_for, can_be_made, calls_made, is_made, skips, faults, goes_well, breaks}
 use Rattle.mw_world.specs.Definition.Extent.{has_slot}
-use Rattle.mw_world_file.specs.Maps.{upd}
+use Rattle.mw_world.specs.Maps.{upd}
 use Rattle.mw_world.specs.Definition.State.{State, WorkerState, tenant_at}
 use Rattle.mw_world.specs.Definition.Turns.{Made, moved}
 use Rattle.mw_law_runs.specs.Moves.Moves.{Move, made_all}

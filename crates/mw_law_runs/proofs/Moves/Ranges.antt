@@ -15,7 +15,7 @@ use Rattle.mw_actor.specs.declared.points.Slot.{Slot}
 use Rattle.mw_look.specs.Places.{Val, Fits}
 use Rattle.mw_world.specs.declared.config.Config.{Config}
 use Rattle.mw_world.specs.Definition.Cells.{Cells, write, AllFit}
-use Rattle.mw_world_file.specs.Maps.{upd, upd_two}
+use Rattle.mw_world.specs.Maps.{upd, upd_two}
 use Rattle.mw_world.specs.Definition.State.{State}
 use Rattle.mw_law_runs.specs.Moves.Guards.{MayCancel}
 use Rattle.mw_law_runs.specs.Moves.Memory.{Memory}

@@ -12,7 +12,7 @@ use Rattle.mw_look.specs.Places.{pack}
 use Rattle.mw_actor.specs.ActorState.{ActorState}
 use Rattle.mw_actor.specs.Program.{replied}
 use Rattle.mw_world.specs.Definition.Cells.{read}
-use Rattle.mw_world_file.specs.Maps.{upd}
+use Rattle.mw_world.specs.Maps.{upd}
 use Rattle.mw_world.specs.Definition.Restarts.{restarted, found_of, may_all_be_found, quotas_then, reopened, under_way, opened_file}
 use Rattle.mw_world.specs.Definition.State.{State, WorkerState, may_be_quotas, places_of, tenants_of}
 use Rattle.mw_world.specs.Definition.Requests.{came, gave}

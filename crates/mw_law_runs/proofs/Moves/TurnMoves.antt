@@ -24,7 +24,7 @@ use Rattle.mw_world.specs.Definition.History.{History, StandingAttempt, AttemptI
 use Rattle.std.specs.Prelude.{not, is_some, ◌&&◌, if◌then◌else◌}
 use Rattle.mw_actor.specs.Asks.{asks}
 use Rattle.mw_actor.specs.Program.{replied}
-use Rattle.mw_world_file.specs.Maps.{upd}
+use Rattle.mw_world.specs.Maps.{upd}
 use Rattle.mw_world.specs.Definition.StepLabels.{door_label, inspect_label, read_door_label, read_word_label, read_status_label, answer_label}
 use Rattle.mw_world.specs.Definition.LabelEffects.{with_label, with_intent}
 use Rattle.mw_world.specs.Definition.State.{State, WorkerState}

@@ -18,7 +18,7 @@ use Rattle.mw_world.specs.declared.step_labels.Phase.TheVariants.{Fresh, Acquire
 use Rattle.mw_world.specs.Claim.Invariant.{MayBe, IsRefused}
 use Rattle.mw_world.specs.Definition.History.{has, expected, new}
 use Rattle.mw_world.specs.Definition.Logical.{held_value}
-use Rattle.mw_world_file.specs.Maps.{upd_two}
+use Rattle.mw_world.specs.Maps.{upd_two}
 use Rattle.mw_world.specs.Definition.State.{State}
 use Rattle.mw_law_runs.specs.Moves.Guards.{Guard}
 use Rattle.mw_law_runs.specs.Moves.Memory.{Memory}

@@ -20,7 +20,7 @@ use Rattle.mw_actor.specs.ActorState.{ActorState, first}
 use Rattle.mw_actor.specs.Asks.{asks}
 use Rattle.mw_actor.specs.Program.{tells, replied, reply_at}
 use Rattle.mw_world.specs.declared.config.Config.{Config}
-use Rattle.mw_world_file.specs.declared.outcomes.Outcome.{Outcome}
+use Rattle.mw_world.specs.declared.outcomes.Outcome.{Outcome}
 use Rattle.mw_world.specs.declared.step_labels.StepLabel.{StepLabel}
 use Rattle.mw_world.specs.declared.step_labels.StepLabel.TheVariants.{GaveUp}
 use Rattle.mw_world.specs.Definition.Calls.{Called, call, call_if, called_at, calling, moved_if}
@@ -32,7 +32,7 @@ use Rattle.mw_world.specs.Definition.Changes.{changed, done, fetched}
 use Rattle.mw_world.specs.Definition.Extent.{has_slot}
 use Rattle.mw_world.specs.Definition.Events.{Found, Come, Step as StepEvent, File, Hand, Restart}
 use Rattle.mw_world.specs.Definition.History.{History, NoAttempt, Idle, StandingAttempt, HoldPermission, standing_at, permission_at}
-use Rattle.mw_world_file.specs.Maps.{upd}
+use Rattle.mw_world.specs.Maps.{upd}
 use Rattle.mw_world.specs.Definition.LabelEffects.{with_label}
 use Rattle.mw_world.specs.Definition.Restarts.{restarted, may_all_be_found, quotas_then}
 use Rattle.mw_world.specs.Definition.State.{State, WorkerState, may_be_quotas, places_of, tenant_at, tenants_of}

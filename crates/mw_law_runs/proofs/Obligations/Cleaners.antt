@@ -21,7 +21,7 @@ use Rattle.mw_actor.specs.ActorState.{ActorState, entries_of, entry_at, entry_of
 use Rattle.mw_actor.specs.Asks.{asks_at}
 use Rattle.mw_actor.specs.Stages.{stage}
 use Rattle.mw_actor.specs.ReleasePhase.{next_sweep}
-use Rattle.mw_world_file.specs.Maps.{upd_two}
+use Rattle.mw_world.specs.Maps.{upd_two}
 use Rattle.mw_world.specs.declared.config.Config.{Config}
 use Rattle.mw_world.specs.Definition.History.{new, entry_for}
 use Rattle.mw_world.specs.Claim.Obligations.{IsFrom, CleansFrom, CleansAt}

@@ -25,7 +25,7 @@ use Rattle.mw_actor.specs.Asks.{asks_at}
 use Rattle.mw_actor.specs.Help.{count_read, addr_read, expected_read, next_read, new_read}
 use Rattle.mw_actor.specs.Inspection.{status_read}
 use Rattle.mw_actor.specs.ReleasePhase.{next_sweep, sweep_over, swept, sweep_confirmed}
-use Rattle.mw_world_file.specs.Maps.{upd_two}
+use Rattle.mw_world.specs.Maps.{upd_two}
 use Rattle.mw_world.specs.declared.config.Config.{Config}
 use Rattle.mw_world.specs.Definition.History.{entry_for}
 use Rattle.mw_world.specs.Claim.Invariant.{IsRefused}

@@ -16,7 +16,7 @@ use Rattle.mw_actor.specs.declared.points.Slot.{Slot}
 use Rattle.mw_actor.specs.declared.points.Sweep.TheVariants.{Yes as SweepYes}
 use Rattle.mw_actor.specs.declared.points.Task.{Task}
 use Rattle.mw_actor.specs.ActorState.{ActorState}
-use Rattle.mw_world_file.specs.Maps.{upd, upd_two}
+use Rattle.mw_world.specs.Maps.{upd, upd_two}
 use Rattle.mw_world.specs.Definition.History.{StandingAttempt, HoldPermission}
 use Rattle.mw_world.specs.Claim.Invariant.{IsRefused}
 use Rattle.mw_world.specs.Definition.State.{State}

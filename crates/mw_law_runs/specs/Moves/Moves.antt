@@ -19,7 +19,7 @@ use Rattle.mw_world.specs.declared.step_labels.Phase.{Phase}
 use Rattle.mw_world.specs.declared.step_labels.Phase.TheVariants.{Acquired, Written, Released}
 use Rattle.mw_world.specs.Definition.Cells.{write}
 use Rattle.mw_world.specs.Definition.History.{StandingAttempt, AttemptIn, HoldPermission}
-use Rattle.mw_world_file.specs.Maps.{upd, upd_three}
+use Rattle.mw_world.specs.Maps.{upd, upd_three}
 use Rattle.mw_world.specs.Definition.LabelEffects.{with_claim, with_status, left, with_fault_decided}
 use Rattle.mw_world.specs.Definition.State.{State, WorkerState}
 

@@ -21,8 +21,8 @@ use Rattle.mw_actor.specs.ActorState.{ActorState, own_entries, entry_at, entry_o
 use Rattle.mw_actor.specs.Asks.{asks, row_of}
 use Rattle.mw_actor.specs.Program.{tells}
 use Rattle.mw_world.specs.declared.config.Config.{Config}
-use Rattle.mw_world_file.specs.declared.outcomes.Outcome.{Outcome}
-use Rattle.mw_world_file.specs.declared.outcomes.Outcome.TheVariants.{Good, Fail}
+use Rattle.mw_world.specs.declared.outcomes.Outcome.{Outcome}
+use Rattle.mw_world.specs.declared.outcomes.Outcome.TheVariants.{Good, Fail}
 use Rattle.mw_world.specs.Definition.Calls.{Called, call, called_at, starts_from, fails_on}
 use Rattle.mw_world.specs.Definition.Changes.{done}
 use Rattle.mw_world.specs.Definition.History.{standing_at, permission_at}

@@ -9,7 +9,7 @@ use Rattle.mw_words.specs.Change.{word_at}
 use Rattle.mw_look.specs.Places.{Val, Fits, pack}
 use Rattle.mw_actor.specs.ActorState.{ActorState}
 use Rattle.mw_world.specs.declared.config.Config.{Config}
-use Rattle.mw_world_file.specs.declared.outcomes.Outcome.{Outcome}
+use Rattle.mw_world.specs.declared.outcomes.Outcome.{Outcome}
 use Rattle.mw_world.specs.Definition.Calls.{Called, call, called_at}
 use Rattle.mw_world.specs.Definition.Cells.{Cells, read, AllFit}
 use Rattle.mw_world.specs.Definition.Events.{Found, WorldEvent}

@@ -8,7 +8,7 @@ use Rattle.mw_words.specs.declared.jobs.Entry.{Entry}
 use Rattle.mw_words.specs.declared.statuses.Status.{Status}
 use Rattle.mw_words.specs.declared.statuses.Status.TheVariants.{Open, YesDirty, Yes, No, DoneYes, DoneNo}
 use Rattle.mw_actor.specs.declared.points.Slot.{Slot}
-use Rattle.mw_world_file.specs.Maps.{upd_two}
+use Rattle.mw_world.specs.Maps.{upd_two}
 use Rattle.mw_world.specs.declared.config.Config.{Config}
 use Rattle.mw_world.specs.Definition.State.{State}
 use Rattle.mw_law_runs.specs.Moves.Guards.{Guard, Guards, MayClaim}

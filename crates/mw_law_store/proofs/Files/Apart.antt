@@ -8,7 +8,7 @@ use Rattle.mw_words.specs.declared.statuses.Status.{Status}
 use Rattle.mw_words.specs.declared.statuses.Status.TheVariants.{YesDirty, Yes}
 use Rattle.mw_words.specs.declared.words.Word.{Word}
 use Rattle.mw_words.specs.declared.words.Word.TheVariants.{Held, Dirty}
-use Rattle.mw_world_file.specs.Files.{share_a_word}
+use Rattle.mw_world.specs.Files.State.{share_a_word}
 use Rattle.mw_world.specs.declared.config.Config.{Config}
 use Rattle.mw_world.specs.declared.step_labels.Phase.{Phase}
 use Rattle.mw_world.specs.declared.step_labels.Phase.TheVariants.{Fresh, Acquired, Written, Released}

@@ -8,7 +8,7 @@ use Rattle.mw_words.specs.declared.jobs.Job.{Job}
 use Rattle.mw_words.specs.declared.replies.Reply.{Reply}
 use Rattle.mw_actor.specs.ActorState.{ActorState}
 use Rattle.mw_actor.specs.Program.{replied}
-use Rattle.mw_world_file.specs.Files.{File, Empty, is_empty, is_sealed}
+use Rattle.mw_world.specs.Files.State.{File, Empty, is_empty, is_sealed}
 use Rattle.mw_words.specs.declared.jobs.Entry.{Entry}
 use Rattle.mw_words.specs.Change.{put, word_at}
 use Rattle.mw_world.specs.declared.config.Config.{Config}

@@ -14,8 +14,8 @@ use Rattle.mw_actor.specs.declared.points.Point.TheVariants.{Prepare, Seal, Sett
 use Rattle.mw_actor.specs.declared.points.Slot.{Slot}
 use Rattle.mw_actor.specs.declared.points.Task.{Task}
 use Rattle.mw_actor.specs.ActorState.{ActorState, own_entries}
-use Rattle.mw_world_file.specs.declared.outcomes.Outcome.TheVariants.{Good}
-use Rattle.mw_world_file.specs.Files.{File, entries_at, entries_in, is_apart, is_empty, is_prepared, is_sealed, share_a_word}
+use Rattle.mw_world.specs.declared.outcomes.Outcome.TheVariants.{Good}
+use Rattle.mw_world.specs.Files.State.{File, entries_at, entries_in, is_apart, is_empty, is_prepared, is_sealed, share_a_word}
 use Rattle.mw_world.specs.declared.config.Config.{Config}
 use Rattle.mw_world.specs.Claim.Headline.{CanBeMade}
 use Rattle.mw_world.specs.Claim.Invariant.{placed}

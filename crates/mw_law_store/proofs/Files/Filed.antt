@@ -11,8 +11,8 @@ use Rattle.mw_words.specs.declared.gates.Gate.{Gate}
 use Rattle.mw_words.specs.declared.jobs.Entry.{Entry}
 use Rattle.mw_words.specs.declared.statuses.Status.{Status}
 use Rattle.mw_words.specs.Change.{put, rises_from, word_at}
-use Rattle.mw_world_file.specs.Files.{File, Place, is_empty, empty_from, entries_at, prepared, sealed, emptied, broken}
-use Rattle.mw_world_file.specs.Maps.{upd, upd_two}
+use Rattle.mw_world.specs.Files.State.{File, Place, is_empty, empty_from, entries_at, prepared, sealed, emptied, broken}
+use Rattle.mw_world.specs.Maps.{upd, upd_two}
 use Rattle.mw_world.specs.Claim.Invariant.{placed}
 use Rattle.mw_world.specs.Definition.History.{entry_for}
 use Rattle.mw_law_store.proofs.Files.PlacesBySlot.{ArePlaced}

@@ -10,8 +10,8 @@ use Rattle.mw_words.specs.declared.statuses.Status.{Status}
 use Rattle.mw_words.specs.declared.statuses.Status.TheVariants.{Open, YesDirty, No}
 use Rattle.mw_pool.specs.Moves.{after_unpin}
 use Rattle.mw_actor.specs.declared.points.Slot.{Slot}
-use Rattle.mw_world_file.specs.Files.{Empty}
-use Rattle.mw_world_file.specs.Maps.{upd, upd_two}
+use Rattle.mw_world.specs.Files.State.{Empty}
+use Rattle.mw_world.specs.Maps.{upd, upd_two}
 use Rattle.mw_world.specs.declared.config.Config.{Config}
 use Rattle.mw_world.specs.Claim.Invariant.{placed}
 use Rattle.mw_world.specs.Definition.State.{State}

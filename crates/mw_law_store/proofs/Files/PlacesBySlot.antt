@@ -4,8 +4,8 @@ use Rattle.std.specs.Prelude.{ℕ, ◌≡◌, ◌≢◌, ◌<◌, ◌⊎◌, ◌
 use Rattle.std.proofs.Common.{refl, sym, ap, ◌∙◌, inl, inr, arith}
 use Rattle.std.proofs.lemmas.Bool.Decides.{nat_tests}
 use Rattle.mw_words.specs.declared.jobs.Entry.{Entry}
-use Rattle.mw_world_file.specs.Files.{File, Place, Empty, Prepared, is_empty, prepared, emptied}
-use Rattle.mw_world_file.specs.Maps.{upd}
+use Rattle.mw_world.specs.Files.State.{File, Place, Empty, Prepared, is_empty, prepared, emptied}
+use Rattle.mw_world.specs.Maps.{upd}
 
 -- A slot's change is in this place.
 pub record HasPlace (due : ℕ → Place) (file : File) (place : ℕ) : Type 0 where

@@ -3,8 +3,8 @@
 use Rattle.std.specs.Prelude.{ℕ, zero, suc, ◌≡◌, ◌<◌, ◌≤◌, ◌+◌, ◌⊎◌, ◌==◌, ◌&&◌, Bool, true, false, if◌then◌else◌}
 use Rattle.std.proofs.Common.{refl, ap, subst, inl, inr, arith}
 use Rattle.std.proofs.lemmas.Bool.Decides.{nat_tests}
-use Rattle.mw_world_file.specs.Files.{File, is_empty, empty_from}
-use Rattle.mw_world_file.specs.Maps.{upd}
+use Rattle.mw_world.specs.Files.State.{File, is_empty, empty_from}
+use Rattle.mw_world.specs.Maps.{upd}
 use Rattle.mw_world.specs.declared.config.Config.{Config}
 use Rattle.mw_world.specs.Claim.Invariant.{placed}
 use Rattle.mw_world.specs.Definition.Counts.{slots_taken_for}

@@ -3,8 +3,8 @@
 -- Used by: ArrivalsAndStarts, CallFiles, MovesKeepFiles, among others.
 use Rattle.std.specs.Prelude.{ℕ, ◌≡◌, ◌≢◌, ◌⊎◌, Bool}
 use Rattle.std.proofs.Common.{refl, sym, subst, ◌∙◌, inl, inr}
-use Rattle.mw_world_file.specs.Files.{File}
-use Rattle.mw_world_file.specs.Maps.{upd}
+use Rattle.mw_world.specs.Files.State.{File}
+use Rattle.mw_world.specs.Maps.{upd}
 use Rattle.mw_world.specs.declared.config.Config.{Config}
 use Rattle.mw_world.specs.Definition.Logical.{logical}
 use Rattle.mw_world.specs.Definition.State.{State, TenantState, tenant_at}

@@ -13,9 +13,9 @@ use Rattle.mw_actor.specs.declared.points.Point.TheVariants.{Prepare, Seal, Sett
 use Rattle.mw_actor.specs.declared.points.Task.{Task}
 use Rattle.mw_actor.specs.ActorState.{ActorState, own_entries}
 use Rattle.mw_actor.specs.Program.{goes}
-use Rattle.mw_world_file.specs.declared.outcomes.Outcome.{Outcome}
-use Rattle.mw_world_file.specs.declared.outcomes.Outcome.TheVariants.{Good, Fail}
-use Rattle.mw_world_file.specs.Files.{File}
+use Rattle.mw_world.specs.declared.outcomes.Outcome.{Outcome}
+use Rattle.mw_world.specs.declared.outcomes.Outcome.TheVariants.{Good, Fail}
+use Rattle.mw_world.specs.Files.State.{File}
 use Rattle.mw_world.specs.declared.config.Config.{Config}
 use Rattle.mw_world.specs.Definition.Calls.{Called, breaks, call, call_if, called_at, calling, calls_made, can_be_made, fails_on, goes_well, moved_if, place_for, starts_from}
 use Rattle.mw_world.specs.Definition.Cells.{Cells}

@@ -15,8 +15,8 @@ use Rattle.mw_look.specs.declared.steps.Call.{Call}
 use Rattle.mw_look.specs.declared.steps.Call.TheVariants.{Prepare as PrepareCall, Seal as SealCall, Settle as SettleCall, Cancel as CancelCall}
 use Rattle.mw_actor.specs.declared.points.Slot.{Slot}
 use Rattle.mw_actor.specs.ActorState.{ActorState}
-use Rattle.mw_world_file.specs.Files.{File}
-use Rattle.mw_world_file.specs.Maps.{upd}
+use Rattle.mw_world.specs.Files.State.{File}
+use Rattle.mw_world.specs.Maps.{upd}
 use Rattle.mw_world.specs.declared.config.Config.{Config}
 use Rattle.mw_world.specs.declared.step_labels.StepLabel.TheVariants.{Nothing}
 use Rattle.mw_world.specs.Definition.Calls.{breaks, fault_label, faults, good_label, goes_well, is_made, skips, status_after}

@@ -6,7 +6,7 @@ use Rattle.mw_words.specs.declared.statuses.Status.{Status}
 use Rattle.mw_words.specs.declared.statuses.Status.TheVariants.{YesDirty}
 use Rattle.mw_words.specs.Change.{fits}
 use Rattle.mw_actor.specs.declared.points.Slot.{Slot}
-use Rattle.mw_world_file.specs.Files.{File, entries_at, entries_in, is_empty}
+use Rattle.mw_world.specs.Files.State.{File, entries_at, entries_in, is_empty}
 use Rattle.mw_world.specs.declared.config.Config.{Config}
 use Rattle.mw_world.specs.Claim.Invariant.{IsInFile, placed}
 use Rattle.mw_world.specs.Definition.State.{State}

@@ -13,9 +13,9 @@ use Rattle.mw_actor.specs.declared.points.Slot.{Slot}
 use Rattle.mw_actor.specs.declared.points.Task.{Task}
 use Rattle.mw_actor.specs.ActorState.{ActorState, own_entries}
 use Rattle.mw_lone.specs.Store.{is_cas}
-use Rattle.mw_world_file.specs.declared.outcomes.Outcome.{Outcome}
-use Rattle.mw_world_file.specs.declared.outcomes.Outcome.TheVariants.{Good}
-use Rattle.mw_world_file.specs.Files.{File}
+use Rattle.mw_world.specs.declared.outcomes.Outcome.{Outcome}
+use Rattle.mw_world.specs.declared.outcomes.Outcome.TheVariants.{Good}
+use Rattle.mw_world.specs.Files.State.{File}
 use Rattle.mw_world.specs.declared.config.Config.{Config}
 use Rattle.mw_world.specs.declared.step_labels.StepLabel.TheVariants.{Nothing}
 use Rattle.mw_world.specs.Definition.Calls.{Called, breaks, call, call_if, called_at, calling, calls_made, can_be_made, fails_on, fault_label, faults, filed, goes_well, good_label, moved_if, place_for, skips, starts_from, status_after}

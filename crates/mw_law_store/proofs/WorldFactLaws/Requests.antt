@@ -20,7 +20,7 @@ use Rattle.mw_look.specs.declared.steps.Shape.{Shape}
 use Rattle.mw_look.specs.declared.steps.Shape.TheVariants.{Exchange, Store, Fetch}
 use Rattle.mw_look.specs.Shapes.{shape_of}
 use Rattle.mw_world.specs.Definition.State.{State, TenantState, tenants_of}
-use Rattle.mw_world_file.specs.Maps.{upd}
+use Rattle.mw_world.specs.Maps.{upd}
 use Rattle.mw_law_runs.specs.Moves.Rely.{Rely}
 use Rattle.mw_law_runs.specs.Knowledge.Informed.{Changes}
 use Rattle.mw_law_runs.specs.Obligations.{OneStepped}

@@ -2,7 +2,7 @@
 -- there.
 -- Used by: mw_rule.
 use Rattle.std.specs.Prelude.{ℕ, ◌≡◌, List, length, is_none, Option}
-use Rattle.mw_world_file.specs.Restarts.{opened_file}
+use Rattle.mw_world.specs.Files.Restarts.{opened_file}
 use Rattle.mw_world.specs.declared.config.Config.{Config}
 use Rattle.mw_world.specs.Claim.Invariant.{FilesMatch, ChangesHavePlaces}
 use Rattle.mw_world.specs.Definition.State.{State, TenantState, tenant_at}

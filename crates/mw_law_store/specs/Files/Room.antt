@@ -1,7 +1,7 @@
 -- States that a tenant's file has an empty record place while a slot is taken for the tenant without its change in the file.
 -- Used by: src/file_laws.rt.
 use Rattle.std.specs.Prelude.{ℕ, ◌≡◌, ◌<◌, ◌≤◌, true, false}
-use Rattle.mw_world_file.specs.Files.{File, is_empty, empty_from}
+use Rattle.mw_world.specs.Files.State.{File, is_empty, empty_from}
 use Rattle.mw_world.specs.declared.config.Config.{Config}
 use Rattle.mw_world.specs.Claim.Invariant.{placed}
 use Rattle.mw_world.specs.Definition.State.{State, tenants_of}

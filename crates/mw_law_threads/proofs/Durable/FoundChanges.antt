@@ -15,7 +15,7 @@ use Rattle.mw_file.specs.Reopenings.{NotDamaged}
 use Rattle.mw_file.specs.declared.opening.OpenFault.{OpenFault}
 use Rattle.mw_file.specs.declared.opening.OpenFault.TheVariants.{Damage, Disk, Memory}
 use Rattle.mw_file.specs.declared.tenant_file.TenantFile.{TenantFile}
-use Rattle.mw_world_file.specs.Crashes.{IsFileOfEither}
+use Rattle.mw_world.specs.Files.Crashes.{IsFileOfEither}
 use Rattle.mw_law_threads.specs.Durable.Starts.{FindsEither, LeftByOpenings, Opening, StartsFindChanges}
 
 module _ {E : Type 0} (facts : E → Facts) (disk : E) (honest : IsTrue (facts disk).honest) (rest : IsSynced (facts disk)) (words : List ℕ) (more : List Entry) where

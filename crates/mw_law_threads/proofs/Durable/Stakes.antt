@@ -6,9 +6,9 @@ use Rattle.std.proofs.lemmas.Bool.{cases_lt}
 use Rattle.std.proofs.lemmas.Option.{slice_get_past}
 use Rattle.mw_look.specs.declared.steps.Call.{Call}
 use Rattle.mw_look.specs.declared.steps.Call.TheVariants.{Prepare as PrepareCall, Seal as SealCall, Settle as SettleCall, Cancel as CancelCall}
-use Rattle.mw_world_file.specs.Calls.{place_for}
-use Rattle.mw_world_file.specs.Crashes.{at_stake}
-use Rattle.mw_world_file.specs.Files.{Place, entries_at, entries_in}
+use Rattle.mw_world.specs.Files.Calls.{place_for}
+use Rattle.mw_world.specs.Files.Crashes.{at_stake}
+use Rattle.mw_world.specs.Files.State.{Place, entries_at, entries_in}
 use Rattle.mw_world.specs.declared.config.Config.{Config}
 use Rattle.mw_world.specs.Claim.Headline.{IsExecution}
 use Rattle.mw_world.specs.Definition.Calls.{Called as CallOn}

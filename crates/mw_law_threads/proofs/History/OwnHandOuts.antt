@@ -9,7 +9,7 @@ use Rattle.mw_words.specs.declared.jobs.Job.{Job}
 use Rattle.mw_words.specs.declared.replies.Reply.{Reply}
 use Rattle.mw_actor.specs.ActorState.{ActorState, first as first_of}
 use Rattle.mw_actor.specs.Program.{replied}
-use Rattle.mw_world_file.specs.Maps.{upd}
+use Rattle.mw_world.specs.Maps.{upd}
 use Rattle.mw_world.specs.declared.config.Config.{Config}
 use Rattle.mw_world.specs.Claim.Headline.{IsExecution}
 use Rattle.mw_world.specs.Definition.Events.{WorldEvent, Come, Step, File, Hand, Restart}

@@ -13,7 +13,7 @@ use Rattle.mw_words.specs.declared.statuses.Status.TheVariants.{Draft, Open, Yes
 use Rattle.mw_lone.specs.declared.marks.Mark.{Mark}
 use Rattle.mw_lone.specs.declared.marks.Mark.TheVariants.{Ask}
 use Rattle.mw_lone.specs.Store.{RequestState, entries_of, request}
-use Rattle.mw_world_file.specs.Files.{Place, Empty, Prepared, Sealed, entries_at, entries_in, is_empty, is_prepared}
+use Rattle.mw_world.specs.Files.State.{Place, Empty, Prepared, Sealed, entries_at, entries_in, is_empty, is_prepared}
 use Rattle.mw_world.specs.declared.config.Config.{Config}
 use Rattle.mw_world.specs.Claim.Headline.{IsExecution}
 use Rattle.mw_world.specs.Claim.Invariant.{IsPlaceOf, placed}

@@ -6,7 +6,7 @@ use Rattle.mw_words.specs.Change.{fits}
 use Rattle.mw_lone.specs.declared.marks.Mark.{Mark}
 use Rattle.mw_lone.specs.declared.marks.Mark.TheVariants.{Ask}
 use Rattle.mw_lone.specs.Store.{entries_of}
-use Rattle.mw_world_file.specs.Files.{entries_at, is_prepared}
+use Rattle.mw_world.specs.Files.State.{entries_at, is_prepared}
 use Rattle.mw_world.specs.declared.config.Config.{Config}
 use Rattle.mw_world.specs.Claim.Headline.{IsExecution}
 use Rattle.mw_world.specs.Claim.Invariant.{IsInFile}

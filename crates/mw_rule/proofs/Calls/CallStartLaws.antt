@@ -10,7 +10,7 @@ use Rattle.mw_words.specs.Change.{is_change}
 use Rattle.mw_look.specs.declared.steps.Call.{Call}
 use Rattle.mw_look.specs.declared.steps.Call.TheVariants.{Prepare as PrepareCall, Seal as SealCall, Settle as SettleCall, Cancel as CancelCall}
 use Rattle.mw_actor.specs.ActorState.{ActorState, own_entries}
-use Rattle.mw_world_file.specs.Files.{File, Place, Empty, Prepared, Sealed, empty_from, entries_at, entries_in, is_apart, is_empty, is_prepared, is_sealed, share_a_word}
+use Rattle.mw_world.specs.Files.State.{File, Place, Empty, Prepared, Sealed, empty_from, entries_at, entries_in, is_apart, is_empty, is_prepared, is_sealed, share_a_word}
 use Rattle.mw_world.specs.declared.config.Config.{Config}
 use Rattle.mw_world.specs.Claim.Headline.{CanBeMade}
 use Rattle.mw_world.specs.Claim.Invariant.{placed}

@@ -10,9 +10,9 @@ use Rattle.mw_look.specs.declared.observations.Observation.TheVariants.{Won, Fil
 use Rattle.mw_look.specs.Observations.{seen}
 use Rattle.mw_actor.specs.ActorState.{ActorState}
 use Rattle.mw_actor.specs.Program.{tells}
-use Rattle.mw_world_file.specs.declared.outcomes.Outcome.TheVariants.{Good}
-use Rattle.mw_world_file.specs.Files.{File, entries_at}
-use Rattle.mw_world_file.specs.Maps.{upd}
+use Rattle.mw_world.specs.declared.outcomes.Outcome.TheVariants.{Good}
+use Rattle.mw_world.specs.Files.State.{File, entries_at}
+use Rattle.mw_world.specs.Maps.{upd}
 use Rattle.mw_world.specs.declared.config.Config.{Config}
 use Rattle.mw_world.specs.declared.step_labels.StepLabel.{StepLabel}
 use Rattle.mw_world.specs.declared.step_labels.StepLabel.TheVariants.{Nothing}

@@ -13,7 +13,7 @@ use Rattle.mw_look.specs.Steps.{Step, Load, Change, File as FileStep}
 use Rattle.mw_actor.specs.ActorState.{ActorState}
 use Rattle.mw_actor.specs.Asks.{asks}
 use Rattle.mw_actor.specs.Program.{replied}
-use Rattle.mw_world_file.specs.declared.outcomes.Outcome.{Outcome}
+use Rattle.mw_world.specs.declared.outcomes.Outcome.{Outcome}
 use Rattle.mw_world.specs.declared.config.Config.{Config}
 use Rattle.mw_world.specs.Definition.Calls.{Called, call, call_if, called_at, calling, moved_if}
 use Rattle.mw_world.specs.Definition.Cells.{Cells, read, write}

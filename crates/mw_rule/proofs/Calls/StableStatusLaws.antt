@@ -5,8 +5,8 @@ use Rattle.std.specs.Option.{option_and_then}
 use Rattle.std.proofs.Common.{refl, sym, ap, subst, ◌∙◌, inl, inr}
 use Rattle.std.proofs.lemmas.Option.{none-some, option_and_then_some, same_Some}
 use Rattle.mw_words.specs.declared.jobs.Job.{Job}
-use Rattle.mw_world_file.specs.declared.outcomes.Outcome.{Outcome}
-use Rattle.mw_world_file.specs.declared.outcomes.Outcome.TheVariants.{Good, Fail}
+use Rattle.mw_world.specs.declared.outcomes.Outcome.{Outcome}
+use Rattle.mw_world.specs.declared.outcomes.Outcome.TheVariants.{Good, Fail}
 use Rattle.mw_actor.specs.declared.points.Point.{Point}
 use Rattle.mw_actor.specs.declared.points.Point.TheVariants.{Prepare, Seal, Settle, Cancel}
 use Rattle.mw_actor.specs.ActorState.{ActorState}

@@ -11,8 +11,8 @@ use Rattle.mw_words.specs.Change.{is_change}
 use Rattle.mw_look.specs.declared.steps.Call.{Call}
 use Rattle.mw_look.specs.declared.steps.Call.TheVariants.{Prepare as PrepareCall, Seal as SealCall, Settle as SettleCall, Cancel as CancelCall}
 use Rattle.mw_actor.specs.ActorState.{ActorState, own_entries}
-use Rattle.mw_world_file.specs.Files.{File, Prepared, Sealed, broken, entries_at, entries_in, is_empty, is_sealed, share_a_word}
-use Rattle.mw_world_file.proofs.KeptPlaces.{upd_here}
+use Rattle.mw_world.specs.Files.State.{File, Prepared, Sealed, broken, entries_at, entries_in, is_empty, is_sealed, share_a_word}
+use Rattle.mw_world.proofs.MapLaws.{upd_here}
 use Rattle.mw_world.specs.declared.config.Config.{Config}
 use Rattle.mw_world.specs.Definition.Calls.{Called, breaks, doubt_of, filed, goes_well, place_for}
 use Rattle.mw_world.specs.Definition.State.{State, TenantState}

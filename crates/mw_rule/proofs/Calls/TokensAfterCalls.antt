@@ -8,10 +8,10 @@ use Rattle.mw_words.specs.declared.jobs.Entry.{Entry}
 use Rattle.mw_words.specs.Change.{put}
 use Rattle.mw_look.specs.declared.steps.Call.{Call}
 use Rattle.mw_look.specs.declared.steps.Call.TheVariants.{Prepare as PrepareCall, Seal as SealCall, Settle as SettleCall, Cancel as CancelCall}
-use Rattle.mw_world_file.specs.Calls.{doubt_of, filed}
-use Rattle.mw_world_file.specs.Files.{File, Place, Sealed, broken, emptied, entries_at, prepared, sealed}
-use Rattle.mw_world_file.specs.Maps.{upd}
-use Rattle.mw_world_file.proofs.KeptPlaces.{get_others, get_written, upd_here, upd_there}
+use Rattle.mw_world.specs.Files.Calls.{doubt_of, filed}
+use Rattle.mw_world.specs.Files.State.{File, Place, Sealed, broken, emptied, entries_at, prepared, sealed}
+use Rattle.mw_world.specs.Maps.{upd}
+use Rattle.mw_world.proofs.MapLaws.{get_others, get_written, upd_here, upd_there}
 use Rattle.mw_rule.specs.declared.file_token.FileToken.{FileToken}
 use Rattle.mw_rule.specs.declared.file_token.PlaceKept.{PlaceKept}
 use Rattle.mw_rule.specs.declared.file_token.PlaceKept.TheVariants.{Empty as KeptEmpty, Prepared as KeptPrepared, Sealed as KeptSealed}

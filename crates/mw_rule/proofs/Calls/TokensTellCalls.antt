@@ -10,8 +10,8 @@ use Rattle.mw_words.specs.declared.jobs.Entry.{Entry}
 use Rattle.mw_words.specs.Change.{is_change}
 use Rattle.mw_look.specs.declared.steps.Call.{Call}
 use Rattle.mw_look.specs.declared.steps.Call.TheVariants.{Prepare as PrepareCall, Seal as SealCall, Settle as SettleCall, Cancel as CancelCall}
-use Rattle.mw_world_file.specs.Calls.{device_calls, fails_on, is_formed, place_for, suits}
-use Rattle.mw_world_file.specs.Files.{File, file_of, Place, Empty, Prepared, Sealed, empty_from, entries_at, entries_in, is_apart, is_empty, is_prepared, is_sealed, share_a_word}
+use Rattle.mw_world.specs.Files.Calls.{device_calls, fails_on, is_formed, place_for, suits}
+use Rattle.mw_world.specs.Files.State.{File, file_of, Place, Empty, Prepared, Sealed, empty_from, entries_at, entries_in, is_apart, is_empty, is_prepared, is_sealed, share_a_word}
 use Rattle.mw_rule.specs.declared.file_token.FileToken.{FileToken}
 use Rattle.mw_rule.specs.declared.file_token.PlaceKept.TheVariants.{Empty as KeptEmpty}
 use Rattle.mw_rule.specs.Calls.FileTokens.{FileTokensTellCalls, FileTokensTellFiles, FileTokensTellOpenedFiles, TellsCall, TellsFile, file_told, listed, place_if, place_kept, place_told, file_token_opened}

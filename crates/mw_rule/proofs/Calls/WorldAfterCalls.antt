@@ -18,9 +18,9 @@ use Rattle.mw_actor.specs.ActorState.{ActorState, alone, is_alone}
 use Rattle.mw_actor.specs.Asks.{asks_at}
 use Rattle.mw_actor.specs.RequestEnds.{gives_up}
 use Rattle.mw_actor.specs.Program.{goes, reply_at, tells}
-use Rattle.mw_world_file.specs.declared.outcomes.Outcome.{Outcome}
-use Rattle.mw_world_file.specs.declared.outcomes.Outcome.TheVariants.{Good, Fail}
-use Rattle.mw_world_file.specs.Files.{File}
+use Rattle.mw_world.specs.declared.outcomes.Outcome.{Outcome}
+use Rattle.mw_world.specs.declared.outcomes.Outcome.TheVariants.{Good, Fail}
+use Rattle.mw_world.specs.Files.State.{File}
 use Rattle.mw_world.specs.declared.step_labels.StepLabel.{StepLabel}
 use Rattle.mw_world.specs.declared.step_labels.StepLabel.TheVariants.{Nothing}
 use Rattle.mw_world.specs.Definition.Calls.{Called, breaks, called_at, can_be_made, calls_made, ends, fails_on, fault_label, faults, goes_well, good_label, is_made, place_for, skips, starts_from}

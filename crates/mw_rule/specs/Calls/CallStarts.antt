@@ -6,7 +6,7 @@ use Rattle.mw_words.specs.Change.{is_change}
 use Rattle.mw_look.specs.declared.steps.Call.{Call}
 use Rattle.mw_look.specs.declared.steps.Call.TheVariants.{Prepare as PrepareCall, Seal as SealCall, Settle as SettleCall, Cancel as CancelCall}
 use Rattle.mw_actor.specs.ActorState.{ActorState, own_entries}
-use Rattle.mw_world_file.specs.Files.{File, Empty, Prepared, Sealed, entries_at, is_empty, is_sealed, share_a_word}
+use Rattle.mw_world.specs.Files.State.{File, Empty, Prepared, Sealed, entries_at, is_empty, is_sealed, share_a_word}
 use Rattle.mw_world.specs.declared.config.Config.{Config}
 use Rattle.mw_world.specs.Claim.Headline.{IsExecution}
 use Rattle.mw_world.specs.Definition.Calls.{Called, called_at, can_be_made, fails_on, place_for, starts_from}

@@ -5,9 +5,9 @@ use Rattle.mw_words.specs.declared.jobs.Entry.{Entry}
 use Rattle.mw_words.specs.Change.{put}
 use Rattle.mw_look.specs.declared.steps.Call.{Call}
 use Rattle.mw_look.specs.declared.steps.Call.TheVariants.{Prepare as PrepareCall, Seal as SealCall, Settle as SettleCall, Cancel as CancelCall}
-use Rattle.mw_world_file.specs.Calls.{can_be_made, device_calls, doubt_of, fails_on, filed, place_for}
-use Rattle.mw_world_file.specs.Files.{File, Place, Empty, Prepared, Sealed, broken, entries_at}
-use Rattle.mw_world_file.specs.Restarts.{opened_file}
+use Rattle.mw_world.specs.Files.Calls.{can_be_made, device_calls, doubt_of, fails_on, filed, place_for}
+use Rattle.mw_world.specs.Files.State.{File, Place, Empty, Prepared, Sealed, broken, entries_at}
+use Rattle.mw_world.specs.Files.Restarts.{opened_file}
 use Rattle.mw_rule.specs.declared.file_token.FileToken.{FileToken}
 use Rattle.mw_rule.specs.declared.file_token.PlaceKept.{PlaceKept}
 use Rattle.mw_rule.specs.declared.file_token.PlaceKept.TheVariants.{Empty as KeptEmpty, Prepared as KeptPrepared, Sealed as KeptSealed}

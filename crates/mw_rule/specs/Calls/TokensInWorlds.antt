@@ -1,7 +1,7 @@
 -- Defines when a file token is true in a world, and states that others' events leave it true. Used by: src/call_laws.rt.
 use Rattle.std.specs.Prelude.{ℕ, ◌≡◌, not, true, false, List, length, Some}
 use Rattle.mw_actor.specs.ActorState.{ActorState, own_entries}
-use Rattle.mw_world_file.specs.Files.{entries_at}
+use Rattle.mw_world.specs.Files.State.{entries_at}
 use Rattle.mw_world.specs.declared.config.Config.{Config}
 use Rattle.mw_world.specs.Claim.Headline.{IsExecution}
 use Rattle.mw_world.specs.Definition.Calls.{Called, breaks, doubt_of, fails_on, goes_well, place_for, starts_from}

@@ -9,7 +9,7 @@ ghost use Rattle.mw_words.specs.Change.{is_change};
 ghost use Rattle.mw_words.specs.Patterns.{IsStatusInRange};
 ghost use Rattle.mw_look.specs.declared.observations.Observation.TheVariants.{Filed};
 ghost use Rattle.mw_actor.specs.ActorState.{entries_of_job, own_entries};
-ghost use Rattle.mw_world_file.specs.Files.{File};
+ghost use Rattle.mw_world.specs.Files.State.{File};
 ghost use Rattle.mw_world_file.specs.declared.simulated_file.SimulatedFile.{SimulatedFile};
 ghost use Rattle.mw_world_file.specs.SoundBooks.{HasSound};
 ghost use Rattle.mw_world.specs.declared.events.Event.TheVariants.{File as FileEvent};

@@ -5,7 +5,7 @@
 ghost use Rattle.std.specs.Prelude.{◌≡◌, ℕ, ◌≤◌, [], All, Bool, IfOk, IsTrue, List, length};
 ghost use Rattle.mw_world.specs.Definition.State as spec;
 ghost use Rattle.mw_world.specs.Definition.State.{IsConfig, may_be_old};
-ghost use Rattle.mw_world_file.specs.FirstPlaces.{first_places};
+ghost use Rattle.mw_world.specs.Files.FirstPlaces.{first_places};
 ghost use Rattle.mw_world_file.specs.Books.{Represents as ShowsFile, places_of_file, quota_of};
 ghost use Rattle.mw_world_memory.specs.BitPlaces.{HasPlacesOf};
 ghost use Rattle.mw_simulator.specs.Invariant.{Holds};

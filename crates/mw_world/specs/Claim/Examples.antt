@@ -11,7 +11,7 @@ use Rattle.mw_words.specs.declared.words.Word.{Word}
 use Rattle.mw_words.specs.declared.words.Word.TheVariants.{Plain, Planted, Held}
 use Rattle.mw_lone.specs.declared.marks.Mark.{Mark}
 use Rattle.mw_lone.specs.declared.marks.Mark.TheVariants.{Ask, Admit, Look, Miss, Seal, SealFail, FileFail, GiveUp, Retire, Busy as FoundBusy, Reply as HandOut, Restart as IsRestart}
-use Rattle.mw_world_file.specs.declared.outcomes.Outcome.TheVariants.{Fail}
+use Rattle.mw_world.specs.declared.outcomes.Outcome.TheVariants.{Fail}
 use Rattle.mw_world.specs.declared.config.Config.{Config}
 use Rattle.mw_world.specs.declared.config.Tenant.{Tenant}
 use Rattle.mw_world.specs.declared.events.Interrupted.{Interrupted}

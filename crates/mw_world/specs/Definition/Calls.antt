@@ -12,9 +12,9 @@ use Rattle.mw_actor.specs.declared.points.Slot.{Slot}
 use Rattle.mw_actor.specs.declared.points.Point.{Point}
 use Rattle.mw_actor.specs.declared.points.Point.TheVariants.{Prepare, Seal, Settle, Cancel}
 use Rattle.mw_actor.specs.ActorState.{ActorState, own_entries}
-use Rattle.mw_world_file.specs.declared.outcomes.Outcome.{Outcome}
-use Rattle.mw_world_file.specs.declared.outcomes.Outcome.TheVariants.{Good, Fail}
-use Rattle.mw_world_file.specs.Files.{File, entries_at, broken}
+use Rattle.mw_world.specs.declared.outcomes.Outcome.{Outcome}
+use Rattle.mw_world.specs.declared.outcomes.Outcome.TheVariants.{Good, Fail}
+use Rattle.mw_world.specs.Files.State.{File, entries_at, broken}
 use Rattle.mw_world.specs.declared.config.Config.{Config}
 use Rattle.mw_world.specs.Definition.Cells.{write}
 use Rattle.mw_world.specs.Definition.Changes.{fetched}
@@ -24,7 +24,7 @@ use Rattle.mw_world.specs.declared.step_labels.StepLabel.TheVariants.{Nothing, D
 use Rattle.mw_world.specs.Definition.State.{State}
 use Rattle.mw_world.specs.Definition.Turns.{Made, moved}
 -- what a call does to the file alone
-pub use Rattle.mw_world_file.specs.Calls.{fails_on, place_for, suits, is_formed, can_be_made, device_calls, is_made, filed, doubt_of}
+pub use Rattle.mw_world.specs.Files.Calls.{fails_on, place_for, suits, is_formed, can_be_made, device_calls, is_made, filed, doubt_of}
 
 -- A call on a file, and the change that it is for.
 pub record Called : Type 0 where

@@ -9,7 +9,7 @@ use Rattle.mw_words.specs.declared.rows.Row.{Row}
 use Rattle.mw_words.specs.declared.statuses.Status.{Status}
 use Rattle.mw_words.specs.declared.words.Word.{Word}
 use Rattle.mw_look.specs.Places.{Fits, Val}
-use Rattle.mw_world_file.specs.Maps.{upd, upd_two}
+use Rattle.mw_world.specs.Maps.{upd, upd_two}
 
 -- The value at each place. Past the last tenant, slot or worker, a place has its first value, and nothing changes it.
 pub record Cells : Type 0 where

@@ -2,7 +2,7 @@
 -- Used by: many crates from mw_law_runs on.
 use Rattle.std.specs.Prelude.{ℕ, List, Option}
 use Rattle.mw_words.specs.declared.jobs.Job.{Job}
-use Rattle.mw_world_file.specs.declared.outcomes.Outcome.{Outcome}
+use Rattle.mw_world.specs.declared.outcomes.Outcome.{Outcome}
 use Rattle.mw_world.specs.declared.events.Interrupted.{Interrupted}
 
 -- What a restart finds of a tenant's file, and the quota that it gives. It finds the call that was under way, if one

@@ -9,7 +9,7 @@ use Rattle.mw_lone.specs.declared.marks.Mark.{Mark}
 use Rattle.mw_lone.specs.declared.marks.Mark.TheVariants.{Admit as IsAdmitted, Busy as IsBusy, Look as Looks, Miss, Seal as Seals, SealFail, FileFail, GiveUp as GivesUp, Retire}
 use Rattle.mw_actor.specs.declared.points.Slot.{Slot}
 use Rattle.mw_actor.specs.ActorState.{ActorState, own_entries}
-use Rattle.mw_world_file.specs.Maps.{upd, upd_two, upd_three}
+use Rattle.mw_world.specs.Maps.{upd, upd_two, upd_three}
 use Rattle.mw_world.specs.Definition.History.{History, standing_at, permission_at}
 use Rattle.mw_world.specs.declared.step_labels.StepLabel.{StepLabel}
 use Rattle.mw_world.specs.declared.step_labels.StepLabel.TheVariants.{Admitted, FoundBusy, FoundFault, Looked, Reserved, LookedBefore, Claimed, Decided, Refused, Moved, Freed, Lowered, GaveUp, SealedIt, FailedToSeal, FailedFile}

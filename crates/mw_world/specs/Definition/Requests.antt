@@ -3,7 +3,7 @@ use Rattle.std.specs.Prelude.{ℕ, Some, None}
 use Rattle.mw_words.specs.declared.jobs.Job.{Job}
 use Rattle.mw_lone.specs.declared.marks.Mark.TheVariants.{Reply as HandOut}
 use Rattle.mw_actor.specs.ActorState.{first}
-use Rattle.mw_world_file.specs.Maps.{upd}
+use Rattle.mw_world.specs.Maps.{upd}
 use Rattle.mw_world.specs.declared.config.Config.{Config}
 use Rattle.mw_world.specs.Definition.LabelEffects.{more}
 use Rattle.mw_world.specs.Definition.State.{State}

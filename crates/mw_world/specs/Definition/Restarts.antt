@@ -8,7 +8,7 @@ use Rattle.mw_lone.specs.declared.marks.Mark.TheVariants.{Restart as IsRestart}
 use Rattle.mw_look.specs.declared.steps.Call.{Call}
 use Rattle.mw_look.specs.declared.steps.Call.TheVariants.{Seal as SealCall}
 use Rattle.mw_actor.specs.ActorState.{ActorState, own_entries}
-use Rattle.mw_world_file.specs.Files.{File, entries_at}
+use Rattle.mw_world.specs.Files.State.{File, entries_at}
 use Rattle.mw_world.specs.declared.config.Config.{Config}
 use Rattle.mw_world.specs.declared.events.Interrupted.{Interrupted}
 use Rattle.mw_world.specs.Definition.Extent.{has_slot}
@@ -16,7 +16,7 @@ use Rattle.mw_world.specs.Definition.Events.{Found}
 use Rattle.mw_world.specs.Definition.State.{State, TenantState, may_be_quotas, places_of, tenants_of, marks_in, started}
 use Rattle.mw_world.specs.Definition.Calls.{Called, called_at, calls_made, can_be_made, place_for}
 -- what may be found of one file
-pub use Rattle.mw_world_file.specs.Restarts.{doubt_if, is_whole_seal, takes, may_find, may_fail, opened_file}
+pub use Rattle.mw_world.specs.Files.Restarts.{doubt_if, is_whole_seal, takes, may_find, may_fail, opened_file}
 
 -- A call on a tenant's file that was under way: its tenant, the call, the request and the entries of its change, how
 -- many of its device calls were made, and how many it makes. A call makes none if it can't be made, or if its slot

@@ -13,9 +13,9 @@ use Rattle.mw_words.specs.declared.limits.TheConstants.{MAX_POOL, MAX_QUOTA, MAX
 use Rattle.mw_lone.specs.declared.marks.Mark.{Mark}
 use Rattle.mw_lone.specs.Store.{Store, is_quota, new_store, store_after_start, run as run_of_store}
 use Rattle.mw_actor.specs.ActorState.{ActorState}
-use Rattle.mw_world_file.specs.declared.unopened.TheConstants.{OLD_ENTRIES, OLD_PLACES}
-use Rattle.mw_world_file.specs.Files.{File, file_of}
-use Rattle.mw_world_file.specs.FirstPlaces.{first_places}
+use Rattle.mw_world.specs.declared.old_files.TheConstants.{OLD_ENTRIES, OLD_PLACES}
+use Rattle.mw_world.specs.Files.State.{File, file_of}
+use Rattle.mw_world.specs.Files.FirstPlaces.{first_places}
 use Rattle.mw_world.specs.declared.config.Config.{Config}
 use Rattle.mw_world.specs.declared.config.Tenant.{Tenant}
 use Rattle.mw_world.specs.Definition.Cells.{Cells}

@@ -7,8 +7,8 @@ use Rattle.mw_actor.specs.declared.points.Point.TheVariants.{Plant}
 use Rattle.mw_actor.specs.ActorState.{ActorState}
 use Rattle.mw_actor.specs.Asks.{asks}
 use Rattle.mw_actor.specs.Program.{tells, replied}
-use Rattle.mw_world_file.specs.Maps.{upd}
-use Rattle.mw_world_file.specs.Files.{File}
+use Rattle.mw_world.specs.Maps.{upd}
+use Rattle.mw_world.specs.Files.State.{File}
 use Rattle.mw_world.specs.declared.config.Config.{Config}
 use Rattle.mw_world.specs.Definition.Cells.{Cells}
 use Rattle.mw_world.specs.Definition.Changes.{done}

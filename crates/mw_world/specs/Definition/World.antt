@@ -7,7 +7,7 @@ use Rattle.mw_words.specs.Change.{is_well_formed}
 use Rattle.mw_lone.specs.declared.marks.Mark.TheVariants.{Ask, Reply as HandOut}
 use Rattle.mw_actor.specs.ActorState.{ActorState, first}
 use Rattle.mw_actor.specs.Program.{replied}
-use Rattle.mw_world_file.specs.Maps.{upd}
+use Rattle.mw_world.specs.Maps.{upd}
 use Rattle.mw_world.specs.declared.config.Config.{Config}
 use Rattle.mw_world.specs.Definition.Events.{WorldEvent, Come, Step, File, Hand, Restart}
 use Rattle.mw_world.specs.Definition.State.{State, WorkerState, TenantState, tenant_at, tenants_of}

@@ -17,7 +17,7 @@ use Rattle.mw_actor.specs.declared.points.Task.{Task}
 use Rattle.mw_actor.specs.ActorState.{ActorState, entry_of, planted, same_slot}
 use Rattle.mw_actor.specs.Help.{helps}
 use Rattle.mw_actor.specs.Inspection.{attempt_met, attempt_confirmed, is_open}
-use Rattle.mw_world_file.specs.Maps.{upd_two}
+use Rattle.mw_world.specs.Maps.{upd_two}
 use Rattle.mw_world.specs.declared.config.Config.{Config}
 use Rattle.mw_world.specs.Definition.History.{StandingAttempt, NoAttempt, AttemptIn, HoldPermission, Idle, Permitted, own_attempt, permitted_if, standing_at, permission_at}
 use Rattle.mw_world.specs.Definition.State.{State}

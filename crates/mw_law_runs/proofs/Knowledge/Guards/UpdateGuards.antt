@@ -23,7 +23,7 @@ use Rattle.mw_actor.specs.declared.points.Task.{Task}
 use Rattle.mw_actor.specs.ActorState.{ActorState, own_entries, entry_at, entry_of}
 use Rattle.mw_actor.specs.Asks.{asks_at, row_of}
 use Rattle.mw_actor.specs.Ranges.{IsEntryInRange, IsInRange}
-use Rattle.mw_world_file.specs.Maps.{upd_two}
+use Rattle.mw_world.specs.Maps.{upd_two}
 use Rattle.mw_world.specs.declared.config.Config.{Config}
 use Rattle.mw_world.specs.Definition.History.{NoAttempt, AttemptIn, standing_at, permission_at}
 use Rattle.mw_world.specs.Claim.Invariant.{IsOfWorker}

@@ -15,7 +15,7 @@ use Rattle.mw_actor.specs.declared.points.Task.{Task}
 use Rattle.mw_actor.specs.ActorState.{ActorState}
 use Rattle.mw_actor.specs.Asks.{row_of}
 use Rattle.mw_law_runs.proofs.Requests.StageLaws.{goes_leads}
-use Rattle.mw_world_file.specs.Maps.{upd}
+use Rattle.mw_world.specs.Maps.{upd}
 use Rattle.mw_world.specs.declared.config.Config.{Config}
 use Rattle.mw_world.specs.Definition.State.{State, WorkerState}
 use Rattle.mw_law_runs.specs.Moves.Guards.{Guards, IsLive}

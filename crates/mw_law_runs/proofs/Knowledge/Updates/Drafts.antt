@@ -17,7 +17,7 @@ use Rattle.mw_actor.specs.declared.points.Point.TheVariants.{Claim, FillStatus, 
 use Rattle.mw_actor.specs.declared.points.Slot.{Slot}
 use Rattle.mw_actor.specs.ActorState.{ActorState, own_entries, entries_of_job, entry_at}
 use Rattle.mw_actor.specs.Ranges.{IsFormed}
-use Rattle.mw_world_file.specs.Maps.{upd}
+use Rattle.mw_world.specs.Maps.{upd}
 use Rattle.mw_world.specs.declared.config.Config.{Config}
 use Rattle.mw_world.specs.Definition.Cells.{Cells}
 use Rattle.mw_world.specs.Definition.History.{StandingAttempt, HoldPermission}

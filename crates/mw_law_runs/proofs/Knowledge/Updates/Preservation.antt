@@ -10,7 +10,7 @@ use Rattle.mw_words.specs.declared.statuses.Status.TheVariants.{Draft}
 use Rattle.mw_look.specs.declared.observations.Observation.{Observation}
 use Rattle.mw_actor.specs.declared.points.Slot.{Slot}
 use Rattle.mw_actor.specs.ActorState.{ActorState}
-use Rattle.mw_world_file.specs.Maps.{upd, upd_two, upd_three}
+use Rattle.mw_world.specs.Maps.{upd, upd_two, upd_three}
 use Rattle.mw_world.specs.declared.config.Config.{Config}
 use Rattle.mw_world.specs.Definition.Counts.{pins_held, frees_at}
 use Rattle.mw_world.specs.Definition.State.{State}

@@ -2,5 +2,5 @@
 use Rattle.mw_table_tests.specs.Readers.{MayGet}
 use Rattle.mw_table_tests.proofs.neighbour_tests.gets.Given as goal
 
-abbrev pub invariant-loop : goal.invariant-loop
-invariant-loop l = MayGet l.core.shared l.pass l.tenant
+abbrev pub invariant-loop-number : goal.invariant-loop-number
+invariant-loop-number l = MayGet l.core.shared l.pass l.tenant

@@ -4,7 +4,7 @@ use Rattle.std.specs.Prelude.{◌≡◌, Some}
 use Rattle.std.specs.Option.{option_map}
 use Rattle.std.proofs.Common.{refl, ap, subst, sym, ◌∙◌, true, false, Ok, Err}
 use Rattle.mw_actor.specs.ActorState.{entries_of_job, own_entries}
-use Rattle.mw_world_file.specs.Files.{File}
+use Rattle.mw_world.specs.Files.State.{File}
 use Rattle.mw_world_file.specs.SoundBooks.{HasSound}
 use Rattle.mw_world_file.specs.CallEffects.{Works}
 use Rattle.mw_world_file.proofs.SoundBooks.{sound_after}

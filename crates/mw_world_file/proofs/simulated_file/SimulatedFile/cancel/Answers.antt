@@ -8,7 +8,7 @@ use Rattle.mw_world_file.specs.declared.places.Place.TheVariants.{Prepared as Ke
 use Rattle.mw_world_file.specs.CallEffects.{may_end}
 use Rattle.mw_world_file.proofs.WorkedFiles.{is_there, IsAt, places_open, sized_open, unsuited}
 use Rattle.mw_world_file.proofs.SealedFiles.{ends_well, none_shut, is_prepared_in, emptied_kept, cancel_done, uncancelled}
-use Rattle.mw_world_file.specs.declared.outcomes.Outcome.TheVariants.{Good, Fail}
+use Rattle.mw_world.specs.declared.outcomes.Outcome.TheVariants.{Good, Fail}
 use Rattle.mw_world_file.proofs.CalledDisks.{came_well}
 use Rattle.mw_world_file.proofs.CrashedFiles.{stays_safe}
 use Rattle.mw_world_file.proofs.ExactDisks.{exactly_none}

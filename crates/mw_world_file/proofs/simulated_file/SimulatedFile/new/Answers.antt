@@ -2,9 +2,9 @@
 use Rattle.std.proofs.Common.{◌∙◌, ℕ, List, length, replicate, None, sym, ap, subst, arith}
 use Rattle.std.proofs.lemmas.List.{length-replicate}
 use Rattle.mw_file.specs.RecoveryInvariant.{IsFile}
-use Rattle.mw_world_file.specs.FirstPlaces.{first_places}
+use Rattle.mw_world.specs.Files.FirstPlaces.{first_places}
 use Rattle.mw_world_file.specs.StoppedFiles.{IsReopened}
-use Rattle.mw_world_file.proofs.EnoughPlaces.{places_enough}
+use Rattle.mw_world.proofs.EnoughPlaces.{places_enough}
 use Rattle.mw_world_file.proofs.NewFiles.{first_is_file}
 use Rattle.mw_world_file.proofs.simulated_file.SimulatedFile.new.Goals.{In-Ok}
 use Rattle.mw_world_file.proofs.simulated_file.SimulatedFile.new.Goals as goal

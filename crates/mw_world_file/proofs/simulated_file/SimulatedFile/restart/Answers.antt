@@ -1,6 +1,6 @@
 -- Goals of `SimulatedFile::restart` (src/restarts.rt).
 use Rattle.std.proofs.Common.{◌∙◌, ap}
-use Rattle.mw_world_file.specs.Restarts.{takes}
+use Rattle.mw_world.specs.Files.Restarts.{takes}
 use Rattle.mw_world_file.proofs.RestartedFiles.{restarted, not_restarted}
 use Rattle.mw_world_file.proofs.simulated_file.SimulatedFile.restart.Goals as goal
 

@@ -4,9 +4,9 @@ use Rattle.mw_disk.specs.Memory.{memory_facts}
 use Rattle.mw_file.proofs.Ended.{ended_well, went_well}
 use Rattle.mw_look.specs.declared.steps.Call.TheVariants.{Settle}
 use Rattle.mw_world_file.specs.declared.places.Place.TheVariants.{Sealed as KeptSealed}
-use Rattle.mw_world_file.specs.Files.{entries_in, entries_at}
+use Rattle.mw_world.specs.Files.State.{entries_in, entries_at}
 use Rattle.mw_world_file.specs.Devices.{told_at}
-use Rattle.mw_world_file.specs.Calls.{device_calls}
+use Rattle.mw_world.specs.Files.Calls.{device_calls}
 use Rattle.mw_world_file.specs.CallEffects.{may_end}
 use Rattle.mw_world_file.proofs.WorkedFiles.{is_there, IsAt, unfailed_open, places_open, sized_open, told_there, unending, unsuited, refused}
 use Rattle.mw_world_file.proofs.CalledDisks.{came_well, came_to_fault}

@@ -1,11 +1,11 @@
 -- Goals of `SimulatedFile::stop_sealing` (src/stops.rt).
 use Rattle.mw_world_file.specs.Books.{quota_of, places_of_file}
-use Rattle.mw_world_file.specs.Calls.{place_for}
+use Rattle.mw_world.specs.Files.Calls.{place_for}
 use Rattle.mw_world_file.proofs.StoppedFiles.{Finds}
 use Rattle.std.proofs.Common.{◌∙◌, List, true, false, sym, ap, subst, arith, rules, get_or}
 use Rattle.arrayvec.specs.ArrayVec.{ArrayVec}
 use Rattle.mw_words.specs.declared.jobs.Entry.{Entry}
-use Rattle.mw_world_file.specs.Files.{entries_in, entries_at}
+use Rattle.mw_world.specs.Files.State.{entries_in, entries_at}
 use Rattle.mw_look.specs.declared.steps.Call.TheVariants.{Seal}
 use Rattle.mw_world_file.specs.declared.places.Place.TheVariants.{Prepared as KeptPrepared}
 use Rattle.mw_world_file.proofs.WorkedFiles.{IsAt, is_there, told_there, unfailed_open}

@@ -2,8 +2,8 @@
 use Rattle.std.proofs.Common.{◌∙◌, ap, sym, refl, arith, rules, get_or}
 use Rattle.arrayvec.specs.ArrayVec.{ArrayVec}
 use Rattle.mw_words.specs.declared.jobs.Entry.{Entry}
-use Rattle.mw_world_file.specs.Files.{entries_in}
-use Rattle.mw_world_file.specs.Calls.{device_calls}
+use Rattle.mw_world.specs.Files.State.{entries_in}
+use Rattle.mw_world.specs.Files.Calls.{device_calls}
 use Rattle.mw_look.specs.declared.steps.Call.TheVariants.{Settle}
 use Rattle.mw_world_file.specs.declared.places.Place.TheVariants.{Sealed as KeptSealed}
 use Rattle.mw_world_file.proofs.WorkedFiles.{IsAt, is_there, told_there}

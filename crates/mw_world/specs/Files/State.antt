@@ -1,11 +1,10 @@
 -- Defines a tenant's file as a world has it: the words that it represents, and its places for changes.
--- Used by: src/changes.rt, src/laws.rt, src/new_books.rt, src/opened.rt, src/opening.rt, src/places.rt, src/unopened.rt,
--- many crates from mw_book on.
+-- Used by: many crates from mw_book on.
 use Rattle.std.specs.Prelude.{ℕ, zero, suc, ◌+◌, ◌==◌, ◌&&◌, Bool, true, false, not, if◌then◌else◌, List, []}
 use Rattle.std.specs.List.{list_any}
 use Rattle.mw_words.specs.declared.jobs.Entry.{Entry}
 use Rattle.mw_words.specs.Change.{put}
-use Rattle.mw_world_file.specs.Maps.{upd}
+use Rattle.mw_world.specs.Maps.{upd}
 
 -- A place is empty, or has a change that is prepared (written down) or sealed.
 pub data Place : Type 0 where

@@ -1,5 +1,5 @@
 -- Defines how many record places a tenant's first file has.
--- Used by: src/new_books.rt, src/unopened.rt, mw_world, mw_simulator.
+-- Used by: mw_world_file, mw_simulator.
 use Rattle.std.specs.Prelude.{ℕ, ◌*◌, if◌then◌else◌, nat_le}
 use Rattle.mw_record.specs.declared.layout.TheConstants.{PLACES_GROW}
 use Rattle.mw_words.specs.declared.limits.TheConstants.{MAX_PLACES}

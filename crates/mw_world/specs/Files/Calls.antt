@@ -1,11 +1,11 @@
 -- Defines when a call on a tenant's file can be made, which device calls it makes, and the file after it.
--- Used by: src/calls.rt, many crates from mw_book on.
+-- Used by: many crates from mw_book on.
 use Rattle.std.specs.Prelude.{ℕ, ◌+◌, ◌&&◌, Bool, true, false, List, [], length, nat_le, nat_lt}
 use Rattle.mw_words.specs.declared.jobs.Entry.{Entry}
 use Rattle.mw_words.specs.Change.{is_change}
 use Rattle.mw_look.specs.declared.steps.Call.{Call}
 use Rattle.mw_look.specs.declared.steps.Call.TheVariants.{Prepare as PrepareCall, Seal as SealCall, Settle as SettleCall, Cancel as CancelCall}
-use Rattle.mw_world_file.specs.Files.{File, empty_from, entries_at, is_prepared, is_sealed, is_apart, prepared, sealed, emptied}
+use Rattle.mw_world.specs.Files.State.{File, empty_from, entries_at, is_prepared, is_sealed, is_apart, prepared, sealed, emptied}
 
 -- A call fails on a file that failed before, except a cancel, which makes no device call.
 abbrev pub fails_on : Call → File → Bool

@@ -1,7 +1,7 @@
 //! How the device takes a call on a file: no device call fails, or the one with this number.
 //!
-//! Used by: mw_world, as a part of an event; `calls`. A new kind needs a case there, in `specs/CallEffects`, and in
-//! `specs/Definition/Calls` of mw_world.
+//! Used by: events, mw_world_file, mw_simulator, mw_schedule, mwreplay, mw_world_trials. A new kind needs a case in
+//! `specs/Definition/Calls`, and in `src/calls.rt` and `specs/CallEffects` of mw_world_file.
 
 /// How the device takes a call on a file.
 #[derive(Clone, Copy, PartialEq, Eq)]

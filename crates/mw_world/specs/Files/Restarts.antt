@@ -1,12 +1,12 @@
 -- Defines what a start may find of a tenant's file: which words, and whether the change in doubt is among them.
--- Used by: src/restarts.rt, mw_world, mw_law_store, mw_rule, mw_law_threads.
+-- Used by: mw_law_store, mw_rule, mw_law_threads, mw_world_file.
 use Rattle.std.specs.Prelude.{ℕ, ◌==◌, ◌&&◌, ◌||◌, Bool, true, false, if◌then◌else◌, List, [], ◌∷◌, nat_le, bytes_eq, Option, Some, None}
 use Rattle.mw_words.specs.declared.jobs.Entry.{Entry}
 use Rattle.mw_words.specs.Change.{put}
 use Rattle.mw_look.specs.declared.steps.Call.{Call}
 use Rattle.mw_look.specs.declared.steps.Call.TheVariants.{Seal as SealCall}
-use Rattle.mw_world_file.specs.Calls.{is_made}
-use Rattle.mw_world_file.specs.Files.{File, file_of, broken}
+use Rattle.mw_world.specs.Files.Calls.{is_made}
+use Rattle.mw_world.specs.Files.State.{File, file_of, broken}
 
 -- the change in doubt after all stopped: the one that was being sealed, if a device call of the seal was made, else the
 -- one from before

@@ -1,4 +1,4 @@
--- Goals of `serve_engine` (src/serving.rt).
+-- Goals of `serve_started` (src/serving.rt).
 use Rattle.std.specs.Prelude.{◌≡◌, ℕ, ◌≤◌, Option, Some, None, IfSome, String}
 use Rattle.std.proofs.Common.{Global, subst}
 use Rattle.mw_config.specs.declared.command_line.Listening.{Listening}
@@ -6,7 +6,7 @@ use Rattle.mw_config.specs.declared.command_line.Mode.{Mode}
 use Rattle.mw_config.specs.declared.command_line.Mode.TheVariants.{Listen, Script}
 use Rattle.mw_config.specs.declared.command_line.SharedWorkers.{SharedWorkers}
 use Rattle.mw_config.specs.CommandLine.{AreSharedWell, SuitsWorkers}
-use Rattle.mw_programs.proofs.serving.serve_engine.Goals as goal
+use Rattle.mw_programs.proofs.serving.serve_started.Goals as goal
 
 -- if workers are shared well, there are clients
 some_clients : (workers : ℕ) (shared : Option SharedWorkers) → IfSome shared (AreSharedWell workers) → IfSome shared (λ one. 1 ≤ one.clients)
@@ -28,10 +28,3 @@ returns-in-Script g c = record {
       let same : path ≡ c.in-Script.path = same_path c.args.setup.now.args.mode c.in-Script.path path c.in-Script.is is in
       rw (same, ← c.as_str.ensures.value) c.run_script.ensures.script;
 }
-
--- who listens has no script
-no_script : {P : Type 0} (mode : Mode) (listening : Listening) (path : String Global) → mode ≡ Listen listening → mode ≡ Script path → P
-no_script mode listening path listens is = absurd (cc)
-
-pub returns : goal.returns
-returns g c = record { script = λ path is. no_script c.args.setup.now.args.mode c.in-Listen.listening path c.in-Listen.is is }
