@@ -1,6 +1,6 @@
 """A copy of a crate, in which `rt check` reads wrong bodies over what the crate's own check kept.
 
-Used by: scripts/check-wrong-bodies, rounds.py. It takes the locks of crates' folders as `rt` does (first_run_parts/rooms.py).
+Used by: scripts/check-wrong-bodies, rounds.py. It takes the locks of crates' folders as `rt` does (library_parts/rooms.py).
 """
 import fcntl
 import shutil
@@ -9,8 +9,9 @@ from pathlib import Path
 from typing import Dict, Sequence
 
 from first_run_parts.children import Child, end
+from first_run_parts.copies import copy_sources
 from first_run_parts.crates import PARTS, Crate
-from first_run_parts.rooms import Locks, copy_sources, link_libraries
+from library_parts.rooms import Locks, link_libraries
 
 from .reports import Report, read_report
 

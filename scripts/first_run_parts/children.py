@@ -1,6 +1,7 @@
 """Child processes: each writes into files, and ends when this process ends.
 
-Used by: scripts/check-wrong-bodies, scripts/first-run, scripts/gate-cost, example.py, proving.py, edit_parts/room.py.
+Used by: scripts/build-libraries, scripts/check-wrong-bodies, scripts/first-run, scripts/gate-cost, example.py, proving.py,
+edit_parts/room.py, library_parts/building.py.
 """
 import ctypes
 import signal

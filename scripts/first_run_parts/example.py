@@ -13,7 +13,7 @@ from typing import List, NamedTuple, Sequence
 from . import machine
 from .children import Child, end
 from .crates import Crate
-from .rooms import copy_sources
+from .copies import copy_sources
 
 README = Path(__file__).resolve().parent.parent.parent / "README.md"
 HEADING = "\n## A session by hand\n"

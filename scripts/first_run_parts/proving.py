@@ -1,45 +1,61 @@
-"""Proves and builds crates, as many side by side as there are processors and free memory, the longest chain first.
+"""Proves and builds programs by the gate's own command, `rt ci`, in a copy of the crates that they stand on.
 
-Used by: scripts/check-wrong-bodies, scripts/first-run. `memory_for` reckons as `rt ci` does (`need` in the installed kit's `rt`): compare
-its numbers with those of another kit. With too low ones memory runs out.
+The copy has these crates alone, and none of their must-fail edits. What `rt ci` proves there it keeps beside the kit, by the sums of
+all that the proof has read: a later run of this, or of the gate, need not prove it again, in any checkout on this machine.
+
+Used by: scripts/first-run. It reads lines of the installed kit's `rt ci`: look at them again with another kit.
 """
+import fcntl
 import hashlib
+import os
 import re
+import shutil
 import sys
 import time
-from dataclasses import dataclass
 from pathlib import Path
-from typing import Dict, List, Optional, Set
+from typing import Dict, List, Optional, Sequence
 
 from . import machine
 from .children import Child, end
-from .crates import Crate, below, own_sum, sums_of
-from .rooms import Room
+from .copies import copy_sources, place_of_copies
+from .crates import Crate, needed_for, sums_of
 
-POLL_SECONDS = 0.2
-"""For so many seconds the children are let alone between two looks at them."""
+POLL_SECONDS = 0.5
+"""For so many seconds `rt ci` is let alone between two looks at what it has said."""
 SILENCE = 60.0
-"""After so many seconds without a line, a line says what is being proved."""
-SHARE_OF_MEMORY = 0.85
-EACH_MORE_JOB = 0.6
-"""What a second processor in one check adds to its memory, as a share of the first's."""
-MOST_JOBS = 4
-KILLED = (-9, 128 + 9, 256 - 9)
-"""The statuses of a check that the system killed, most likely because memory was out."""
+"""After so many seconds without a line, a line says how many crates are left."""
+LAST_LINES = 30
+"""So many lines are shown of a run that failed behind its proofs."""
+BEGINS = re.compile(r"== \w+$")
+ENDS = re.compile(r"rt: (\w+) (proved|NOT PROVED|is kept: .*)$")
+NOTE = "rt: note: "
+PROVED = re.compile(r"logic=proved functions=(\d+)")
 
 
-class NotBuilt(Exception):
-    """A crate was refused. Its log has been shown."""
+class NotProved(Exception):
+    """A crate was refused, or a program doesn't run. What `rt ci` said of it has been shown."""
 
 
-@dataclass
-class Running:
-    """A crate that is being proved."""
-    crate: Crate
-    room: Room
-    child: Child
-    jobs: int
-    needs: float
+def built(top: Path, name: str) -> Path:
+    """The path of a built program."""
+    return top / "crates" / name / "out" / name
+
+
+def record_of(top: Path, name: str) -> Path:
+    """The file that says of which texts a program was built, and how it looked then."""
+    return built(top, name).parent / "first-run"
+
+
+def record(top: Path, name: str, sums: Dict[str, str]) -> Optional[str]:
+    """What that file has to say of these texts, or None if the program isn't built."""
+    program = built(top, name)
+    return hashlib.sha256(sums[name].encode() + program.read_bytes()).hexdigest() if program.is_file() else None
+
+
+def was_built(top: Path, name: str, sums: Dict[str, str]) -> bool:
+    """Whether an earlier run built the program of these texts."""
+    said = record_of(top, name)
+    return said.is_file() and said.read_text(encoding="utf-8") == record(top, name, sums)
 
 
 def told(seconds: float) -> str:
@@ -48,213 +64,140 @@ def told(seconds: float) -> str:
     return f"{whole} s" if whole < 100 else f"{whole // 60} min {whole % 60} s" if whole < 600 else f"{(whole + 30) // 60} min"
 
 
-class Builder:
-    """Proves and builds crates."""
+class Verdict:
+    """One run of `rt ci` over these crates, in the copy `tree`."""
 
-    def __init__(self, place: Path, logs: Path, kit: Path, kit_line: str, crates: Dict[str, Crate], done: Set[str], at_once: Optional[int]):
-        self.place, self.logs, self.kit, self.crates = place, logs, kit, crates
-        self.sums = sums_of(crates, kit_line)
-        self.texts = {name: own_sum(it) for name, it in crates.items()}
-        self.fixed = at_once
-        self.lanes = at_once or machine.processors()
-        self.memory = SHARE_OF_MEMORY * machine.free_memory()
-        self.behind = self.chains()
-        self.left: List[str] = sorted(set(crates) - done, key=lambda it: (-self.behind[it], it))
-        self.running: Dict[str, Running] = {}
-        self.done: Set[str] = set(done)
-        self.alone: Set[str] = set()
-        self.waits_for: Dict[str, Path] = {}
-        self.finished_work, self.finished_seconds = 0, 0.0
-        self.last_line = time.monotonic()
+    def __init__(self, tree: Path, logs: Path, crates: Dict[str, Crate], jobs: Optional[int]):
+        self.crates, self.left = crates, set(crates)
+        self.began = self.last_line = time.monotonic()
+        self.proved_work = self.read = self.functions = 0
+        self.block: List[str] = []
+        fixed = [f"RT_JOBS={jobs}"] if jobs else []
+        self.child = Child(["env", *fixed, "rt", "ci"], tree, logs, "rt-ci")
+
+    def run(self) -> None:
+        """Waits for its end, with a line for each crate that is proved."""
+        try:
+            while not self.child.has_ended():
+                self.look()
+                if time.monotonic() - self.last_line >= SILENCE:
+                    self.say(f"still proving; {self.rest()}")
+                time.sleep(POLL_SECONDS)
+            self.look()
+        finally:
+            end([self.child])
+        if self.child.status():
+            print(*self.child.answer().splitlines()[-LAST_LINES:], self.child.log(), sep="\n", file=sys.stderr, flush=True)
+            raise NotProved("rt ci failed: its last lines are above")
+
+    def look(self) -> None:
+        """Takes the whole lines that were said since the last look."""
+        new = self.child.answer()[self.read:]
+        whole = new.rfind("\n") + 1
+        self.read += whole
+        for line in new[:whole].splitlines():
+            self.take(line)
+
+    def take(self, line: str) -> None:
+        """Takes a line. What is said of a crate comes at once when its proof has ended, and a line with its name is the last."""
+        if BEGINS.match(line):
+            self.block, self.functions = [], 0
+        self.block.append(line)
+        if line.startswith(NOTE):
+            self.say(line)
+        proved, ends = PROVED.match(line), ENDS.match(line)
+        if proved:
+            self.functions = int(proved[1])
+        if ends and ends[1] in self.left:
+            self.end_of(ends[1], ends[2])
+
+    def end_of(self, name: str, how: str) -> None:
+        """Takes the end of a crate's proof."""
+        if how == "NOT PROVED":
+            print(*self.block, sep="\n", file=sys.stderr, flush=True)
+            raise NotProved(f"{name} is not proved")
+        self.left.remove(name)
+        if how == "proved":
+            self.proved_work += self.crates[name].work
+            self.say(f"{name}: proved, {self.functions} function{'' if self.functions == 1 else 's'}; {self.rest()}")
+        else:
+            self.say(f"{name}: proved before; {self.rest()}")
+
+    def rest(self) -> str:
+        """How many crates are left, and a guess of the time by the speed so far."""
+        if not self.left:
+            return f"none left, after {told(time.monotonic() - self.began)}"
+        if not self.proved_work:
+            return f"{len(self.left)} left"
+        seconds = (time.monotonic() - self.began) * sum(self.crates[it].work for it in self.left) / self.proved_work
+        return f"{len(self.left)} left, about {max(1, round(seconds / 60))} min"
 
     def say(self, text: str) -> None:
         """Prints a line at once."""
         self.last_line = time.monotonic()
         print(text, flush=True)
 
-    def chains(self) -> Dict[str, int]:
-        """For each crate the work of the longest chain of crates that begins with it."""
-        behind = {name: it.work for name, it in self.crates.items()}
-        for name, it in reversed(list(self.crates.items())):
-            for used in it.uses:
-                behind[used] = max(behind[used], self.crates[used].work + behind[name])
-        return behind
 
-    # What a crate's proof needs, and what there is
+class Copies:
+    """The copy of the crates, one in a checkout at a time. What a run that was killed left gives way."""
 
-    def memory_for(self, crate: Crate) -> float:
-        """How much memory a proof of the crate is likely to take, in bytes: `rt ci` reckons so."""
-        under = below(self.crates, crate.name)
-        of_kit = {name for it in [crate, *under] for name in it.of_kit} - {"io", "libc", "os"}
-        lines = 1.0 * crate.source_lines + 0.2 * crate.proof_lines + 0.08 * sum(it.source_lines for it in under)
-        return (1000 + lines) * machine.MEGABYTE + machine.size_of_libraries(self.kit, sorted(of_kit))
+    def __init__(self, top: Path):
+        self.top = top
+        self.place, self.is_new = place_of_copies(top)
+        self.tree = self.place / "programs"
 
-    def jobs_for(self, needs: float, idle: int, ready: int) -> int:
-        """How many processors a proof may use: those that no other crate waits for, where their memory is free."""
-        if self.fixed:
-            return max(machine.processors() // self.fixed, 1)
-        room = self.memory - sum(it.needs for it in self.running.values())
-        return max(1, min(MOST_JOBS, idle // max(ready, 1), 1 + int((room / needs - 1) / EACH_MORE_JOB)))
-
-    def fits(self, name: str, needs: float) -> bool:
-        """Whether a crate can begin beside those that run."""
-        if not self.running:
-            return True
-        if name in self.alone or self.alone & set(self.running):
-            return False
-        return bool(self.fixed) or needs <= self.memory - sum(it.needs for it in self.running.values())
-
-    # What was proved before
-
-    def record_of(self, crate: Crate) -> Path:
-        """The file that says of which text the crate was built."""
-        return crate.folder / "out" / ("first-run" if crate.is_program else "rlib/first-run")
-
-    def record(self, crate: Crate) -> Optional[str]:
-        """What that file has to say now, or None where the crate isn't built. `rt` writes the stamp last."""
-        out = crate.folder / "out"
-        stamp = out / f"{crate.name}.stamp" if crate.is_program else out / "rlib" / "stamp"
-        made = out / crate.name if crate.is_program else out / "rlib" / f"{crate.name}.rlib"
-        if not (stamp.is_file() and made.exists()):
-            return None
-        total = hashlib.sha256(self.sums[crate.name].encode() + stamp.read_bytes())
-        total.update(made.read_bytes() if crate.is_program else b"")
-        return total.hexdigest()
-
-    def was_built(self, crate: Crate) -> bool:
-        """Whether an earlier run proved and built this text of the crate."""
-        record, wanted = self.record_of(crate), self.record(crate)
-        return wanted is not None and record.is_file() and record.read_text(encoding="utf-8") == wanted
-
-    # The course of a run
-
-    def run(self) -> None:
-        """Proves and builds all crates. What was begun is ended and given back, whatever happens."""
+    def __enter__(self) -> "Copies":
+        self.place.mkdir(parents=True, exist_ok=True)
+        self.lock = open(self.place / "lock", "w", encoding="utf-8")
         try:
-            while self.left or self.running:
-                self.begin()
-                self.look()
-                self.tell_what_runs()
-                time.sleep(POLL_SECONDS if self.running or self.left else 0)
-        finally:
-            end(it.child for it in self.running.values())
-            for it in self.running.values():
-                it.room.close()
+            fcntl.flock(self.lock, fcntl.LOCK_EX | fcntl.LOCK_NB)
+        except BlockingIOError:
+            print(f"waiting for another first-run in {self.top}", flush=True)
+            fcntl.flock(self.lock, fcntl.LOCK_EX)
+        shutil.rmtree(self.tree, ignore_errors=True)
+        return self
 
-    def ready(self) -> List[str]:
-        """The crates whose libraries are built, the longest chain first."""
-        return [name for name in self.left if all(it in self.done for it in self.crates[name].uses)]
+    def __exit__(self, *_: object) -> None:
+        shutil.rmtree(self.place if self.is_new else self.tree, ignore_errors=True)
+        self.lock.close()
 
-    def begin(self) -> None:
-        """Begins as many crates as there is room for."""
-        while self.take_what_was_built():
-            pass
-        ready = self.ready()
-        for at, name in enumerate(ready):
-            idle = self.lanes - (len(self.running) if self.fixed else sum(it.jobs for it in self.running.values()))
-            needs = self.memory_for(self.crates[name])
-            if idle > 0 and self.fits(name, needs):
-                self.begin_one(self.crates[name], needs, 1 if name in self.alone else self.jobs_for(needs, idle, len(ready) - at))
+    def make(self, crates: Sequence[Crate]) -> None:
+        """Copies these crates, as the whole of a repository."""
+        copy_sources(crates, self.tree)
+        shutil.copyfile(self.top / "HANDLES", self.tree / "HANDLES")
+        # (rt asks where a repository has its top)
+        (self.tree / ".git").mkdir()
 
-    def take_what_was_built(self) -> bool:
-        """Passes over the crates that were proved before. Returns whether there were any."""
-        known = [name for name in self.ready() if self.was_built(self.crates[name])]
-        for name in known:
-            self.left.remove(name)
-            self.done.add(name)
-            self.say(f"{name}: proved before; {self.rest()}")
-        return bool(known)
+    def give(self, name: str, sums: Dict[str, str]) -> None:
+        """Moves a program that was built into the checkout, and notes of which texts. One that runs there goes on."""
+        to = built(self.top, name)
+        to.parent.mkdir(exist_ok=True)
+        new = to.with_suffix(".new")
+        shutil.copy(built(self.tree, name), new)
+        os.replace(new, to)
+        record_of(self.top, name).write_text(record(self.top, name, sums) or "", encoding="utf-8")
 
-    def begin_one(self, crate: Crate, needs: float, jobs: int) -> None:
-        """Begins a crate, or says once for whom it waits."""
-        room = Room(self.place, crate, below(self.crates, crate.name))
-        busy = room.open()
-        if busy:
-            if self.waits_for.get(crate.name) != busy:
-                self.say(f"{crate.name}: waiting for another rt to finish in {busy}")
-            self.waits_for[crate.name] = busy
-            return
-        # (with one crate at a time `rt` chooses its processors itself)
-        flags = [] if self.fixed == 1 else ["--jobs", str(jobs)]
-        words = ["rt", "run", *flags, "--", "--help"] if crate.is_program else ["rt", "lib", *flags]
-        child = Child(words, room.working_folder(), self.logs, crate.name)
-        self.left.remove(crate.name)
-        self.running[crate.name] = Running(crate, room, child, jobs, needs * (1 + EACH_MORE_JOB * (jobs - 1)))
 
-    def look(self) -> None:
-        """Shows what `rt` waits for, and takes what has ended."""
-        for name, it in list(self.running.items()):
-            for line in it.child.waiting_lines():
-                self.say(f"{name}: {line}")
-            if it.child.has_ended():
-                self.take(it)
-
-    def take(self, it: Running) -> None:
-        """Takes a crate whose check has ended."""
-        name, status, seconds = it.crate.name, it.child.status(), it.child.seconds()
-        said = it.child.log() + it.child.answer()
-        it.room.close()
-        del self.running[name]
-        if status in KILLED and name not in self.alone:
-            self.alone.add(name)
-            self.left.insert(0, name)
-            self.say(f"{name}: the check was killed, most likely because memory was out: once more, alone")
-            return
-        if status:
-            print(said, end="", file=sys.stderr, flush=True)
-            raise NotBuilt(f"{name} was not built")
-        if own_sum(it.crate) != self.texts[name]:
-            raise NotBuilt(f"the text of {name} changed while it was proved: start this again")
-        record = self.record(it.crate)
-        if record is None:
-            raise NotBuilt(f"{name} left nothing in {it.crate.folder / 'out'}: start this again")
-        self.record_of(it.crate).write_text(record, encoding="utf-8")
-        self.done.add(name)
-        self.tell_end(it, said, seconds)
-
-    # Lines
-
-    def tell_end(self, it: Running, said: str, seconds: float) -> None:
-        """Says what was proved, how long it took, and what is left."""
-        proved = re.findall(r"^logic=proved functions=(\d+)", said, re.M)
-        if not proved:
-            self.say(f"{it.crate.name}: proved before; {self.rest()}")
-            return
-        self.finished_work += it.crate.work
-        self.finished_seconds += seconds
-        number = int(proved[-1])
-        functions = f"{number} function{'' if number == 1 else 's'}"
-        built = " and built" if it.crate.is_program else ""
-        self.say(f"{it.crate.name}: proved {functions}{built} in {told(seconds)}; {self.rest()}")
-
-    def rest(self) -> str:
-        """How many crates are left, and a guess of the time."""
-        number = len(self.left) + len(self.running)
-        if not number:
-            return "none left"
-        guess = self.guess()
-        return f"{number} left" + (f", about {max(1, round(guess / 60))} min" if guess is not None else "")
-
-    def guess(self) -> Optional[float]:
-        """A guess of the seconds that are left, by the speed so far: no less than the longest chain of crates, nor than all work on all lanes."""
-        if not self.finished_work:
-            return None
-        speed = self.speed()
-        own = {name: float(self.crates[name].work) for name in self.left}
-        for name, it in self.running.items():
-            own[name] = max(it.crate.work - speed * it.child.seconds(), 0.05 * it.crate.work)
-        chain = max(self.behind[name] - self.crates[name].work + own[name] for name in own)
-        lanes = self.lanes if self.fixed else max(1, min(self.lanes, int(self.memory / 2e9)))
-        return max(chain, sum(own.values()) / lanes) / speed
-
-    def speed(self) -> float:
-        """The lines of work a second and crate so far. A crate that takes longer than that slows the guess."""
-        work, seconds = self.finished_work, self.finished_seconds
-        late = [it for it in self.running.values() if it.child.seconds() * work > it.crate.work * seconds]
-        return (work + sum(it.crate.work for it in late)) / (seconds + sum(it.child.seconds() for it in late))
-
-    def tell_what_runs(self) -> None:
-        """After a silence, says what is being proved."""
-        if self.running and time.monotonic() - self.last_line >= SILENCE:
-            runs = ", ".join(f"{name} ({told(it.child.seconds())})" for name, it in self.running.items())
-            self.say(f"still proving {runs}; {self.rest()}")
+def prove(top: Path, programs: Sequence[str], kit_line: str, logs: Path, jobs: Optional[int]) -> None:
+    """Proves and builds these programs, but for those that an earlier run built of the same texts."""
+    crates = needed_for(top, programs)
+    libraries = [it for it in programs if not crates[it].is_program]
+    if libraries:
+        raise NotProved(f"{libraries[0]} is no program: `rt ci {libraries[0]}` proves a library")
+    sums = sums_of(crates, kit_line)
+    left = [it for it in programs if not was_built(top, it, sums)]
+    for it in programs:
+        if it not in left:
+            print(f"{it}: proved and built before", flush=True)
+    if not left:
+        return
+    with Copies(top) as copies:
+        copies.make(list(needed_for(top, left).values()))
+        # (what is proved are the texts that were copied)
+        copied = needed_for(copies.tree, left)
+        print(f"{len(copied)} crates to prove for {' and '.join(left)} ({machine.processors()} processors,"
+              f" {machine.free_memory() / 1e9:.0f} GB of memory free).", flush=True)
+        Verdict(copies.tree, logs, copied, jobs).run()
+        sums = sums_of(copied, kit_line)
+        for it in left:
+            copies.give(it, sums)

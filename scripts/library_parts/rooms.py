@@ -5,37 +5,16 @@ proved one after the other. In a room each is proved by itself. A room has the s
 built below, and the crate's own `out/`, which goes back to the tree at the end. While the crate is in its room, the lock
 that `rt` itself takes is held in the tree.
 
-Used by: scripts/check-wrong-bodies, scripts/first-run, example.py, proving.py, edit_parts/room.py. The locks are those that `rt` takes.
+Used by: building.py, edit_parts/room.py. The locks are those that `rt` takes.
 """
 import fcntl
 import os
 import shutil
-import tempfile
 from pathlib import Path
-from typing import List, Optional, Sequence, Tuple
+from typing import List, Optional, Sequence
 
-from .crates import Crate
-
-LEFT_OUT = shutil.ignore_patterns("out", "must-fail", "__pycache__")
-
-
-def place_of_rooms(top: Path) -> Tuple[Path, bool]:
-    """Where rooms are made, and whether that place is to be removed at the end: in .git, beside the tree, or else in a new folder."""
-    git = top / ".git"
-    if git.is_file():
-        git = top / git.read_text(encoding="utf-8").partition("gitdir:")[2].strip()
-    if git.is_dir() and os.access(git, os.W_OK):
-        return git / "first-run", False
-    return Path(tempfile.mkdtemp(prefix="first-run-")), True
-
-
-def copy_sources(crates: Sequence[Crate], to: Path) -> None:
-    """Copies these crates, without what was built of them, and their lines of crates.txt."""
-    (to / "crates").mkdir(parents=True)
-    for it in crates:
-        shutil.copytree(it.folder, to / "crates" / it.name, ignore=LEFT_OUT)
-    (to / "crates.txt").write_text("".join(f"{it.line}\n" for it in crates), encoding="utf-8")
-
+from first_run_parts.copies import copy_sources
+from first_run_parts.crates import Crate
 
 def link_or_copy(source: str, to: str) -> None:
     """Makes a second name of a file, or a copy where the file system has no second names."""
