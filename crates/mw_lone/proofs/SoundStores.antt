@@ -1,6 +1,6 @@
 -- A store alone stays sound (its jobs well formed, its change in doubt of words that are there) when one of its parts
 -- changes.
--- Used by: calls of Lone, many crates from mw_plain on.
+-- Used by: KeptRuns, many crates from mw_plain on.
 use Rattle.std.specs.Prelude.{ℕ, zero, suc, ◌≡◌, ◌≢◌, ◌<◌, ◌≤◌, ◌&&◌, Bool, true, false, cond, List, [], ◌∷◌, length, nat_le, Some, IsTrue}
 use Rattle.std.proofs.Common.{refl, sym, ap, subst, ◌∙◌, arith, inl, inr, eqb}
 use Rattle.std.proofs.Math.ListN.{set, length-set}

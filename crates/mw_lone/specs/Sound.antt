@@ -1,5 +1,5 @@
 -- Defines when a store alone is sound: its jobs are well formed, and its change in doubt is of words that are there.
--- Used by: store.rt. A clause may be added if each call keeps it.
+-- Used by: mw_plain, KeptRuns. A clause may be added if each mark keeps it.
 use Rattle.std.specs.Prelude.{ℕ, ◌≡◌, List, length, Some, IsTrue}
 use Rattle.std.specs.List.{list_all}
 use Rattle.std.specs.Ordering.{nat_cmp}

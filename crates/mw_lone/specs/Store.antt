@@ -1,6 +1,6 @@
 -- Defines the store alone, the sequential specification of one tenant: which mark (event) is legal when, and what it does to
 -- words and requests.
--- Used by: many crates from mw_plain on, asked.rt, store.rt. A change here changes what every reply means
+-- Used by: many crates from mw_plain on. A change here changes what every reply means
 -- (docs/HOW-IT-IS-PROVED, docs/THEOREM). CONTRIBUTING lists what a new mark needs.
 use Rattle.std.specs.Prelude.{ℕ, ◌+◌, ◌-◌, ◌==◌, ◌&&◌, ◌||◌, not, Bool, true, false, List, [], ◌∷◌, ◌++◌, length, nat_le, nat_lt, is_some, is_none, Option, Some, None, IsSome, slice_get, if◌then◌else◌}
 use Rattle.std.specs.Option.{option_and_then, option_map, option_map_or, option_to_list, unwrap_or}

@@ -1,7 +1,9 @@
 pub mod Answers
+pub mod Asked
 pub mod Books
 pub mod Cases
 pub mod Lines
+pub mod Lone
 pub mod Made
 pub mod Marks
 pub mod Misses

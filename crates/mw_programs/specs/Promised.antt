@@ -1,5 +1,5 @@
 -- Defines what the clients of a server are promised: an engine answers them that was made of the files which a start opened.
--- Used by: src/services.rt, src/serving.rt, mwserve. A change here changes what mwserve may serve its clients with.
+-- Used by: src/scripts.rt, src/services.rt, src/serving.rt, mwserve. A change here changes what mwserve may serve its clients with.
 use Rattle.std.specs.Prelude.{◌≡◌, ℕ, Bool, List, map, Option, String, Vec, string_bytes}
 use Rattle.std.specs.declared.alloc.Global.{Global}
 use Rattle.mw_config.specs.CommandLine.{AreAsked}

@@ -1,6 +1,6 @@
 -- Defines what a console did with a script: it had a worker serve one session, which read a beginning of the script, and
 -- printed its replies. Defines also when a server has run a script.
--- Used by: console.rt, serving.rt. A change here changes what is promised of a script: change docs/PROMISES and docs/JOINTS with it.
+-- Used by: console.rt, scripts.rt, serving.rt. A change here changes what is promised of a script: change docs/PROMISES and docs/JOINTS with it.
 use Rattle.std.specs.Prelude.{◌≡◌, ℕ, List, Option}
 use Rattle.std.specs.Io.KnownBytes.{Appends, Consumes, IsAtEnd}
 use Rattle.mw_session.specs.StreamRecords.{ReadRecord, WriteRecord, no_reads, no_writes}

@@ -23,7 +23,9 @@ use std::rt::Files;
 #[derive(Drop)]
 pub(crate) struct Doors<'e, N, Q> {
     pub(crate) clients: ClientDoors<'e, N, Q>,
-    pub(crate) pages: Option<PagesDoor<'e, N, Q>>,
+    /// The address of the pages.
+    pub(crate) pages: Option<BriefListener<'e, N, Q>>,
+    pub(crate) pages_end: PagesEnd,
 }
 
 /// What the addresses of a server have in common.
@@ -57,13 +59,6 @@ pub(crate) struct AdminDoor<'e, N, Q> {
     pub(crate) closer: Closer,
 }
 
-/// The address of the pages.
-#[derive(Drop)]
-pub(crate) struct PagesDoor<'e, N, Q> {
-    pub(crate) listener: BriefListener<'e, N, Q>,
-    pub(crate) end: PagesEnd,
-}
-
 /// Listens at all addresses, and tells where: first at that of the pages, and once all are open the administrator's
 /// place, then `ready`. A note tells of an address at which nobody can listen, and of one at which clients of other machines
 /// may come.
@@ -75,9 +70,13 @@ pub(crate) fn open_doors<'e, N, Q, C: Console, L: Log>(
 where
     N: Files<File = File> + Net<Listener = TcpListener, Stream = TcpStream>,
 {
-    let pages = open_pages(terms, console, notes)?;
+    let (pages, pages_end) = open_pages(terms, console, notes)?;
     match open_client_doors(terms, console, notes) {
-        Ok(clients) => Ok(Doors { clients, pages }),
+        Ok(clients) => Ok(Doors {
+            clients,
+            pages,
+            pages_end,
+        }),
         Err(fault) => Err(fault),
     }
 }
@@ -212,42 +211,43 @@ where
     }
 }
 
-/// Listens at the address of the pages, if there is one, and tells where.
+/// Listens at the address of the pages, if there is one, and tells where. Gives also what ends them.
 fn open_pages<'e, N, Q, C: Console, L: Log>(
     terms: &DoorTerms<'e, N, Q>,
     console: &mut C,
     notes: &L,
-) -> Result<Option<PagesDoor<'e, N, Q>>, ServeFault>
+) -> Result<(Option<BriefListener<'e, N, Q>>, PagesEnd), ServeFault>
 where
     N: Files<File = File> + Net<Listener = TcpListener, Stream = TcpStream>,
 {
     let listening = terms.listening;
     let Some(address) = &listening.http else {
-        return Ok(None);
+        return Ok((None, PagesEnd::new(None)));
     };
     let address = address.as_str();
-    let (door, port) = match pages_at(terms, address) {
-        Ok(opened) => opened,
-        Err(error) => return Err(cannot_listen(notes, address, &error)),
-    };
-    note_open(notes, listening, address, door.listener.is_open());
-    match console.tell(Address::Pages, port, address) {
-        Ok(()) => Ok(Some(door)),
-        Err(error) => Err(cannot_write(notes, &error)),
+    match pages_at(terms, address) {
+        Ok((listener, end, port)) => {
+            note_open(notes, listening, address, listener.is_open());
+            match console.tell(Address::Pages, port, address) {
+                Ok(()) => Ok((Some(listener), end)),
+                Err(error) => Err(cannot_write(notes, &error)),
+            }
+        }
+        Err(error) => Err(cannot_listen(notes, address, &error)),
     }
 }
 
-/// Listens at an address for clients of the pages. Gives also its port, if it has one.
+/// Listens at an address for clients of the pages. Gives also what ends them, and its port, if it has one.
 fn pages_at<'e, N, Q>(
     terms: &DoorTerms<'e, N, Q>,
     address: &str,
-) -> io::Result<(PagesDoor<'e, N, Q>, Option<u16>)>
+) -> io::Result<(BriefListener<'e, N, Q>, PagesEnd, Option<u16>)>
 where
     N: Files<File = File> + Net<Listener = TcpListener, Stream = TcpStream>,
 {
     let mode = terms.listening.socket_mode;
     let listener = listen_briefly(terms.network, address, mode, LIMITS)?.with_lease(terms.lease);
-    let end = PagesEnd::new(listener.closer()?);
+    let end = PagesEnd::new(Some(listener.closer()?));
     let port = listener.port()?;
-    Ok((PagesDoor { listener, end }, port))
+    Ok((listener, end, port))
 }

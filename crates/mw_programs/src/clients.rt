@@ -4,7 +4,7 @@
 ghost use Rattle.std.specs.Prelude.{◌<◌, vec_len};
 ghost use Rattle.mw_connections.specs.Promises.{KeepsPromise, PagesKeep};
 
-use crate::addresses::{AdminDoor, ClientDoors, DoorTerms, Doors, PagesDoor, open_doors};
+use crate::addresses::{AdminDoor, ClientDoors, DoorTerms, Doors, open_doors};
 use crate::beats::{HeldLease, LeaseLook};
 use crate::console::Console;
 use crate::pages::{PagesEnd, show_pages};
@@ -25,7 +25,7 @@ use std::fs::File;
 use std::net::{Net, TcpListener, TcpStream};
 use std::rt::Files;
 use std::sync::Wait;
-use std::thread::{self, Scope, Threads};
+use std::thread::{self, JoinHandle, Scope, Threads};
 use std::time::Clock;
 
 /// What the start of a server made, but its engine.
@@ -112,8 +112,12 @@ fn serve_watched<
     requires keeps { KeepsPromise S.answered Q.kept }
     requires pages { PagesKeep G.answered Q.shown }
 {
-    let stop = Stop::new();
-    let stop = &stop;
+    let Doors {
+        clients,
+        pages: listener,
+        pages_end: end,
+    } = doors;
+    let (stop, end) = (&Stop::new(), &end);
     let rt = server.rt;
     let look = LeaseLook {
         rt,
@@ -122,6 +126,7 @@ fn serve_watched<
         files: server.watch,
     };
     let look = &look;
+    let shown = pages.zip(listener);
     thread::scope(
         thread::scope_env(),
         rt,
@@ -131,7 +136,7 @@ fn serve_watched<
             requires pages { PagesKeep G.answered Q.shown }
         {
             let ended = if begin_looks(scope, rt, look, server.held, stop).is_ok() {
-                serve_and_show(server, doors, services, pages)
+                serve_and_show(scope, server, clients, services, shown, end)
             } else {
                 Err(ServeFault::Memory)
             };
@@ -160,77 +165,44 @@ fn begin_looks<'s, E, R: Wait + Clock + Sync + 's, T: FileLook + Sync + 's>(
     Ok(())
 }
 
-/// Serves clients, and shows the pages, if there are any and they have an address.
+/// Serves clients, while a thread of this scope shows the pages, if there are any and they have an address. When serving has
+/// ended the pages end too.
 fn serve_and_show<
-    'e,
+    's,
+    'e: 's,
+    E,
     S: Service + Send + Drop,
-    G: Pages + Send + Drop,
+    G: Pages + Send + Drop + 's,
     R: AllocGlobal + Threads + Wait + Clock + Sync,
     N: Clock + Sync,
     Q: PagesPromise,
     L: Log + Sync,
     T,
 >(
-    server: &Server<'e, R, N, Q, L, T>,
-    doors: Doors<'e, N, Q>,
-    services: Vec<S>,
-    pages: Option<G>,
-) -> Result<(), ServeFault>
-    requires some { 0 < vec_len services }
-    requires keeps { KeepsPromise S.answered Q.kept }
-    requires pages { PagesKeep G.answered Q.shown }
-{
-    let Doors {
-        clients,
-        pages: door,
-    } = doors;
-    match (pages, door) {
-        (Some(pages), Some(door)) => serve_beside_pages(server, clients, services, pages, door),
-        _ => serve_doors(server, clients, services),
-    }
-}
-
-/// Serves clients, while a thread shows the pages. When serving has ended the pages end too.
-fn serve_beside_pages<
-    'e,
-    S: Service + Send + Drop,
-    G: Pages + Send + Drop,
-    R: AllocGlobal + Threads + Wait + Clock + Sync,
-    N: Clock + Sync,
-    Q: PagesPromise,
-    L: Log + Sync,
-    T,
->(
+    scope: &Scope<'s, E>,
     server: &Server<'e, R, N, Q, L, T>,
     doors: ClientDoors<'e, N, Q>,
     services: Vec<S>,
-    pages: G,
-    door: PagesDoor<'e, N, Q>,
+    shown: Option<(G, BriefListener<'e, N, Q>)>,
+    end: &'s PagesEnd,
 ) -> Result<(), ServeFault>
     requires some { 0 < vec_len services }
     requires keeps { KeepsPromise S.answered Q.kept }
     requires pages { PagesKeep G.answered Q.shown }
 {
-    let (listener, end) = (door.listener, door.end);
-    let end = &end;
+    let Some((pages, listener)) = shown else {
+        return serve_doors(server, doors, services);
+    };
     let (rt, names) = (server.rt, server.listening.http_names.as_slice());
-    thread::scope(
-        thread::scope_env(),
-        rt,
-        |scope| -> Result<(), ServeFault>
-            requires some { 0 < vec_len services }
-            requires keeps { KeepsPromise S.answered Q.kept }
-            requires pages { PagesKeep G.answered Q.shown }
-        {
-            let ended = if begin_pages(scope, rt, listener, pages, names, end).is_ok() {
-                serve_doors(server, doors, services)
-            } else {
-                Err(ServeFault::Memory)
-            };
+    match begin_pages(scope, rt, listener, pages, names, end) {
+        Ok(shows) => {
+            let ended = serve_doors(server, doors, services);
             end.end();
+            shows.join(rt);
             ended
-        },
-    )
+        }
+        Err(_) => Err(ServeFault::Memory),
+    }
 }
 
 /// Starts the thread that shows the pages.
@@ -252,15 +224,14 @@ fn begin_pages<
     pages: G,
     names: &'s [String],
     end: &'s PagesEnd,
-) -> Result<(), AllocError>
+) -> Result<JoinHandle<()>, AllocError>
     requires keeps { PagesKeep G.answered Q.shown }
 {
-    scope.spawn(
+    Ok(scope.spawn(
         move ||
             requires keeps { PagesKeep G.answered Q.shown }
         { show_pages(rt, listener, pages, names, end) },
-    )?;
-    Ok(())
+    )?)
 }
 
 /// Serves the clients that come to the one address or to both.

@@ -1,6 +1,6 @@
 //! The standard output of a server: where it listens, or what a script's session is told.
 //!
-//! Used by: `serving`, `services`, `clients`, `addresses`; mwserve, which gives `serve` a [`Printed`].
+//! Used by: `serving`, `scripts`, `services`, `clients`, `addresses`; mwserve, which gives `serve` a [`Printed`].
 //! docs/OPERATING tells what is printed: change both together. Scripts read the words `ready`,
 //! `admin` and `http`.
 ghost use Rattle.std.specs.Prelude.{◌≡◌, ℕ, List, Option};

@@ -23,6 +23,7 @@ mod pages;
 mod promise;
 mod replaced;
 mod room_notes;
+mod scripts;
 mod services;
 mod serving;
 mod standard_error;

@@ -25,12 +25,13 @@ pub(crate) fn version() -> Version {
 #[derive(Drop)]
 pub(crate) struct PagesEnd {
     is_open: AtomicBool,
-    closer: Closer,
+    /// Ends the listener's wait. None: the pages have no address.
+    closer: Option<Closer>,
 }
 
 impl PagesEnd {
-    /// Makes what ends the pages, whose listener's wait this closer ends.
-    pub(crate) fn new(closer: Closer) -> Self {
+    /// Makes what ends the pages, whose listener's wait this closer ends, if they have an address.
+    pub(crate) fn new(closer: Option<Closer>) -> Self {
         PagesEnd {
             is_open: AtomicBool::new(true),
             closer,
@@ -40,7 +41,9 @@ impl PagesEnd {
     /// Ends them: no client is served any more but the one that is.
     pub(crate) fn end(&self) {
         self.is_open.store(false, Ordering::SeqCst);
-        self.closer.close();
+        if let Some(closer) = &self.closer {
+            closer.close();
+        }
     }
 }
 

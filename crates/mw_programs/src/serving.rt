@@ -12,7 +12,7 @@ ghost use Rattle.mw_engine.specs.Parts.{identity_of, world_read};
 ghost use Rattle.mw_opening.specs.MadeOfOpened.{AreMadeOfOpened};
 ghost use Rattle.mw_opening.specs.TenantsAtPath.{AreReadAt};
 ghost use Rattle.mw_programs.specs.Promised.{HasServed, Promises, PromisesOfArgs, PromisesOfStart, ServesScript};
-ghost use Rattle.mw_programs.specs.ScriptSession.{EndedWell, RunsScript};
+ghost use Rattle.mw_programs.specs.ScriptSession.{RunsScript};
 ghost use Rattle.mw_programs.specs.WorkerCount.{one_for, own_workers, served_count, worker_count};
 
 use crate::beats::HeldLease;
@@ -23,7 +23,8 @@ use crate::ending::ServerEnd;
 use crate::fault_notes::TenantNotes;
 use crate::promise::{EngineNetwork, ServerNetwork, ServerPromise};
 use crate::replaced::{FileLook, SeesPaths};
-use crate::services::{counted, first_worker, serve_all_clients};
+use crate::scripts::run_script;
+use crate::services::{counted, serve_all_clients};
 use arrayvec::ArrayVec;
 use log::{Log, error, warn};
 use mw_config::{ArgFault, Args, Listening, Mode, TenantLine, read_args};
@@ -32,10 +33,9 @@ use mw_engine::{Engine, EngineBrand, EngineParts, NoHold, Pass};
 use mw_metrics::Meters;
 use mw_opening::{
     FileStates, LockedFiles, NoteForm, Notes, OpenedParts, OpensDisks, OpensPaths, TenantDisk,
-    are_all_open, note_why, open_parts, read_tenants_file, sync_folders,
+    are_all_open, open_parts, read_tenants_file, sync_folders,
 };
 use mw_service::FaultWatch;
-use mw_session::Ended;
 use mw_words::{MAX_TENANTS, MAX_WORKERS};
 use std::alloc::AllocError;
 use std::fs::File;
@@ -611,63 +611,5 @@ where
             };
             serve_all_clients(&server, engine, passes, console)
         }
-    }
-}
-
-/// Runs one session, from the script to the console, by the first worker.
-fn run_script<
-    'e,
-    J: EngineBrand,
-    K: EngineBrand,
-    D: Disk + Drop,
-    R,
-    N,
-    Q: ServerPromise,
-    C: ScriptConsole<Q>,
-    L: Log,
-    T: FaultWatch,
->(
-    rt: &'e R,
-    engine: &'e Engine<J, D, NoHold>,
-    passes: Vec<Pass>,
-    network: &EngineNetwork<'_, N, Q, K>,
-    path: &str,
-    console: &mut C,
-    notes: &L,
-    watch: &'e T,
-) -> Result<(), ServeFault>
-where
-    R: OpensPaths + AllocGlobal + Wait + Clock,
-    requires new { All (IsNew J.identity) passes.items }
-    requires some { 0 < vec_len passes }
-    requires promise { Promises D.facts J.identity (Q.kept_by K.identity) (Q.shown_by K.identity) }
-    ensures script { OnOk result (RunsScript R.is_plain R.Plain.remaining path.now (C.printed console.old) (C.printed console.new) J.identity) }
-{
-    let script = open_script(rt, path, notes)?;
-    let mut worker = first_worker(rt, engine, passes, watch)?;
-    outcome(console.run(rt.alloc(), network, script, &mut worker))
-}
-
-/// Opens a script. Writes a note if it can't be read.
-fn open_script<R: OpensPaths, L: Log>(rt: &R, path: &str, notes: &L) -> Result<R::Plain, ServeFault>
-    ensures { IfOk result (λ script. R.is_plain path.now script) }
-{
-    match rt.open_plain(path) {
-        Ok(script) => Ok(script),
-        Err(fault) => {
-            error!(notes; "mwserve: cannot read");
-            note_why(notes, path, "", &fault);
-            Err(ServeFault::Failed)
-        }
-    }
-}
-
-/// Tells whether a script's session ended well. A fault that ended it has no note.
-fn outcome(ended: Ended) -> Result<(), ServeFault>
-    ensures { OnOk result (EndedWell ended) }
-{
-    match ended {
-        Ended::Quit | Ended::PeerEnd | Ended::TooLong => Ok(()),
-        Ended::ReadFault | Ended::WriteFault(_) | Ended::Memory => Err(ServeFault::Failed),
     }
 }

@@ -8,7 +8,8 @@
 //!   none. The number of the change that was being made durable may follow.
 //! - `miss NUMBER ENTRY` and the others have the names of [`Mark`].
 use crate::checks::{MEMORY, same};
-use mw_lone::*;
+use mw_lone::Mark;
+use mw_plain::{Lone, LoneFault};
 use mw_words::{Entries, Entry, Job};
 use std::process::Abort;
 

@@ -3,7 +3,8 @@
 
 use crate::checks::{MEMORY, holds};
 use mw_line::{Request, read_line};
-use mw_lone::{Lone, Mark};
+use mw_lone::Mark;
+use mw_plain::Lone;
 use mw_words::Reply;
 use std::process::Abort;
 

@@ -2,7 +2,7 @@
 //!
 //! Used by: `judge`, `run`, `stale_helper_tests`, `tests`, `larger/tests`.
 
-use mw_lone::LoneFault;
+use mw_plain::LoneFault;
 use mw_simulator::WorldFault;
 use std::alloc::AllocError;
 

@@ -5,7 +5,8 @@
 ghost use Rattle.std.specs.Prelude.{◌<◌, length};
 
 use crate::fault::Fault;
-use mw_lone::{Lone, Mark};
+use mw_lone::Mark;
+use mw_plain::Lone;
 use mw_simulator::World;
 use mw_words::{At, Job, Reply, Word};
 use mw_world::Tenant;

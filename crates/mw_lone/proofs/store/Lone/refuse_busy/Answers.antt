@@ -1,8 +1,0 @@
--- Goals of `Lone::refuse_busy` (src/store.rt).
-use Rattle.std.proofs.Common.{sym}
-use Rattle.mw_lone.proofs.Steps.{at_some}
-use Rattle.mw_lone.proofs.SoundStores.{sound-insert}
-use Rattle.mw_lone.proofs.store.Lone.refuse_busy.Goals as goal
-
-pub invariant_of-self : goal.invariant_of-self
-invariant_of-self c = rw (at_some _ _ _ c.in-Some.ensures c.place.ensures) (sound-insert _ _ _ _ _ (c.self.invariant.jobs _ _ (sym c.in-Some.ensures)) c.self.invariant)
