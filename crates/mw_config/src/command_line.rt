@@ -22,7 +22,7 @@ use std::alloc::{AllocError, Global};
 use std::fmt;
 
 /// What the command line of a server asks for.
-#[derive(Debug, Drop)]
+#[derive(Drop)]
 pub struct Args {
     /// The path of the tenants file.
     pub tenants: String,
@@ -44,7 +44,7 @@ pub struct Args {
 }
 
 /// Says where a server's sessions come from.
-#[derive(Debug, Drop)]
+#[derive(Drop)]
 pub enum Mode {
     /// They come from connections.
     Listen(Listening),
@@ -53,7 +53,7 @@ pub enum Mode {
 }
 
 /// How a server takes connections.
-#[derive(Debug, Drop)]
+#[derive(Drop)]
 pub struct Listening {
     /// The address.
     pub address: String,
@@ -93,7 +93,7 @@ pub struct Listening {
 }
 
 /// Workers that clients share.
-#[derive(Clone, Copy, Debug, Drop)]
+#[derive(Clone, Copy, Drop)]
 pub struct SharedWorkers {
     /// How many clients are served at once, 1 to [`MAX_CLIENTS`].
     pub clients: u16,

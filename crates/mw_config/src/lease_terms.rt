@@ -11,7 +11,7 @@ use clap::ArgMatches;
 use std::alloc::Global;
 
 /// A lease: a file that only one server has locked, and beats.
-#[derive(Debug, Drop)]
+#[derive(Drop)]
 pub struct LeaseTerms {
     /// The path of the file.
     pub path: String,

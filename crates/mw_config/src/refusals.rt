@@ -12,7 +12,7 @@ use std::fmt;
 ///
 /// Its text is a line that names the refusal, then a line with the rule that is broken. Those of a file and of a form have no
 /// second line: of these mw_opening knows more.
-#[derive(Clone, Copy, Debug, PartialEq, Eq)]
+#[derive(Clone, Copy)]
 pub enum Refusal {
     /// The file can't be read, or has more than [`mw_words::MAX_TENANTS_FILE`] bytes.
     File,

@@ -1,5 +1,5 @@
 -- Defines the calls of a device, and what it means that a list of them was made of a disk.
--- Used by: mw_file, mw_world_file, mw_simulator, mw_opening, device.rt, disk_file.rt, file.rt, laws.rt, memory.rt. A new call of
+-- Used by: mw_file, mw_memory_disk, mw_world_file, mw_simulator, mw_opening, device.rt, disk_file.rt, file.rt. A new call of
 -- `Disk` needs a case here.
 use Rattle.std.specs.Prelude.{◌≡◌, ◌⊎◌, ℕ, Bool, true, false, List, [], ◌∷◌}
 

@@ -1,5 +1,5 @@
 -- Defines the facts of a disk at one moment (its abstract state), and what one call may change of them. It is the disk model.
--- Used by: many crates from mw_file on, device.rt, edits.rt, file.rt, memory.rt. A change here changes what the server
+-- Used by: many crates from mw_file on, device.rt, file.rt. A change here changes what the server
 -- assumes of a disk: README, docs/PROMISES and docs/OPERATING.
 use Rattle.std.specs.Prelude.{◌≡◌, ◌<◌, ◌≤◌, ℕ, suc, ◌+◌, ◌^◌, ◌-◌, Bool, true, false, Option, Some, IsTrue, List, [], ◌∷◌, ◌++◌, length, take, drop, min, max, slice_index, if◌then◌else◌}
 

@@ -1,7 +1,7 @@
 //! The trait of a disk. Its contracts say what each call promises, and what a crash may leave.
 //!
 //! Used by: many crates from mw_file on. mw_file makes its calls, on a [`FileDisk`](crate::FileDisk) in the server
-//! and on a [`MemDisk`](crate::MemDisk) elsewhere. These contracts are the disk model: a change of one changes what
+//! and on one of mw_memory_disk elsewhere. These contracts are the disk model: a change of one changes what
 //! the server assumes (README, docs/PROMISES, docs/OPERATING).
 ghost use Rattle.std.specs.Prelude.{◌≡◌, ◌+◌, ◌≤◌, Bool, length, slice_range, is_ok, IsTrue, OnOk, IfOk};
 ghost use Rattle.mw_disk.specs.DeviceCalls.{DeviceCall, ReadAt, WriteAt, Sync, Length};

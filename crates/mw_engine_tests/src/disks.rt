@@ -4,8 +4,8 @@
 use crate::cases::{Case, Device, Play};
 use crate::latch::{Latch, LatchedDisk};
 use mw_config::TenantLine;
-use mw_disk::MemDisk;
 use mw_file::TenantFile;
+use mw_memory_disk::MemDisk;
 use mw_plain::Plain;
 use mw_record::{FIRST_PLACES, header, size};
 use mw_words::MAX_WORDS;

@@ -1,10 +1,11 @@
 //! A latch, which stops a worker in the middle of its request until the test lets it go.
 //!
 //! Used by: most other modules.
-ghost use Rattle.mw_disk.specs.Memory.{memory_facts, memory_made};
+ghost use Rattle.mw_memory_disk.specs.Memory.{memory_facts, memory_made};
 
-use mw_disk::{Disk, DiskFault, MemDisk};
+use mw_disk::{Disk, DiskFault};
 use mw_engine::{Hold, Point};
+use mw_memory_disk::MemDisk;
 use std::sync::atomic::{AtomicU64, Ordering};
 use std::thread;
 

@@ -1,12 +1,12 @@
 //! Defines a tenant's open file, and the calls that take changes through it: prepare, seal, settle and cancel of one
 //! change, the settle of all, and the calls that also prepare changes ahead. A copy is a backup at one moment.
 //!
-//! What the calls say of crashes holds on a disk that keeps the model of [`mw_disk::Disk`]. The last `impl` is for a file
-//! on a disk in memory. Only tests and mw_world_file use it, and its contracts may change with them.
+//! What the calls say of crashes holds on a disk that keeps the model of [`mw_disk::Disk`]. Only mw_memory_disk calls `disk`,
+//! `on_disk` and `swap_disk`, for tests.
 //!
-//! Used by: `migration`, `new_changes`, mw_plain, mw_world_file, mw_book, mw_engine, mw_opening. `opening.rt` makes one.
+//! Used by: `migration`, `new_changes`, mw_memory_disk, mw_plain, mw_world_file, mw_book, mw_engine, mw_opening. `opening.rt` makes one.
 //! Callers see `specs/File` and `specs/PlaceStates` in place of the fields. A new field needs a value in `opening.rt` and
-//! in `copy`, and its name in `into_disk`. Change the calls with `specs/PlaceStates` and `specs/NewChanges` (which may be
+//! in `on_disk`, and its name in `into_disk`. Change the calls with `specs/PlaceStates` and `specs/NewChanges` (which may be
 //! made), `specs/File`, `specs/RecoveryInvariant`, `specs/RollForward` and `specs/Run` (how they end), `specs/DeviceCalls`
 //! and docs/FILES (the order of the device calls), and `copy_bytes` with `specs/Copies`. docs/PROMISES cites
 //! `prepare_all`, `seal_with`, `settle_all` and `copy_bytes`.
@@ -25,10 +25,10 @@ use crate::new_changes::{NewChange, set_prepared, sync_commit, sync_records, syn
 use crate::opening::front;
 use crate::place_states::{PlaceState, Stage, copies};
 use crate::roll::roll_forward;
-use mw_disk::{Disk, DiskFault, MemDisk};
+use mw_disk::{Disk, DiskFault};
 use mw_words::{Entries, copy_of};
 use std::alloc::{AllocError, Global};
-use std::slice;
+use std::{mem, slice};
 
 /// Why a call on a file did nothing, or only a part.
 #[derive(Clone, Copy, Debug, PartialEq, Eq)]
@@ -358,6 +358,21 @@ impl<D: Disk> TenantFile<D> {
         front(&mut self.disk, alloc)
     }
 
+    /// The disk that the file is on.
+    pub fn disk(&self) -> &D
+        ensures { result.now ≡ disk_of self.now }
+    {
+        &self.disk
+    }
+
+    /// Puts the file on this disk, which has to have its bytes, and gives its own in exchange.
+    pub fn swap_disk(&mut self, disk: &mut D)
+        ensures file { self.new ≡ record self.old { disk = disk.old } }
+        ensures given { disk.new ≡ disk_of self.old }
+    {
+        mem::swap(&mut self.disk, disk);
+    }
+
     /// Gives the disk back.
     pub fn into_disk(self) -> D
         ensures { result ≡ disk_of self }
@@ -373,21 +388,13 @@ impl<D: Disk> TenantFile<D> {
     }
 }
 
-impl TenantFile<MemDisk> {
-    ghost use Rattle.mw_disk.specs.Crash.{Tears, unsynced};
-    ghost use Rattle.mw_disk.specs.Facts.{MayLeave};
-    ghost use Rattle.mw_disk.specs.Memory.{memory_facts, with_name, with_fault, with_stop, sooner};
-    ghost use Rattle.mw_record.specs.Records.{Pairs};
-    ghost use Rattle.mw_file.specs.File.{disk_of, IsCopy};
-    ghost use Rattle.mw_file.specs.RecoveryInvariant.{ContentsStay, RecoversTo};
+impl<D: Disk + Drop> TenantFile<D> {
+    ghost use Rattle.mw_file.specs.File.{IsCopy};
 
-    /// Copies the file, with its disk. The only error is that memory is out.
-    pub fn copy(&self, alloc: Global) -> Result<TenantFile<MemDisk>, AllocError>
-        ensures same { IfOk result (λ file. IsCopy self.now file) }
-        ensures keeps { IfOk result (λ file. (contents : List ℕ) (doubt : Pairs) → RecoversTo memory_facts self.now contents doubt
-            → RecoversTo memory_facts file contents doubt) }
+    /// Makes the same file on this disk, which has to have its bytes. The only error is that memory is out.
+    pub fn on_disk(&self, alloc: Global, disk: D) -> Result<TenantFile<D>, AllocError>
+        ensures { IfOk result (λ file. IsCopy (record self.now { disk = disk }) file) }
     {
-        let disk = self.disk.copy()?;
         let states = copies(alloc, &self.states)?;
         Ok(TenantFile {
             disk,
@@ -396,46 +403,6 @@ impl TenantFile<MemDisk> {
             states,
             failed: self.failed,
         })
-    }
-
-    /// Makes the `k`-th device call from now fail too, as [`MemDisk::fail_next`] does. If memory is out it returns
-    /// an error and leaves the file as it was.
-    pub fn fail_next(&mut self, k: u64) -> Result<(), AllocError>
-        ensures ok { OnOk result (self.new ≡ record self.old { disk = record (disk_of self.old) { script = with_name (disk_of self.old) k } }) }
-        ensures plan { OnOk result ((j : ℕ) → (memory_facts (disk_of self.new)).plan j ≡ with_fault (disk_of self.old) k j) }
-        ensures err { OnErr result (self.new ≡ self.old) }
-        // A crash leaves the words from before the call. A change in doubt stays in doubt.
-        ensures safe { ContentsStay memory_facts self.old self.new }
-    {
-        self.disk.fail_next(k)
-    }
-
-    /// Makes every device call after the next `k` fail and change nothing. An earlier stop stays.
-    pub fn stop_next(&mut self, k: u64)
-        ensures stop { self.new ≡ record self.old { disk = record (disk_of self.old) { stop = Some (sooner (disk_of self.old).stop k) } } }
-        ensures plan { (j : ℕ) → (memory_facts (disk_of self.new)).plan j ≡ with_stop (disk_of self.old) k j }
-        // A crash leaves the words from before the call. A change in doubt stays in doubt.
-        ensures safe { ContentsStay memory_facts self.old self.new }
-    {
-        self.disk.stop_next(k);
-    }
-
-    /// Returns how many device calls were refused memory. The count stays at `2^64 - 1` once it is reached.
-    pub fn refused(&self) -> u64
-        ensures { result ≡ (disk_of self.now).refused }
-    {
-        self.disk.refused()
-    }
-
-    /// Returns what a crash now leaves of the file. The bytes of all ranges written since the last sync are taken
-    /// from `torn`, as in [`MemDisk::crash`]. The only error is that memory is out.
-    pub fn crash(&self, torn: &[u8]) -> Result<Vec<u8>, AllocError>
-        ensures torn { IfOk result (λ bytes. Tears (unsynced (disk_of self.now).log) torn.now (length torn.now)
-            (memory_facts (disk_of self.now)).reads bytes.items) }
-        // These bytes are among those that a crash now may leave.
-        ensures image { IfOk result (λ bytes. MayLeave (memory_facts (disk_of self.now)) bytes.items) }
-    {
-        self.disk.crash(torn)
     }
 }
 

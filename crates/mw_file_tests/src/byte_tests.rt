@@ -16,7 +16,8 @@
 use crate::calls::{Ahead, Step, Writes, tell};
 use crate::files::{byte_at, disk_with, opened, opening, set_byte};
 use crate::same::{MEMORY, same};
-use mw_disk::{Disk, MemDisk};
+use mw_disk::Disk;
+use mw_memory_disk::{MemDisk, stop_next};
 use std::process::Abort;
 
 /// Bytes of a file, with the offset at which they begin.
@@ -146,7 +147,7 @@ fn played<R: Abort + AllocGlobal>(rt: &R, start: &[u8], steps: &[Step], calls: u
         return opening(rt.alloc(), disk).1;
     }
     let mut file = opened(rt, disk);
-    file.stop_next(calls);
+    stop_next(&mut file, calls);
     for step in steps {
         let _ = tell(rt, &mut file, *step);
     }

@@ -9,8 +9,8 @@ ghost use Rattle.mw_file.specs.PlaceStates.{MaySeal, stage_of, writes_of_place};
 ghost use Rattle.mw_file_tests.specs.Permitted as spec;
 
 use crate::same::MEMORY;
-use mw_disk::MemDisk;
 use mw_file::{FileFault, NewChange, Place, PlaceState, Stage, TenantFile};
+use mw_memory_disk::MemDisk;
 use mw_words::{Entries, Entry, is_change};
 use std::process::Abort;
 

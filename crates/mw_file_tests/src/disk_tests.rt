@@ -2,6 +2,7 @@
 use crate::files::disk_with;
 use crate::same::{MEMORY, holds, same};
 use mw_disk::*;
+use mw_memory_disk::MemDisk;
 use std::cell::Cell;
 use std::fs::{File, Metadata, OpenFile, OpenOptions};
 use std::io::ErrorKind;

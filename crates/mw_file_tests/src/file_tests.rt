@@ -8,8 +8,9 @@ use crate::files::{
 };
 use crate::same::{MEMORY, hold, holds, same};
 use crate::turn_tests::WAITING;
-use mw_disk::{Disk, DiskFault, MemDisk};
+use mw_disk::{Disk, DiskFault};
 use mw_file::{FileFault, Place, TenantFile};
+use mw_memory_disk::{MemDisk, copy, crash, refused};
 use std::process::Abort;
 
 /// Makes a file of two words whose disk has trouble so many calls after its opening.
@@ -81,7 +82,7 @@ fn leaves_words<R: Abort + AllocGlobal>(
     for torn in rows {
         let words = words_after(calls, trouble, torn);
         let bytes = over_and_over(rt, torn, times);
-        let image = file.crash(&bytes).expect(rt, MEMORY);
+        let image = crash(file, &bytes).expect(rt, MEMORY);
         let is_right = opens_with(rt, &image, &[&words]);
         holds(rt, "torn bytes", u64::from(calls), is_right);
     }
@@ -98,10 +99,10 @@ fn crash_in_a_call<R: Abort + AllocGlobal>(rt: &R, row: &str, calls: u8, trouble
     let at = u64::from(calls);
     let failed = if calls < 9 { 1 } else { 0 };
     same(rt, row, at, &answers(rt, &mut file), &first);
-    same(rt, row, at, &faults(rt, &file), &failed);
+    same(rt, row, at, &faults(&file), &failed);
     leaves_words(rt, &file, calls, trouble, (&SHORT, 1));
     same(rt, row, at, &answers(rt, &mut file), &again);
-    same(rt, row, at, &faults(rt, &file), &1);
+    same(rt, row, at, &faults(&file), &1);
     leaves_words(rt, &file, calls, trouble, (&TORN, OFTEN));
 }
 
@@ -150,7 +151,7 @@ fn a_crash_in_a_seal_leaves_nothing_of_a_change_that_waits(rt: HostRuntime) {
 fn copy_is_apart<R: Abort + AllocGlobal>(rt: &R) -> [bool; 3] {
     let file = new_file(rt, 2, 1);
     let before = left(rt, &file, WRITTEN);
-    let mut copy = file.copy(rt.alloc()).expect(rt, MEMORY);
+    let mut copy = copy(&file, rt.alloc()).expect(rt, MEMORY);
     let is_answered = answers(rt, &mut copy) == answers_to(9).0;
     let has_words = opens_with(rt, &left(rt, &copy, WRITTEN), &[&[1, 2]]);
     [is_answered, has_words, left(rt, &file, WRITTEN) == before]
@@ -166,13 +167,13 @@ fn a_copy_goes_its_own_way(rt: HostRuntime) {
 fn is_refused_alone<R: Abort + AllocGlobal>(rt: &R) -> [bool; 4] {
     let mut disk = disk_with(rt, &new_bytes(rt, 2, 1));
     let written = disk.write_at(1 << 63, &[1]);
-    let mut refused = opened(rt, disk);
-    let is_counted = refused.refused() == 1;
+    let mut file = opened(rt, disk);
+    let is_counted = refused(&file) == 1;
     [
         written == Err(DiskFault),
         is_counted,
-        answers(rt, &mut refused) == answers_to(9).0,
-        new_file(rt, 2, 1).refused() == 0,
+        answers(rt, &mut file) == answers_to(9).0,
+        refused(&new_file(rt, 2, 1)) == 0,
     ]
 }
 

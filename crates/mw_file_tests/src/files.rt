@@ -6,8 +6,9 @@ ghost use Rattle.mw_words.specs.declared.limits.TheConstants.{MAX_WORDS};
 ghost use Rattle.mw_record.specs.declared.layout.TheConstants.{FIRST_PLACES};
 
 use crate::same::{MEMORY, holds};
-use mw_disk::{Disk, MemDisk};
+use mw_disk::Disk;
 use mw_file::{OpenFault, TenantFile};
+use mw_memory_disk::{MemDisk, crash, fail_next, stop_next};
 use mw_record::{header, size};
 use std::alloc::Global;
 use std::process::Abort;
@@ -109,11 +110,11 @@ pub(crate) fn bring_trouble<R: Abort>(
     trouble: Trouble,
 ) {
     match trouble {
-        Trouble::Once => file.fail_next(u64::from(calls) + 1).expect(rt, MEMORY),
-        Trouble::Stop => file.stop_next(u64::from(calls)),
+        Trouble::Once => fail_next(file, u64::from(calls) + 1).expect(rt, MEMORY),
+        Trouble::Stop => stop_next(file, u64::from(calls)),
         Trouble::StopTwice => {
-            file.stop_next(u64::from(calls));
-            file.stop_next(u64::from(calls) + 2);
+            stop_next(file, u64::from(calls));
+            stop_next(file, u64::from(calls) + 2);
         }
     }
 }
@@ -201,8 +202,7 @@ pub(crate) fn left<R: Abort + AllocGlobal>(
     file: &TenantFile<MemDisk>,
     torn: &[u8],
 ) -> Vec<u8> {
-    file.crash(&over_and_over(rt, torn, OFTEN))
-        .expect(rt, MEMORY)
+    crash(file, &over_and_over(rt, torn, OFTEN)).expect(rt, MEMORY)
 }
 
 /// Crashes of a file leave one of these lists of words, whatever is torn.
@@ -234,7 +234,6 @@ pub(crate) fn disk_leaves<R: Abort + AllocGlobal>(
 }
 
 /// Gives how many device calls of a file have failed.
-pub(crate) fn faults<R: Abort + AllocGlobal>(rt: &R, file: &TenantFile<MemDisk>) -> u64 {
-    let copy = file.copy(rt.alloc()).expect(rt, MEMORY);
-    copy.into_disk().faults()
+pub(crate) fn faults(file: &TenantFile<MemDisk>) -> u64 {
+    file.disk().faults()
 }

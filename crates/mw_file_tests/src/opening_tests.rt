@@ -9,8 +9,9 @@ use crate::files::{
 };
 use crate::same::{MEMORY, holds, same};
 use crate::turn_tests::with_two_records;
-use mw_disk::{Disk, MemDisk};
+use mw_disk::Disk;
 use mw_file::OpenFault;
+use mw_memory_disk::MemDisk;
 use std::process::Abort;
 
 /// A file that is opened.

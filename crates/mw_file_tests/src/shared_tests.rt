@@ -9,8 +9,8 @@ use crate::files::{
 };
 use crate::power_tests::torn_anywhere;
 use crate::same::{MEMORY, same};
-use mw_disk::MemDisk;
 use mw_file::{FileFault, NewChange, Place, TenantFile};
+use mw_memory_disk::MemDisk;
 use std::process::Abort;
 
 /// A call on a file with four places, and what each place has before it: `.` nothing, `p` a prepared change, `s` a
@@ -242,7 +242,7 @@ fn fails_at<R: Abort + AllocGlobal>(rt: &R, case: Case, calls: u8) {
     let (disk, failed) = (Some(Err(FileFault::Disk)), Some(Err(FileFault::Failed)));
     let at = u64::from(calls);
     same(rt, case.name, at, &answers, &[disk, failed, failed]);
-    same(rt, case.name, at, &faults(rt, &file), &1);
+    same(rt, case.name, at, &faults(&file), &1);
     let (least, most) = case.may(calls.saturating_add(1), calls);
     leaves(rt, case.name, at, &file, &[&least, &most]);
 }

@@ -5,8 +5,8 @@
 use crate::calls::{Step, Told, tell};
 use crate::files::{ONES, disk_with, left, new_file, opening, opens_with};
 use crate::same::{MEMORY, holds, same};
-use mw_disk::MemDisk;
 use mw_file::{CopyFault, FileFault, Place, TenantFile};
+use mw_memory_disk::{MemDisk, fail_next};
 use std::process::Abort;
 
 /// What is done with a file, and what is found.
@@ -82,7 +82,7 @@ fn take<R: Abort + AllocGlobal>(
 ) {
     match turn {
         Turn::Call(step, told) => same(rt, row, at, &tell(rt, file, step), &told),
-        Turn::Fail(number) => file.fail_next(number).expect(rt, MEMORY),
+        Turn::Fail(number) => fail_next(file, number).expect(rt, MEMORY),
         Turn::Copy(wanted) => copies(rt, row, at, file, wanted),
         Turn::Crash(words) => {
             let is_right = opens_with(rt, &left(rt, file, ONES), &[words]);

@@ -1,5 +1,5 @@
 -- Defines that an engine's parts are made of just the files that were opened, each of its own tenant's line.
--- Used by: opened_parts.rt, mw_programs. A change here changes which files a server may serve. docs/PROMISES cites
+-- Used by: opened_parts.rt. A change here changes which files a server may serve. docs/PROMISES cites
 -- `AreMadeOfOpened`.
 use Rattle.std.specs.Prelude.{◌≡◌, ℕ, Bool, List, map, Option, is_some, Result, Ok, Err, IfOk, Vec}
 use Rattle.std.specs.declared.alloc.AllocError.{AllocError}

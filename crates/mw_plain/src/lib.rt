@@ -13,10 +13,11 @@
 //! - *Tested only*: that the engine answers in the same way (`answers_and_fails_as_the_plain_store` of
 //!   mw_engine_tests). No contract joins the two.
 //!
-//! [`Lone`] is one tenant's store alone in code: it takes mark by mark what `specs/Store` of mw_lone says, and hands out its
-//! replies. With it mw_world_trials judges runs of the world.
+//! [`Lone`] is one tenant's store alone in code: it takes mark by mark what `specs/Store` of mw_lone says, and hands
+//! out its replies. With it mw_world_trials judges runs of the world.
 //!
-//! Used by: mw_words_tests, mw_engine_tests, mw_world_trials: tests alone. A new kind of job or mark begins in `specs/Cases`, a new mark in `lone.rt` too.
+//! Used by: mw_words_tests, mw_engine_tests, mw_world_trials: tests alone. A new kind of job or mark begins in
+//! `specs/Cases`, a new mark in `lone.rt` too.
 #![tactic(auto)]
 
 mod asked;

@@ -59,6 +59,15 @@ pub(crate) struct AdminDoor<'e, N, Q> {
     pub(crate) closer: Closer,
 }
 
+/// The address of the pages.
+#[derive(Drop)]
+struct PagesDoor<'e, N, Q> {
+    listener: BriefListener<'e, N, Q>,
+    port: Option<u16>,
+    /// Ends the pages.
+    end: PagesEnd,
+}
+
 /// Listens at all addresses, and tells where: first at that of the pages, and once all are open the administrator's
 /// place, then `ready`. A note tells of an address at which nobody can listen, and of one at which clients of other machines
 /// may come.
@@ -226,7 +235,13 @@ where
     };
     let address = address.as_str();
     match pages_at(terms, address) {
-        Ok((listener, end, port)) => {
+        Ok(
+            PagesDoor {
+                listener,
+                port,
+                end,
+            },
+        ) => {
             note_open(notes, listening, address, listener.is_open());
             match console.tell(Address::Pages, port, address) {
                 Ok(()) => Ok((Some(listener), end)),
@@ -237,11 +252,8 @@ where
     }
 }
 
-/// Listens at an address for clients of the pages. Gives also what ends them, and its port, if it has one.
-fn pages_at<'e, N, Q>(
-    terms: &DoorTerms<'e, N, Q>,
-    address: &str,
-) -> io::Result<(BriefListener<'e, N, Q>, PagesEnd, Option<u16>)>
+/// Listens at an address for clients of the pages.
+fn pages_at<'e, N, Q>(terms: &DoorTerms<'e, N, Q>, address: &str) -> io::Result<PagesDoor<'e, N, Q>>
 where
     N: Files<File = File> + Net<Listener = TcpListener, Stream = TcpStream>,
 {
@@ -249,5 +261,9 @@ where
     let listener = listen_briefly(terms.network, address, mode, LIMITS)?.with_lease(terms.lease);
     let end = PagesEnd::new(Some(listener.closer()?));
     let port = listener.port()?;
-    Ok((listener, end, port))
+    Ok(PagesDoor {
+        listener,
+        port,
+        end,
+    })
 }

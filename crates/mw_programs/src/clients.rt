@@ -53,8 +53,8 @@ impl<'e, R, N, Q, L, T> Server<'e, R, N, Q, L, T> {
     }
 }
 
-/// Opens the addresses of a server, tells where it listens, and serves clients, each by one of these services. If
-/// there is an address for the administrator, the last of them serves only the clients of that address. Meanwhile a thread
+/// Opens the addresses of a server, tells where it listens, and serves clients, each by one of these services, if there was
+/// memory for them. If there is an address for the administrator, the last of them serves only the clients of that address. Meanwhile a thread
 /// looks at the tenants' files, and if there are pages another one shows them.
 pub(crate) fn serve_clients<
     'e,
@@ -68,17 +68,20 @@ pub(crate) fn serve_clients<
     T: FileLook + Sync,
 >(
     server: &Server<'e, R, N, Q, L, T>,
-    services: Vec<S>,
+    services: Result<Vec<S>, AllocError>,
     pages: Option<G>,
     console: &mut C,
 ) -> Result<(), ServeFault>
 where
     R: AllocGlobal + Threads + Wait + Clock + Sync,
     N: Files<File = File> + Net<Listener = TcpListener, Stream = TcpStream> + Clock + Sync,
-    requires some { 0 < vec_len services }
     requires keeps { KeepsPromise S.answered Q.kept }
     requires pages { PagesKeep G.answered Q.shown }
 {
+    let services = services?;
+    if services.is_empty() {
+        return Err(ServeFault::Memory);
+    }
     let terms = DoorTerms {
         network: server.network,
         listening: server.listening,

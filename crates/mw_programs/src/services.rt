@@ -42,7 +42,8 @@ pub(crate) fn counted<'m>(listening: &Listening, meters: &'m Meters) -> Option<&
     }
 }
 
-/// Serves clients, and shows the pages if there is an address for them. The last pass is then for the pages.
+/// Serves clients, by a worker for each pass or by borrowers that share them, and shows the pages if there is an address for them. The
+/// last pass is then for the pages.
 pub(crate) fn serve_all_clients<
     'e,
     J,
@@ -71,80 +72,22 @@ where
     let mut passes = passes;
     let pages = pages_for(rt, engine, &mut passes, listening, server.watch, meters)?;
     match &listening.shared {
-        None => serve_workers(server, engine, passes, pages, console),
-        Some(shared) => serve_shared(server, engine, passes, pages, *shared, console),
+        None => {
+            let meter = counted(listening, meters);
+            let workers = workers_for(rt, engine, passes, server.watch, meter);
+            serve_clients(server, workers, pages, console)
+        }
+        Some(shared) => {
+            let made = NewTokenTable::new(rt.alloc())?;
+            serve_borrowers::<J, Brand, _, _, _, _, _, _, _, _>(
+                server, engine, made, passes, pages, *shared, console,
+            )
+        }
     }
 }
 
-/// Serves clients by a worker for each pass.
-fn serve_workers<
-    'e,
-    J,
-    D: Disk + Drop + Send + Sync,
-    R,
-    N,
-    Q: PagesPromise,
-    C: Console,
-    L: Log + Sync,
-    G: Pages + Send + Drop,
-    T: FaultWatch + FileLook + Sync,
->(
-    server: &Server<'e, R, N, Q, L, T>,
-    engine: &'e Engine<J, D, NoHold>,
-    passes: Vec<Pass>,
-    pages: Option<G>,
-    console: &mut C,
-) -> Result<(), ServeFault>
-where
-    J: EngineBrand + Send + Sync,
-    R: AllocGlobal + Threads + Wait + Clock + Sync,
-    N: Files<File = File> + Net<Listener = TcpListener, Stream = TcpStream> + Clock + Sync,
-    requires new { All (IsNew J.identity) passes.items }
-    requires promise { Promises D.facts J.identity Q.kept Q.shown }
-    requires pages { PagesKeep G.answered Q.shown }
-{
-    let meter = counted(server.listening, server.meters);
-    let workers = workers_for(server.rt, engine, passes, server.watch, meter);
-    serve_made(server, workers, pages, console)
-}
-
-/// Serves clients that share the passes, by a borrower for each of them. If there is an address for the administrator, the
-/// last pass is for the clients of that address.
-fn serve_shared<
-    'e,
-    J,
-    D: Disk + Drop + Send + Sync,
-    R,
-    N,
-    Q: PagesPromise,
-    C: Console,
-    L: Log + Sync,
-    G: Pages + Send + Drop,
-    T: FaultWatch + FileLook + Sync,
->(
-    server: &Server<'e, R, N, Q, L, T>,
-    engine: &'e Engine<J, D, NoHold>,
-    passes: Vec<Pass>,
-    pages: Option<G>,
-    shared: SharedWorkers,
-    console: &mut C,
-) -> Result<(), ServeFault>
-where
-    J: EngineBrand + Send + Sync,
-    R: AllocGlobal + Threads + Wait + Clock + Sync,
-    N: Files<File = File> + Net<Listener = TcpListener, Stream = TcpStream> + Clock + Sync,
-    requires new { All (IsNew J.identity) passes.items }
-    requires clients { 1 ≤ shared.clients }
-    requires promise { Promises D.facts J.identity Q.kept Q.shown }
-    requires pages { PagesKeep G.answered Q.shown }
-{
-    let made = NewTokenTable::new(server.rt.alloc())?;
-    serve_borrowers::<J, Brand, _, _, _, _, _, _, _, _>(
-        server, engine, made, passes, pages, shared, console,
-    )
-}
-
-/// The same, with the table of the tokens of all borrowers' requests.
+/// Serves clients that share the passes, by a borrower for each of them. This table has the tokens of their requests. If there is an
+/// address for the administrator, the last pass is for the clients of that address.
 fn serve_borrowers<
     'e,
     J,
@@ -183,40 +126,10 @@ where
         Ok(pools) => {
             let (rt, watch, clients) = (server.rt, server.watch, shared.clients);
             let borrowers = borrowers_for(rt, engine, &tokens, &pools, clients, watch, meter);
-            serve_made(server, borrowers, pages, console)
+            serve_clients(server, borrowers, pages, console)
         }
         Err(_) => Err(ServeFault::Memory),
     }
-}
-
-/// Serves clients by these services, if there was memory for them.
-fn serve_made<
-    'e,
-    S: Service + Send + Drop,
-    G: Pages + Send + Drop,
-    R,
-    N,
-    Q: PagesPromise,
-    C: Console,
-    L: Log + Sync,
-    T: FileLook + Sync,
->(
-    server: &Server<'e, R, N, Q, L, T>,
-    services: Result<Vec<S>, AllocError>,
-    pages: Option<G>,
-    console: &mut C,
-) -> Result<(), ServeFault>
-where
-    R: AllocGlobal + Threads + Wait + Clock + Sync,
-    N: Files<File = File> + Net<Listener = TcpListener, Stream = TcpStream> + Clock + Sync,
-    requires keeps { KeepsPromise S.answered Q.kept }
-    requires pages { PagesKeep G.answered Q.shown }
-{
-    let services = services?;
-    if services.is_empty() {
-        return Err(ServeFault::Memory);
-    }
-    serve_clients(server, services, pages, console)
 }
 
 /// Makes the pages if they have an address. A worker with the last of these passes gives their figures, and the engine gives

@@ -8,8 +8,7 @@ ghost use Rattle.mw_config.specs.Limits.{ArePermitted};
 ghost use Rattle.mw_config.specs.declared.command_line.Mode.TheVariants.{Listen, Script};
 ghost use Rattle.mw_words.specs.declared.limits.TheConstants.{MAX_TENANTS, MAX_WORKERS};
 ghost use Rattle.mw_engine.specs.Passes.{IsNew};
-ghost use Rattle.mw_engine.specs.Parts.{identity_of, world_read};
-ghost use Rattle.mw_opening.specs.MadeOfOpened.{AreMadeOfOpened};
+ghost use Rattle.mw_engine.specs.Parts.{identity_of};
 ghost use Rattle.mw_opening.specs.TenantsAtPath.{AreReadAt};
 ghost use Rattle.mw_programs.specs.Promised.{HasServed, Promises, PromisesOfArgs, PromisesOfStart, ServesScript};
 ghost use Rattle.mw_programs.specs.ScriptSession.{RunsScript};
@@ -262,43 +261,20 @@ where
     ensures script { (path : _) → args.mode ≡ Script path → OnOk result (ServesScript ⟦<TenantDisk<'a, R> as Disk>⟧.facts ⟦<TenantDisk<'a, R> as Disk>⟧.made ⟦<LockedFiles<'a, R> as OpensDisks>⟧.is_over ⟦<LockedFiles<'a, R> as OpensDisks>⟧.is_refused R.is_text R.is_plain R.Plain.remaining args (string_bytes path) (C.printed console.old) (C.printed console.new)) }
 {
     match Setup::read(rt, args, notes, end) {
-        Ok(setup) => serve_setup(rt, network, &setup, console, notes),
+        Ok(setup) => {
+            let (states, meters) = (FileStates::new(setup.args.strict), Meters::new(rt));
+            let disks = LockedFiles::new(rt, &states, counted_in(&setup.args.mode, &meters));
+            serve_files(
+                rt, &disks, network, &setup, console, notes, &states, &meters,
+            )
+        }
         Err(fault) => Err(fault),
     }
 }
 
-/// Opens the tenants' files, and serves what the arguments ask for.
-fn serve_setup<'a, R, N, Q: ServerPromise, C: ScriptConsole<Q>, L: Log + Sync>(
-    rt: &R,
-    network: ServerNetwork<'a, N, Q>,
-    setup: &Setup<'a>,
-    console: &mut C,
-    notes: &L,
-) -> Result<(), ServeFault>
-where
-    R: Files<File = File>
-        + AllocGlobal
-        + Threads
-        + Wait
-        + Clock
-        + Sync
-        + SeesPaths
-        + OpensPaths
-        + 'a,
-    N: Files<File = File> + Net<Listener = TcpListener, Stream = TcpStream> + Clock + Sync,
-    requires args { ArePermittedArgs setup.now.args }
-    requires lines { ArePermitted setup.now.args.pool setup.now.lines.items }
-    requires read { AreReadAt R.is_text (string_bytes setup.now.args.tenants) setup.now.args.pool setup.now.lines.items }
-    requires promise { PromisesOfArgs ⟦<TenantDisk<'a, R> as Disk>⟧.facts ⟦<TenantDisk<'a, R> as Disk>⟧.made ⟦<LockedFiles<'a, R> as OpensDisks>⟧.is_over ⟦<LockedFiles<'a, R> as OpensDisks>⟧.is_refused R.is_text setup.now.args Q.kept_by Q.shown_by }
-    ensures script { (path : _) → setup.now.args.mode ≡ Script path → OnOk result (ServesScript ⟦<TenantDisk<'a, R> as Disk>⟧.facts ⟦<TenantDisk<'a, R> as Disk>⟧.made ⟦<LockedFiles<'a, R> as OpensDisks>⟧.is_over ⟦<LockedFiles<'a, R> as OpensDisks>⟧.is_refused R.is_text R.is_plain R.Plain.remaining setup.now.args (string_bytes path) (C.printed console.old) (C.printed console.new)) }
-{
-    let (states, meters) = (FileStates::new(setup.args.strict), Meters::new(rt));
-    let disks = LockedFiles::new(rt, &states, counted_in(&setup.args.mode, &meters));
-    serve_files(rt, &disks, network, setup, console, notes, &states, &meters)
-}
-
-/// Opens the tenants' files on these disks, and serves the tenants by an engine of just these files. It knows no more of the
-/// disks than any code that opens some.
+/// Opens the tenants' files on these disks, and serves the tenants by an engine of just these files. A tenant whose file isn't open
+/// answers FAULT. If `--strict` was given, it serves only if all files are open and the limit of descriptors leaves room. It
+/// knows no more of the disks than any code that opens some.
 fn serve_files<D, P, R, N, Q, C, L>(
     rt: &R,
     disks: &P,
@@ -332,7 +308,26 @@ where
         workers_of(&setup.args),
         NoHold,
     )?;
-    serve_opened::<_, P, _, _, _, _, _>(rt, network, setup, opened, console, notes, states, meters)
+    if !may_serve(notes, setup, &opened.are_open) {
+        return Err(ServeFault::Failed);
+    }
+    let lines = setup.lines.as_slice();
+    let OpenedParts { are_open, made } = opened;
+    sync_folders(rt, notes, lines, &are_open);
+    let (parts, passes) = made?;
+    let watch = TenantNotes::new(
+        rt,
+        notes,
+        lines,
+        states,
+        meters,
+        &are_open,
+        setup.args.strict,
+        end_on_failure(setup),
+    );
+    serve_engine::<Brand, _, _, _, _, _, _, _>(
+        rt, parts, passes, network, setup, console, notes, &watch, meters,
+    )
 }
 
 /// Tells whether the limit of the stack is large enough for the threads of a server, and writes a note if not. A script has none.
@@ -392,59 +387,6 @@ fn for_further(listening: &Listening) -> u8
     ensures few { result ≤ 2 }
 {
     u8::from(listening.admin.is_some()) + u8::from(listening.http.is_some())
-}
-
-/// Serves the tenants of the tenants file, by an engine whose parts are made of the files that `P` opened. A tenant whose file
-/// isn't open answers FAULT. If `--strict` was given, it serves only if all files are open and the limit of descriptors
-/// leaves room.
-fn serve_opened<D, P, R, N, Q, C, L>(
-    rt: &R,
-    network: ServerNetwork<'_, N, Q>,
-    setup: &Setup<'_>,
-    opened: OpenedParts<D, NoHold>,
-    console: &mut C,
-    notes: &L,
-    states: &FileStates,
-    meters: &Meters,
-) -> Result<(), ServeFault>
-where
-    D: Disk + Drop + Send + Sync,
-    P: OpensDisks<Device = D>,
-    R: Files<File = File> + AllocGlobal + Threads + Wait + Clock + Sync + SeesPaths + OpensPaths,
-    N: Files<File = File> + Net<Listener = TcpListener, Stream = TcpStream> + Clock + Sync,
-    Q: ServerPromise,
-    C: ScriptConsole<Q>,
-    L: Log + Sync,
-    requires args { ArePermittedArgs setup.now.args }
-    requires tenants { length setup.now.lines.items ≤ MAX_TENANTS }
-    requires read { AreReadAt R.is_text (string_bytes setup.now.args.tenants) setup.now.args.pool setup.now.lines.items }
-    requires opened { AreMadeOfOpened D.facts D.made P.is_over P.is_refused setup.now.lines.items opened.are_open.items opened.made }
-    requires config { IfOk opened.made (λ made. (identity_of made.0).config ≡ world_read setup.now.args.pool (worker_count setup.now.args) setup.now.lines.items) }
-    requires new { IfOk opened.made (λ made. All (IsNew (identity_of made.0)) made.1.items) }
-    requires some { IfOk opened.made (λ made. 0 < vec_len made.1) }
-    requires promise { PromisesOfArgs D.facts D.made P.is_over P.is_refused R.is_text setup.now.args Q.kept_by Q.shown_by }
-    ensures script { (path : _) → setup.now.args.mode ≡ Script path → OnOk result (ServesScript D.facts D.made P.is_over P.is_refused R.is_text R.is_plain R.Plain.remaining setup.now.args (string_bytes path) (C.printed console.old) (C.printed console.new)) }
-{
-    if !may_serve(notes, setup, &opened.are_open) {
-        return Err(ServeFault::Failed);
-    }
-    let lines = setup.lines.as_slice();
-    let OpenedParts { are_open, made } = opened;
-    sync_folders(rt, notes, lines, &are_open);
-    let (parts, passes) = made?;
-    let watch = TenantNotes::new(
-        rt,
-        notes,
-        lines,
-        states,
-        meters,
-        &are_open,
-        setup.args.strict,
-        end_on_failure(setup),
-    );
-    serve_engine::<Brand, _, _, _, _, _, _, _>(
-        rt, parts, passes, network, setup, console, notes, &watch, meters,
-    )
 }
 
 /// Tells whether the tenants may be served, of whose files these are open. Writes a note if the limit of descriptors is too low,

@@ -5,7 +5,7 @@ use Rattle.std.specs.Prelude.{ℕ, ◌≡◌, ◌==◌, ◌&&◌, not, nat_le, B
 use Rattle.std.specs.Option.{option_map}
 use Rattle.std.proofs.Common.{refl, sym, ap, subst, ◌∙◌, inl, inr, arith}
 use Rattle.std.proofs.lemmas.Bool.{and_from, eq-eqb, le-leb}
-use Rattle.mw_disk.specs.Memory.{memory_facts}
+use Rattle.mw_memory_disk.specs.Memory.{memory_facts}
 use Rattle.mw_disk.specs.Runs.{LeavesOnly}
 use Rattle.mw_disk.proofs.RunLaws.{leaves_same}
 use Rattle.mw_words.specs.declared.jobs.Entry.{Entry}

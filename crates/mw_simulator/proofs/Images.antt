@@ -4,7 +4,7 @@ use Rattle.std.specs.Option.{option_map}
 use Rattle.std.proofs.Common.{◌≡◌, ◌∙◌, ◌<◌, ℕ, zero, suc, List, [], ◌∷◌, length, slice_get, Option, Some, None, refl, sym, ap, subst, inl, arith}
 use Rattle.mw_words.specs.declared.jobs.Entry.{Entry}
 use Rattle.mw_disk.specs.Facts.{MayLeave}
-use Rattle.mw_disk.specs.Memory.{memory_facts}
+use Rattle.mw_memory_disk.specs.Memory.{memory_facts}
 use Rattle.mw_world_file.specs.declared.device.Device.{Device}
 use Rattle.mw_world_file.specs.declared.device.Device.TheVariants.{Open, Shut}
 use Rattle.mw_world.specs.Files.Crashes.{IsFileOfEither}

@@ -11,7 +11,7 @@ use Rattle.mw_world_file.specs.declared.faults.BookFault.TheVariants.{NotEnabled
 use Rattle.std.specs.Option.{unwrap_or}
 use Rattle.mw_world_file.specs.Books.{quota_of}
 use Rattle.mw_disk.specs.DeviceCalls.{DeviceCall}
-use Rattle.mw_disk.specs.Memory.{Memory as Disk}
+use Rattle.mw_memory_disk.specs.Memory.{Memory as Disk}
 use Rattle.mw_world_file.specs.DeviceCalls.{LedBy, cut_list}
 use Rattle.mw_world_file.specs.Devices.{disk_under}
 use Rattle.mw_world_file.specs.Recovery.{IsCutImage, IsLeft, IsLeftOf, IsRestarted, Restarts, made_of, until, doubt_left, is_sealed_left, may_be_made}

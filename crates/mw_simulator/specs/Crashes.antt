@@ -1,7 +1,7 @@
 -- Defines what a crash in the middle of a call on a tenant's file leaves of the simulated file.
 -- Used by: src/world/calls.rt, src/world/events.rt.
 use Rattle.std.specs.Prelude.{ℕ, ◌≡◌, true, Option, Some, Result, Ok}
-use Rattle.mw_disk.specs.Memory.{memory_facts}
+use Rattle.mw_memory_disk.specs.Memory.{memory_facts}
 use Rattle.mw_disk.specs.Runs.{LeavesOnly}
 use Rattle.mw_world_file.specs.declared.simulated_file.SimulatedFile.{SimulatedFile}
 use Rattle.mw_world.specs.Files.Crashes.{IsFileOfEither}

@@ -4,7 +4,7 @@
 use Rattle.std.specs.Prelude.{ℕ, ◌≡◌, true, List, Vec, slice_get, Option, Some}
 use Rattle.std.specs.declared.alloc.Global.{Global}
 use Rattle.mw_disk.specs.Facts.{MayHaveLeft, MayLeave}
-use Rattle.mw_disk.specs.Memory.{memory_facts}
+use Rattle.mw_memory_disk.specs.Memory.{memory_facts}
 use Rattle.mw_lone.specs.Store.{Store, entries_in_doubt}
 use Rattle.mw_record.specs.Damages.{file_words}
 use Rattle.mw_world_file.specs.declared.simulated_file.SimulatedFile.{SimulatedFile}

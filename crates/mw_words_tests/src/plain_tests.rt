@@ -7,8 +7,8 @@ ghost use Rattle.mw_plain.specs.Parts.{tenants, words_at};
 
 use crate::checks::{MEMORY, same};
 use mw_config::TenantLine;
-use mw_disk::MemDisk;
 use mw_file::TenantFile;
+use mw_memory_disk::MemDisk;
 use mw_plain::*;
 use mw_record::{header, size};
 use mw_words::{Entries, Entry, Job, Name, Reply};

@@ -61,7 +61,7 @@ pub fn serve_all<L: Listener + Drop, S: Service + Send + Drop, R: Threads + Wait
         None => match crossbeam_channel::bounded(alloc, QUEUE) {
             Ok((to, from)) => {
                 let queue = WorkerQueue { from, free: None };
-                serve_queue(rt, alloc, listener, services, connections, to, &queue)
+                serve_queue(rt, alloc, listener, services, connections, to, None, &queue)
             }
             Err(_) => (ServeEnd::Memory, listener),
         },
@@ -86,27 +86,33 @@ fn serve_in_time<L: Listener + Drop, S: Service + Send + Drop, R: Threads + Wait
         queue,
     } = ushered;
     let arrivals = ArrivalQueue { arrived, clock: rt };
-    serve_ushered(
+    serve_queue(
         rt,
         alloc,
         listener,
         services,
         connections,
         arrivals,
-        usher,
+        Some(usher),
         &queue,
     )
 }
 
-/// Starts the workers and the usher, takes the connections, and ends when all of them have ended.
-fn serve_ushered<L: Listener + Drop, S: Service + Send + Drop, R: Threads + Wait + Clock + Sync>(
+/// Starts the workers, and the usher if there is one, puts the connections where they wait for these, and ends when all of them
+/// have ended.
+fn serve_queue<
+    L: Listener + Drop,
+    S: Service + Send + Drop,
+    W: Intake<L::Connection> + Drop,
+    R: Threads + Wait + Clock + Sync,
+>(
     rt: &R,
     alloc: Global,
     listener: L,
     services: Vec<S>,
     connections: Option<u32>,
-    arrivals: ArrivalQueue<'_, L::Connection, R>,
-    usher: Usher<L::Connection>,
+    waiting: W,
+    usher: Option<Usher<L::Connection>>,
     queue: &WorkerQueue<L::Connection>,
 ) -> (ServeEnd, L)
     requires keeps { KeepsPromise S.answered L.Connection.promised }
@@ -119,66 +125,34 @@ fn serve_ushered<L: Listener + Drop, S: Service + Send + Drop, R: Threads + Wait
             requires keeps { KeepsPromise S.answered L.Connection.promised }
             ensures { EndsSo L.accepts connections listener result.1 result.0 }
         {
-            if begin_all(scope, rt, alloc, queue, services).is_err() {
+            if begin_all(scope, rt, alloc, queue, services, usher).is_err() {
                 return (ServeEnd::Memory, listener);
             }
-            if scope.spawn(move || usher.run(rt)).is_err() {
-                return (ServeEnd::Memory, listener);
-            }
-            let (mut listener, mut arrivals) = (listener, arrivals);
-            accept_all(rt, &mut listener, &mut arrivals, connections);
+            let (mut listener, mut waiting) = (listener, waiting);
+            accept_all(rt, &mut listener, &mut waiting, connections);
             (ServeEnd::Served, listener)
         },
     )
 }
 
-/// Starts the workers, takes the connections, and ends when the workers have ended.
-fn serve_queue<L: Listener + Drop, S: Service + Send + Drop, R: Threads + Wait + Sync>(
-    rt: &R,
-    alloc: Global,
-    listener: L,
-    services: Vec<S>,
-    connections: Option<u32>,
-    to: Sender<L::Connection>,
-    queue: &WorkerQueue<L::Connection>,
-) -> (ServeEnd, L)
-    requires keeps { KeepsPromise S.answered L.Connection.promised }
-    ensures { EndsSo L.accepts connections listener result.1 result.0 }
-{
-    thread::scope(
-        thread::scope_env(),
-        rt,
-        |scope| -> (ServeEnd, L)
-            requires keeps { KeepsPromise S.answered L.Connection.promised }
-            ensures { EndsSo L.accepts connections listener result.1 result.0 }
-        {
-            if begin_all(scope, rt, alloc, queue, services).is_err() {
-                return (ServeEnd::Memory, listener);
-            }
-            let (mut listener, mut to) = (listener, to);
-            accept_all(rt, &mut listener, &mut to, connections);
-            (ServeEnd::Served, listener)
-        },
-    )
-}
-
-/// Starts a worker for each service.
+/// Starts a worker for each service, and the usher if there is one.
 ///
 /// # Errors
 ///
-/// A worker couldn't be started. Those before it work until no more connections can come.
+/// One of them couldn't be started. Those before it work until no more connections can come.
 fn begin_all<
     's,
     E,
     C: Connection + Send + Drop + 's,
     S: Service + Send + Drop + 's,
-    R: Wait + Sync + 's,
+    R: Wait + Clock + Sync + 's,
 >(
     scope: &Scope<'s, E>,
     rt: &'s R,
     alloc: Global,
     queue: &'s WorkerQueue<C>,
     services: Vec<S>,
+    usher: Option<Usher<C>>,
 ) -> Result<(), AllocError>
     requires keeps { KeepsPromise S.answered C.promised }
 {
@@ -188,6 +162,9 @@ fn begin_all<
                 requires keeps { KeepsPromise S.answered C.promised }
             { serve_each(rt, alloc, queue.connections(rt), &mut service) },
         )?;
+    }
+    if let Some(usher) = usher {
+        scope.spawn(move || usher.run(rt))?;
     }
     Ok(())
 }

@@ -5,7 +5,7 @@ use Rattle.std.proofs.lemmas.Bool.{cases_Bool, cond-false, and_parts, eqb-true}
 use Rattle.mw_look.specs.declared.steps.Call.{Call}
 use Rattle.mw_disk.specs.Facts.{most_counted}
 use Rattle.mw_disk.specs.Runs.{Later, Good as AllWell, Bad as OneFailed}
-use Rattle.mw_disk.specs.Memory.{Memory, memory_facts, plan_of, with_fault}
+use Rattle.mw_memory_disk.specs.Memory.{Memory, memory_facts, plan_of, with_fault}
 use Rattle.mw_file.specs.declared.tenant_file.TenantFile.{TenantFile}
 use Rattle.mw_file.specs.declared.tenant_file.FileFault.{FileFault}
 use Rattle.mw_file.specs.declared.tenant_file.FileFault.TheVariants.{Disk, Failed}

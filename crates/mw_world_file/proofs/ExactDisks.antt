@@ -7,10 +7,10 @@ use Rattle.std.proofs.lemmas.Bool.{cases_lt, false≢true}
 use Rattle.mw_words.specs.declared.jobs.Entry.{Entry}
 use Rattle.mw_look.specs.declared.steps.Call.{Call}
 use Rattle.mw_look.specs.declared.steps.Call.TheVariants.{Prepare as PrepareCall, Cancel as CancelCall}
-use Rattle.mw_disk.specs.Crash.{Tears, unsynced}
+use Rattle.mw_memory_disk.specs.Crash.{Tears, unsynced}
 use Rattle.mw_disk.specs.DeviceCalls.{DeviceCall, Makes}
-use Rattle.mw_disk.specs.Memory.{Memory, memory_facts, memory_made, NoneRefused}
-use Rattle.mw_disk.proofs.Determined.{same_disk, same_image}
+use Rattle.mw_memory_disk.specs.Memory.{Memory, memory_facts, memory_made, NoneRefused}
+use Rattle.mw_memory_disk.proofs.Determined.{same_disk, same_image}
 use Rattle.mw_file.specs.declared.place_states.PlaceState.{PlaceState}
 use Rattle.mw_file.specs.declared.tenant_file.TenantFile.{TenantFile}
 use Rattle.mw_file.specs.declared.tenant_file.FileFault.{FileFault}

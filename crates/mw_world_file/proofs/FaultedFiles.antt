@@ -1,7 +1,7 @@
 -- After a device call of a call failed, the book has the words and places that it had, and its file has failed.
 -- Used by: SimulatedFile::prepare, seal, settle.
 use Rattle.std.proofs.Common.{◌≡◌, ℕ, true, false, length, Result, Ok, Err, is_ok, sym, ap, ◌∙◌, subst}
-use Rattle.mw_disk.specs.Memory.{Memory, memory_facts}
+use Rattle.mw_memory_disk.specs.Memory.{Memory, memory_facts}
 use Rattle.mw_file.specs.declared.tenant_file.TenantFile.{TenantFile}
 use Rattle.mw_file.specs.declared.tenant_file.FileFault.{FileFault}
 use Rattle.mw_file.specs.declared.tenant_file.FileFault.TheVariants.{Disk, Failed}

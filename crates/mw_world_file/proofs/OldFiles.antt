@@ -21,7 +21,7 @@ use Rattle.mw_record.proofs.Sound.{first_file}
 use Rattle.mw_record.proofs.Writes.{length-body, length-entries}
 use Rattle.mw_file.specs.RecoveryInvariant.{IsFile}
 use Rattle.mw_disk.specs.Facts.{IsSynced}
-use Rattle.mw_disk.specs.Memory.{Memory, memory_facts}
+use Rattle.mw_memory_disk.specs.Memory.{Memory, memory_facts}
 use Rattle.mw_world_file.specs.declared.device.Device.TheVariants.{Shut}
 use Rattle.mw_world_file.specs.declared.places.Place.{Place as KeptPlace}
 use Rattle.mw_world_file.specs.declared.places.Place.TheVariants.{Empty as KeptEmpty}

@@ -9,7 +9,7 @@ use Rattle.mw_words.specs.declared.jobs.Entry.{Entry}
 use Rattle.mw_words.specs.Change.{put}
 use Rattle.arrayvec.specs.ArrayVec.{ArrayVec}
 use Rattle.mw_look.specs.declared.steps.Call.TheVariants.{Seal as SealCall, Settle as SettleCall, Cancel as CancelCall}
-use Rattle.mw_disk.specs.Memory.{Memory, memory_facts}
+use Rattle.mw_memory_disk.specs.Memory.{Memory, memory_facts}
 use Rattle.mw_record.specs.Records.{Pairs, put_pairs}
 use Rattle.mw_record.specs.Layout.{pairs_of}
 use Rattle.mw_record.proofs.ReadAgain.{put-put_pairs}

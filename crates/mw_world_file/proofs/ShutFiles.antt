@@ -3,7 +3,7 @@
 use Rattle.std.proofs.Common.{◌≡◌, ℕ, zero, suc, ◌+◌, ◌<◌, ◌≤◌, ◌==◌, ◌&&◌, ◌||◌, ◌^◌, nat_le, nat_lt, min, Bool, true, false, if◌then◌else◌, List, [], ◌∷◌, length, take, replicate, Option, Some, None, is_none, Result, Ok, Err, IsSome, IsSomeAnd, MatchResult, refl, sym, ap, subst, ◌∙◌, inl, inr, arith}
 use Rattle.std.proofs.lemmas.Bool.{cases_lt, cond-true, cond-false, and_from, and_right, and_parts, eq-eqb, eqb-true, lt-ltb, le-leb, lt-leb}
 use Rattle.mw_disk.specs.Facts.{MayLeave, IsSynced, most_counted}
-use Rattle.mw_disk.specs.Memory.{Memory, memory_facts, scripted}
+use Rattle.mw_memory_disk.specs.Memory.{Memory, memory_facts, scripted}
 use Rattle.mw_disk.specs.Runs.{LeavesOnly, Bad as OneFailed}
 use Rattle.mw_disk.proofs.RunLaws.{leaves_now, leaves_wider}
 use Rattle.mw_record.specs.declared.layout.TheConstants.{MAX_FILE}

@@ -11,7 +11,7 @@ use Rattle.mw_look.specs.declared.steps.Call.TheVariants.{Prepare as PrepareCall
 use Rattle.mw_disk.specs.Facts.{MayLeave, most_counted}
 use Rattle.mw_disk.specs.Runs.{Later, Good, Bad, LeavesOnly}
 use Rattle.mw_disk.proofs.RunLaws.{later_refl, leaves_now}
-use Rattle.mw_disk.specs.Memory.{Memory, memory_facts, plan_of, with_stop}
+use Rattle.mw_memory_disk.specs.Memory.{Memory, memory_facts, plan_of, with_stop}
 use Rattle.mw_record.specs.Damages.{file_words, places_of}
 use Rattle.mw_record.specs.Records.{Pairs, put_pairs}
 use Rattle.mw_record.specs.Layout.{pairs_of}

@@ -10,7 +10,7 @@ use Rattle.mw_words.specs.declared.jobs.Entry.{Entry}
 use Rattle.arrayvec.specs.ArrayVec.{ArrayVec}
 use Rattle.mw_look.specs.declared.steps.Call.{Call}
 use Rattle.mw_look.specs.declared.steps.Call.TheVariants.{Prepare as PrepareCall}
-use Rattle.mw_disk.specs.Memory.{Memory, memory_facts}
+use Rattle.mw_memory_disk.specs.Memory.{Memory, memory_facts}
 use Rattle.mw_record.specs.Records.{Pairs}
 use Rattle.mw_record.specs.Layout.{pairs_of}
 use Rattle.mw_file.specs.declared.tenant_file.TenantFile.{TenantFile}

@@ -1,7 +1,7 @@
 -- Defines what a call does to a tenant's simulated file: to the file, to its book (what is kept beside it) and to its disk.
 -- Used by: src/calls.rt, mw_simulator.
 use Rattle.std.specs.Prelude.{◌≡◌, ◌+◌, ℕ, Bool, true, if◌then◌else◌, List, length, slice_index, Option, Some, None, Result, Ok, Err}
-use Rattle.mw_disk.specs.Memory.{Memory as Disk, memory_facts, with_name}
+use Rattle.mw_memory_disk.specs.Memory.{Memory as Disk, memory_facts, with_name}
 use Rattle.mw_disk.specs.Runs.{Later, Good as AllWell, Bad as OneFailed}
 use Rattle.mw_words.specs.declared.jobs.Entry.{Entry}
 use Rattle.mw_look.specs.declared.steps.Call.{Call}

@@ -3,7 +3,7 @@
 use Rattle.std.specs.Prelude.{ℕ, ◌≡◌, ◌⊎◌, List, Some, Result, Ok, Err}
 use Rattle.mw_words.specs.declared.jobs.Entry.{Entry}
 use Rattle.mw_words.specs.Change.{put}
-use Rattle.mw_disk.specs.Memory.{memory_facts}
+use Rattle.mw_memory_disk.specs.Memory.{memory_facts}
 use Rattle.mw_disk.specs.Runs.{LeavesOnly}
 use Rattle.mw_record.specs.Damages.{file_words}
 use Rattle.mw_look.specs.declared.steps.Call.{Call}

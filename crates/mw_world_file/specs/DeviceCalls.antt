@@ -5,7 +5,7 @@ use Rattle.mw_words.specs.declared.jobs.Entry.{Entry}
 use Rattle.mw_look.specs.declared.steps.Call.{Call}
 use Rattle.mw_look.specs.declared.steps.Call.TheVariants.{Prepare as PrepareCall, Seal as SealCall, Settle as SettleCall, Cancel as CancelCall}
 use Rattle.mw_disk.specs.DeviceCalls.{DeviceCall, Makes}
-use Rattle.mw_disk.specs.Memory.{Memory as Disk, memory_made, NoneRefused}
+use Rattle.mw_memory_disk.specs.Memory.{Memory as Disk, memory_made, NoneRefused}
 use Rattle.mw_file.specs.declared.place_states.PlaceState.{PlaceState}
 use Rattle.mw_file.specs.DeviceCalls.{prepare_calls, seal_calls, settle_calls}
 use Rattle.mw_file.specs.File.{at_of, words_of, states_of}

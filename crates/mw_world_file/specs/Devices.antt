@@ -3,7 +3,7 @@
 -- mw_simulator.
 use Rattle.std.specs.Prelude.{◌≡◌, ℕ, Bool, true, false, not, List, [], Option, Some, None, slice_get}
 use Rattle.mw_disk.specs.Facts.{MayLeave}
-use Rattle.mw_disk.specs.Memory.{Memory, memory_facts}
+use Rattle.mw_memory_disk.specs.Memory.{Memory, memory_facts}
 use Rattle.mw_words.specs.declared.jobs.Entry.{Entry}
 use Rattle.mw_record.specs.Layout.{pairs_of}
 use Rattle.mw_file.specs.declared.place_states.PlaceState.{PlaceState}

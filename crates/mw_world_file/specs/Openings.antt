@@ -1,7 +1,7 @@
 -- Defines how an opening makes a tenant's new disk from the bytes that a start found. Used by: mw_simulator.
 use Rattle.std.specs.Prelude.{ℕ, ◌≡◌, ◌+◌, List, Option, Some, None}
 use Rattle.mw_disk.specs.Facts.{IsSynced}
-use Rattle.mw_disk.specs.Memory.{Memory as Disk, memory_facts}
+use Rattle.mw_memory_disk.specs.Memory.{Memory as Disk, memory_facts}
 use Rattle.mw_disk.specs.Runs.{LeavesOnly, Good as AllWell, Bad as OneFailed}
 use Rattle.mw_record.specs.Damages.{file_words}
 use Rattle.mw_file.specs.OpeningEnds.{open_calls}

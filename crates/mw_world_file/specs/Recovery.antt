@@ -1,10 +1,10 @@
 -- Defines what becomes of a tenant's file, and of its book, when all stops and starts again.
 -- Used by: src/laws.rt, src/restarts.rt, src/stops.rt, mw_simulator.
 use Rattle.std.specs.Prelude.{◌≡◌, ◌≤◌, ◌⊎◌, ◌&&◌, ℕ, Bool, true, false, not, if◌then◌else◌, List, length, nat_le, Option, Some, None, Result, Ok, Err, IsTrue}
-use Rattle.mw_disk.specs.Crash.{Tears, unsynced}
+use Rattle.mw_memory_disk.specs.Crash.{Tears, unsynced}
 use Rattle.mw_disk.specs.DeviceCalls.{DeviceCall}
 use Rattle.mw_disk.specs.Facts.{Facts, MayLeave}
-use Rattle.mw_disk.specs.Memory.{Memory as Disk, memory_facts, sooner}
+use Rattle.mw_memory_disk.specs.Memory.{Memory as Disk, memory_facts, sooner}
 use Rattle.mw_disk.specs.Runs.{Later, Good, Bad}
 use Rattle.mw_words.specs.declared.jobs.Entry.{Entry}
 use Rattle.mw_words.specs.Change.{is_change}

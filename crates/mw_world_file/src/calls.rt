@@ -5,7 +5,7 @@
 //! `specs/DeviceCalls`.
 ghost use Rattle.std.specs.Prelude.{◌≡◌, ◌<◌, ◌≤◌, ℕ, List, length, true, false, IfOk, IsTrue, slice_set};
 ghost use Rattle.mw_words.specs.Change.{is_change};
-ghost use Rattle.mw_disk.specs.Memory.{memory_facts, with_fault};
+ghost use Rattle.mw_memory_disk.specs.Memory.{memory_facts, with_fault};
 ghost use Rattle.mw_record.specs.Records.{Pairs};
 ghost use Rattle.mw_file.specs.File.{disk_of, at_of, words_of, states_of, has_failed};
 ghost use Rattle.mw_file.specs.RecoveryInvariant.{RecoversTo};
@@ -21,9 +21,9 @@ use crate::device::Device;
 use crate::faults::BookFault;
 use crate::places::{Place, copies, has_empty, prepared_in, sealed_in};
 use crate::simulated_file::SimulatedFile;
-use mw_disk::MemDisk;
 use mw_file::{Place as FilePlace, TenantFile};
 use mw_look::Call;
+use mw_memory_disk::{MemDisk, copy, fail_next, refused};
 use mw_words::{Entries, Entry, copy_of};
 use mw_world::Outcome;
 use std::alloc::{AllocError, Global};
@@ -75,10 +75,10 @@ fn copy_for(
     ensures keeps { IfOk result (λ copy. (contents : List ℕ) (doubt : Pairs) → RecoversTo memory_facts file.now contents doubt
         → RecoversTo memory_facts copy contents doubt) }
 {
-    let mut copy = file.copy(alloc)?;
+    let mut copy = copy(file, alloc)?;
     match outcome {
         Outcome::Good => {}
-        Outcome::Fail(number) => copy.fail_next(number)?,
+        Outcome::Fail(number) => fail_next(&mut copy, number)?,
     }
     Ok(copy)
 }
@@ -168,7 +168,7 @@ impl SimulatedFile {
                 Err(_) => Err(BookFault::Memory),
             },
             Outcome::Fail(_) => {
-                if made.is_ok() || file.refused() != held.refused() {
+                if made.is_ok() || refused(&file) != refused(held) {
                     return Err(BookFault::Memory);
                 }
                 Ok(self.broken(alloc, file, Entries::new())?)
@@ -244,7 +244,7 @@ impl SimulatedFile {
                 Ok(self.with_place(alloc, file, contents, place, sealed)?)
             }
             Outcome::Fail(_) => {
-                if made.is_ok() || file.refused() != held.refused() {
+                if made.is_ok() || refused(&file) != refused(held) {
                     return Err(BookFault::Memory);
                 }
                 Ok(self.broken(alloc, file, copy_of(entries))?)
@@ -280,7 +280,7 @@ impl SimulatedFile {
                 Ok(self.emptied(alloc, file, place)?)
             }
             Outcome::Fail(_) => {
-                if made.is_ok() || file.refused() != held.refused() {
+                if made.is_ok() || refused(&file) != refused(held) {
                     return Err(BookFault::Memory);
                 }
                 Ok(self.broken(alloc, file, Entries::new())?)
@@ -305,7 +305,7 @@ impl SimulatedFile {
         let Device::Open(held) = &self.device else {
             unreachable!()
         };
-        let mut file = held.copy(alloc)?;
+        let mut file = copy(held, alloc)?;
         file.cancel(FilePlace(place));
         Ok(self.emptied(alloc, file, place)?)
     }

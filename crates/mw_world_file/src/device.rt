@@ -3,8 +3,8 @@
 //! Used by: `simulated_file`, and the modules that make or change a book. `specs/Devices` says which file it is: change it
 //! with a case.
 
-use mw_disk::MemDisk;
 use mw_file::TenantFile;
+use mw_memory_disk::MemDisk;
 
 /// A tenant's file on a disk in memory.
 #[derive(Drop)]

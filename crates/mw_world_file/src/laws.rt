@@ -4,7 +4,7 @@
 //! They don't determine the disk after a start: of an opening the contracts only count its device calls.
 ghost use Rattle.std.specs.Prelude.{◌≡◌, ℕ, Bool, List, Option, Ok, Err};
 ghost use Rattle.mw_disk.specs.DeviceCalls.{DeviceCall};
-ghost use Rattle.mw_disk.specs.Memory.{Memory as Disk};
+ghost use Rattle.mw_memory_disk.specs.Memory.{Memory as Disk};
 ghost use Rattle.mw_words.specs.declared.jobs.Entry.{Entry};
 ghost use Rattle.mw_look.specs.declared.steps.Call.{Call};
 ghost use Rattle.mw_world_file.specs.declared.simulated_file.SimulatedFile.{SimulatedFile};
@@ -31,8 +31,8 @@ pub fn stops_leave_one_image()
         → IsCutImage disk made calls torn one → IsCutImage disk made calls torn other → one ≡ other }
 {}
 
-/// Two starts of one book after the same stop and with the same torn bytes find the same words, and both take the
-/// change in doubt or neither does. A start that can be made is never refused as one that can't.
+/// Two starts of one book after the same stop and with the same torn bytes find the same words. Both take the change
+/// in doubt, or neither does. A start that can be made is never refused as one that can't.
 pub fn restarts_have_one_end()
     ensures same { (old : SimulatedFile) (file : File) (cut : Option Cut) (torn : List ℕ) (fails_at : Option ℕ) (quota : ℕ) (one other : SimulatedFile) (took also : Bool)
         → Represents old file → Restarts old cut torn fails_at quota (Ok (one, took)) → Restarts old cut torn fails_at quota (Ok (other, also))

@@ -3,7 +3,7 @@
 //! Used by: `opening`; `unopened`, which takes only `empty_places`. A new field of a book needs its value in
 //! `opened`, `opening`, `unopened` and `calls`. Change it with `specs/Books`, `specs/Devices` and `specs/Files`.
 ghost use Rattle.std.specs.Prelude.{◌≡◌, ◌≤◌, [], false, length, replicate, IfOk, IsTrue};
-ghost use Rattle.mw_disk.specs.Memory.{memory_facts};
+ghost use Rattle.mw_memory_disk.specs.Memory.{memory_facts};
 ghost use Rattle.mw_file.specs.File.{disk_of, has_failed, states_of};
 ghost use Rattle.mw_file.specs.RecoveryInvariant.{RecoversTo};
 ghost use Rattle.mw_file.specs.PlaceStates.{all_free};
@@ -16,8 +16,8 @@ ghost use Rattle.mw_world_file.specs.declared.places.Place.TheVariants.{Empty};
 use crate::device::Device;
 use crate::places::Place;
 use crate::simulated_file::{SLOTS, SimulatedFile};
-use mw_disk::MemDisk;
 use mw_file::TenantFile;
+use mw_memory_disk::MemDisk;
 use mw_words::Entries;
 use std::alloc::{AllocError, Global};
 

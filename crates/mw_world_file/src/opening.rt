@@ -3,7 +3,7 @@
 //! Used by: `new_books`, `restarts`. Change it with `specs/Books`, `specs/Devices`, `specs/Files` and
 //! `specs/StoppedFiles`.
 ghost use Rattle.std.specs.Prelude.{◌≡◌, ◌<◌, ◌≤◌, ◌^◌, ℕ, List, Some, None, [], length, replicate, true, false, IsTrue, IsSome, IsSomeAnd, IfOk, MatchResult};
-ghost use Rattle.mw_disk.specs.Memory.{memory_facts};
+ghost use Rattle.mw_memory_disk.specs.Memory.{memory_facts};
 ghost use Rattle.mw_file.specs.File.{disk_of, states_of, has_failed};
 ghost use Rattle.mw_file.specs.RecoveryInvariant.{RecoversTo};
 ghost use Rattle.mw_file.specs.PlaceStates.{all_free};
@@ -19,8 +19,8 @@ use crate::faults::BookFault;
 use crate::opened::{empty_places, open_book};
 use crate::places::Place;
 use crate::simulated_file::{SLOTS, SimulatedFile};
-use mw_disk::MemDisk;
 use mw_file::{OpenFault, TenantFile};
+use mw_memory_disk::MemDisk;
 use mw_record::{Image, Layout, PLACES_GROW, decode};
 use mw_words::Entries;
 use std::alloc::{AllocError, Global};

@@ -2,7 +2,7 @@
 //!
 //! Used by: `restarts`. Change it with `specs/Files`, `specs/Devices`, `specs/Recovery` and `specs/StoppedFiles`.
 ghost use Rattle.std.specs.Prelude.{◌≡◌, ℕ, List, false, IfOk};
-ghost use Rattle.mw_disk.specs.Memory.{memory_facts, with_stop};
+ghost use Rattle.mw_memory_disk.specs.Memory.{memory_facts, with_stop};
 ghost use Rattle.mw_record.specs.Records.{Pairs};
 ghost use Rattle.mw_file.specs.File.{disk_of, at_of, words_of, states_of, has_failed};
 ghost use Rattle.mw_file.specs.RecoveryInvariant.{RecoversTo};
@@ -14,9 +14,9 @@ use crate::device::Device;
 use crate::faults::BookFault;
 use crate::places::{has_empty, prepared_in, sealed_in};
 use crate::simulated_file::SimulatedFile;
-use mw_disk::MemDisk;
 use mw_file::{Place as FilePlace, TenantFile};
 use mw_look::Call;
+use mw_memory_disk::{MemDisk, copy, crash, refused, stop_next};
 use mw_words::{Entries, copy_of};
 use std::alloc::{AllocError, Global};
 
@@ -36,8 +36,8 @@ fn copy_until(
     ensures keeps { IfOk result (λ copy. (contents : List ℕ) (doubt : Pairs) → RecoversTo memory_facts file.now contents doubt
         → RecoversTo memory_facts copy contents doubt) }
 {
-    let mut copy = file.copy(alloc)?;
-    copy.stop_next(calls);
+    let mut copy = copy(file, alloc)?;
+    stop_next(&mut copy, calls);
     Ok(copy)
 }
 
@@ -87,7 +87,7 @@ impl SimulatedFile {
         ensures image { IfOk result (λ left. IsTornImage (disk_under self.now.device) torn.now left.image.items) }
     {
         let image = match &self.device {
-            Device::Open(file) => file.crash(torn)?,
+            Device::Open(file) => crash(file, torn)?,
             Device::Shut(disk) => disk.crash(torn)?,
         };
         Ok(Left {
@@ -114,11 +114,11 @@ impl SimulatedFile {
         }
         let mut file = copy_until(alloc, held, cut.made)?;
         let _ = file.prepare(&cut.entries);
-        if file.refused() != held.refused() {
+        if refused(&file) != refused(held) {
             return Err(BookFault::Memory);
         }
         Ok(Left {
-            image: file.crash(torn)?,
+            image: crash(&file, torn)?,
             doubt: copy_of(&self.doubt),
         })
     }
@@ -144,12 +144,12 @@ impl SimulatedFile {
         };
         let mut file = copy_until(alloc, held, cut.made)?;
         let sealed = file.seal(FilePlace(place));
-        if file.refused() != held.refused() {
+        if refused(&file) != refused(held) {
             return Err(BookFault::Memory);
         }
         if cut.made < device_calls(Call::Seal, entries) {
             return Ok(Left {
-                image: file.crash(torn)?,
+                image: crash(&file, torn)?,
                 doubt: copy_of(entries),
             });
         }
@@ -157,7 +157,7 @@ impl SimulatedFile {
             return Err(BookFault::Memory);
         }
         Ok(Left {
-            image: file.crash(torn)?,
+            image: crash(&file, torn)?,
             doubt: copy_of(entries),
         })
     }
@@ -180,11 +180,11 @@ impl SimulatedFile {
         };
         let mut file = copy_until(alloc, held, cut.made)?;
         let _ = file.settle(FilePlace(place));
-        if file.refused() != held.refused() {
+        if refused(&file) != refused(held) {
             return Err(BookFault::Memory);
         }
         Ok(Left {
-            image: file.crash(torn)?,
+            image: crash(&file, torn)?,
             doubt: copy_of(&self.doubt),
         })
     }

@@ -14,7 +14,7 @@ use crate::changes::with_change;
 use crate::device::Device;
 use crate::opened::empty_places;
 use crate::simulated_file::{SLOTS, SimulatedFile};
-use mw_disk::MemDisk;
+use mw_memory_disk::MemDisk;
 use mw_record::{
     BODY_SIZE, COMMITTED, ENTRY_SIZE, FIRST_ENTRIES, FIRST_PLACES, PLACES_GROW, body, header,
     home_at, size,

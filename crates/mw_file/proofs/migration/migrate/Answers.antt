@@ -2,7 +2,7 @@
 use Rattle.std.proofs.Common.{true, false, arith}
 use Rattle.mw_disk.specs.DeviceCalls.{Makes}
 use Rattle.mw_disk.proofs.MakesLaws.{makes_after, makes_cut}
-use Rattle.mw_disk.proofs.Remembered.{on_err}
+use Rattle.mw_disk.proofs.Outcomes.{on_err}
 use Rattle.mw_file.specs.OpeningCalls.{lay_list, migration_list, switch_list}
 use Rattle.mw_disk.proofs.RunLaws.{still_honest, later_trans}
 use Rattle.mw_file.proofs.Migrated.{laying_moments, laying_read, switch_fits, switching_moments, switching_read, migrated, low_enough, reaches, laying_grown, switching_grown, all_given}

@@ -2,7 +2,7 @@
 use Rattle.std.proofs.Common.{◌+◌, [], ◌∷◌, ◌++◌, length, inl, true, false, arith, subst, ℕ}
 use Rattle.mw_disk.specs.DeviceCalls.{WriteAt, Sync, Makes}
 use Rattle.mw_disk.proofs.MakesLaws.{makes_after, makes_cut}
-use Rattle.mw_disk.proofs.Remembered.{on_err}
+use Rattle.mw_disk.proofs.Outcomes.{on_err}
 use Rattle.mw_disk.proofs.RunLaws.{still_honest, leaves_wider, later_trans}
 use Rattle.mw_record.specs.declared.layout.TheConstants.{COMMITTED}
 use Rattle.mw_file.specs.DeviceCalls.{record_calls, seal_calls}

@@ -2,7 +2,7 @@
 use Rattle.std.proofs.Common.{◌+◌, [], ◌∷◌, ◌++◌, length, true, false, arith}
 use Rattle.mw_disk.specs.DeviceCalls.{Sync, Makes}
 use Rattle.mw_disk.proofs.MakesLaws.{makes_one, makes_after, makes_cut}
-use Rattle.mw_disk.proofs.Remembered.{on_err}
+use Rattle.mw_disk.proofs.Outcomes.{on_err}
 use Rattle.mw_disk.proofs.RunLaws.{good_call, bad_call, still_honest, later_trans, called_later}
 use Rattle.mw_file.specs.DeviceCalls.{record_calls}
 use Rattle.mw_file.proofs.Ran.{goes_on, stops, ran_err}

@@ -2,7 +2,7 @@
 use Rattle.std.proofs.Common.{◌+◌, ◌++◌, length, true, false, arith}
 use Rattle.mw_disk.specs.DeviceCalls.{Makes}
 use Rattle.mw_disk.proofs.MakesLaws.{makes_after, makes_cut}
-use Rattle.mw_disk.proofs.Remembered.{on_err}
+use Rattle.mw_disk.proofs.Outcomes.{on_err}
 use Rattle.mw_disk.proofs.RunLaws.{still_honest, leaves_wider, later_trans}
 use Rattle.mw_file.specs.DeviceCalls.{record_calls, roll_device_calls}
 use Rattle.mw_file.specs.PlaceStates.{roll_calls}

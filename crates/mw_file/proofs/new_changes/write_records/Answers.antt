@@ -3,7 +3,7 @@ use Rattle.std.proofs.Common.{◌+◌, ◌≤◌, List, [], ◌∷◌, length, d
 use Rattle.std.proofs.lemmas.List.{take_all}
 use Rattle.std.proofs.lemmas.List.Elements.{All-nil}
 use Rattle.mw_disk.specs.DeviceCalls.{Makes}
-use Rattle.mw_disk.proofs.Remembered.{on_err}
+use Rattle.mw_disk.proofs.Outcomes.{on_err}
 use Rattle.mw_disk.proofs.RunLaws.{good_none, good_call, bad_call, called_later, later_refl, later_trans, still_honest}
 use Rattle.mw_record.specs.Layout.{pairs_of}
 use Rattle.mw_file.specs.declared.new_changes.NewChange.{NewChange}

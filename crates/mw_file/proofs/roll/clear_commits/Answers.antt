@@ -8,7 +8,7 @@ use Rattle.mw_record.specs.Layout.{place_at}
 use Rattle.mw_file.specs.PlaceStates.{commit_writes, commit_writes_of}
 use Rattle.mw_file.specs.RollForward.{Behind, AtCommits}
 use Rattle.mw_disk.specs.DeviceCalls.{Sync, Makes}
-use Rattle.mw_disk.proofs.Remembered.{on_err}
+use Rattle.mw_disk.proofs.Outcomes.{on_err}
 use Rattle.mw_disk.proofs.MakesLaws.{makes_one, makes_after, makes_cut}
 use Rattle.mw_file.specs.DeviceCalls.{clear_calls}
 use Rattle.mw_file.proofs.CallLoops.{continues_next, continues_fall, continues_end, clears_from, no_clears}

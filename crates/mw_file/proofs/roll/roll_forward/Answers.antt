@@ -4,7 +4,7 @@ use Rattle.mw_file.specs.PlaceStates.{home_writes, commit_writes, roll_calls}
 use Rattle.mw_disk.proofs.RunLaws.{still_honest, later_trans}
 use Rattle.mw_file.proofs.Rolled.{has_homes, are_below, homes_moments, homes_alone, homes_read, commits_fit, commits_moments, commits_alone, commits_read, rolled}
 use Rattle.mw_disk.specs.DeviceCalls.{Sync, Makes}
-use Rattle.mw_disk.proofs.Remembered.{on_err}
+use Rattle.mw_disk.proofs.Outcomes.{on_err}
 use Rattle.mw_disk.proofs.MakesLaws.{makes_after, makes_cut}
 use Rattle.mw_file.specs.DeviceCalls.{home_calls, clear_calls}
 use Rattle.mw_file.proofs.Ran.{goes_on, stops, ran_err}

@@ -4,7 +4,7 @@ use Rattle.std.proofs.lemmas.List.Sums.{sum_by_more, sum_by_more_le}
 use Rattle.mw_disk.proofs.RunLaws.{later_trans, good_call, bad_call, called_later, still_honest, touched_trans, touched_quiet, good_none, later_refl, touched_none}
 use Rattle.mw_file.specs.PlaceStates.{home_writes, home_writes_of}
 use Rattle.mw_disk.specs.DeviceCalls.{Sync, Makes}
-use Rattle.mw_disk.proofs.Remembered.{on_err}
+use Rattle.mw_disk.proofs.Outcomes.{on_err}
 use Rattle.mw_disk.proofs.MakesLaws.{makes_one, makes_after, makes_cut}
 use Rattle.mw_file.specs.DeviceCalls.{home_calls}
 use Rattle.mw_file.proofs.CallLoops.{continues_next, continues_fall, continues_end, homes_from, no_homes, continues_start}

@@ -7,7 +7,7 @@ use Rattle.mw_record.specs.Records.{Pairs, over, home}
 use Rattle.mw_record.specs.Layout.{home_at, number_bytes}
 use Rattle.mw_record.proofs.ReadBytes.{length-number_bytes}
 use Rattle.mw_disk.specs.DeviceCalls.{Makes}
-use Rattle.mw_disk.proofs.Remembered.{on_err}
+use Rattle.mw_disk.proofs.Outcomes.{on_err}
 use Rattle.mw_file.specs.DeviceCalls.{home_call}
 use Rattle.mw_file.proofs.CallLoops.{continues_next, continues_fall, continues_end, values_from, no_values, one_value, continues_start}
 use Rattle.mw_file.proofs.Ran.{goes_on, stops}

@@ -1,7 +1,7 @@
 -- Goals of `SimulatedFile::cancel` (src/calls.rt).
 use Rattle.std.proofs.Common.{◌∙◌, ◌≡◌, true, sym, ap, refl, arith, get_or, length}
 use Rattle.mw_disk.proofs.RunLaws.{good_none, later_refl}
-use Rattle.mw_disk.specs.Memory.{memory_facts}
+use Rattle.mw_memory_disk.specs.Memory.{memory_facts}
 use Rattle.mw_file.specs.File.{disk_of, words_of}
 use Rattle.mw_look.specs.declared.steps.Call.TheVariants.{Cancel}
 use Rattle.mw_world_file.specs.declared.places.Place.TheVariants.{Prepared as KeptPrepared}

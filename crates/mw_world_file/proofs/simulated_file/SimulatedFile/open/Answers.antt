@@ -1,7 +1,7 @@
 -- Goals of `SimulatedFile::open` (src/opening.rt).
 use Rattle.std.proofs.Common.{◌∙◌, ℕ, List, ap, arith, refl}
 use Rattle.mw_words.specs.declared.limits.TheConstants.{MAX_POOL}
-use Rattle.mw_disk.specs.Memory.{Memory, memory_facts, scripted}
+use Rattle.mw_memory_disk.specs.Memory.{Memory, memory_facts, scripted}
 use Rattle.mw_record.specs.Damages.{words_in, places_of}
 use Rattle.mw_world_file.proofs.ShutFiles.{room_opened, opened_ends, shut_ends, words_found}
 use Rattle.mw_world_file.proofs.simulated_file.SimulatedFile.open.Goals as goal

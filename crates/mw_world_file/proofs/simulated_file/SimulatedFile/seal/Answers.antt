@@ -10,7 +10,7 @@ use Rattle.mw_world_file.proofs.CalledDisks.{came_to_fault, came_well}
 use Rattle.mw_world_file.proofs.CrashedFiles.{seal_safe}
 use Rattle.mw_file.specs.File.{has_failed}
 use Rattle.mw_file.proofs.Ended.{ended_well, went_well}
-use Rattle.mw_disk.specs.Memory.{memory_facts}
+use Rattle.mw_memory_disk.specs.Memory.{memory_facts}
 use Rattle.mw_file.specs.File.{at_of, words_of, states_of}
 use Rattle.mw_world_file.specs.DeviceCalls.{call_list_at}
 use Rattle.mw_world_file.proofs.ExactDisks.{exactly_well, exactly_badly, made_well, made_badly}

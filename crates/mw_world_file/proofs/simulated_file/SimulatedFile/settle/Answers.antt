@@ -1,6 +1,6 @@
 -- Goals of `SimulatedFile::settle` (src/calls.rt).
 use Rattle.std.proofs.Common.{◌+◌, ◌∙◌, ◌≡◌, true, false, sym, ap, refl, arith, get_or, is_err, length}
-use Rattle.mw_disk.specs.Memory.{memory_facts}
+use Rattle.mw_memory_disk.specs.Memory.{memory_facts}
 use Rattle.mw_file.proofs.Ended.{ended_well, went_well}
 use Rattle.mw_look.specs.declared.steps.Call.TheVariants.{Settle}
 use Rattle.mw_world_file.specs.declared.places.Place.TheVariants.{Sealed as KeptSealed}

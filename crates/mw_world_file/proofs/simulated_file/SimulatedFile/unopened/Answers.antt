@@ -5,7 +5,7 @@ use Rattle.mw_words.specs.declared.jobs.Entry.{Entry}
 use Rattle.mw_words.specs.declared.limits.TheConstants.{MAX_POOL}
 use Rattle.mw_words.specs.Change.{put}
 use Rattle.mw_lone.proofs.SoundStores.{length-put}
-use Rattle.mw_disk.specs.Memory.{Memory, memory_facts}
+use Rattle.mw_memory_disk.specs.Memory.{Memory, memory_facts}
 use Rattle.mw_file.specs.RecoveryInvariant.{IsFile}
 use Rattle.mw_record.specs.declared.layout.TheConstants.{PLACES_GROW}
 use Rattle.mw_world_file.specs.declared.places.Place.{Place}

@@ -1,0 +1,7 @@
+-- Goals of `put` (src/spans.rt).
+use Rattle.std.proofs.Common.{arith}
+use Rattle.std.proofs.lemmas.Grind.{common_steps}
+use Rattle.mw_memory_disk.proofs.spans.put.Goals as goal
+
+pub index_mut-requires : goal.index_mut-requires
+index_mut-requires c = grind (arith, common_steps)

@@ -1,0 +1,2 @@
+pub mod Crash
+pub mod Memory
