@@ -1,4 +1,4 @@
-"""A model of how workers wait for a tenant's file: `combiner.rt`, `waiting_room.rt`, `order.rt` and `hints.rt` of mw_engine.
+"""A model of how workers wait for a tenant's file: `combiner.rt` of mw_engine; `waiting_room.rt`, `order.rt` and `hints.rt` of mw_turns.
 
 Each worker makes changes, and each change three calls on the file: a prepare, a seal, a settle. The model has one step for each thing that another
 worker can see: a look at the hints, a try of the lock, a visit to the room under its lock, a ring. What a call does to words is

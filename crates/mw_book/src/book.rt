@@ -1,8 +1,8 @@
 //! A tenant's open file (its *book*), as threads keep it under a lock, with the place of each slot's change.
 //!
-//! Used by: `place_table`; mw_core (`file_calls.rt`), which makes the calls; mw_engine, which keeps a book for each
-//! tenant from its start to its end, and copies its bytes under the tenant's lock. Only tests (mw_file_tests) ask for
-//! the sizes, and whether the file has failed or has a vacant place.
+//! Used by: `place_table`; mw_core (`file_calls.rt`), which makes the calls; mw_turns, which asks `has_written`;
+//! mw_engine, which keeps a book for each tenant from its start to its end, and copies its bytes under the tenant's
+//! lock. Only tests (mw_file_tests) ask for the sizes, and whether the file has failed or has a vacant place.
 //!
 //! A new field needs a value in `new` and `unopened`, its name in `into_disk`, and a clause in `specs/Representation` if
 //! the world knows of it. Change the calls with `specs/Permits` (when one may be made), `specs/CallOutcome` (what it

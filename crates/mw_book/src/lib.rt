@@ -18,7 +18,7 @@
 //! - *In no contract here*: that a crash in a call leaves as many places; those of mw_file say it.
 //!
 //! Used by: mw_engine, which keeps a book for each tenant; mw_core, which makes the calls, and to which these
-//! contracts are promised; mw_law_threads, in contracts.
+//! contracts are promised; mw_turns, which asks for written records; mw_law_threads, in contracts.
 #![tactic(auto)]
 
 mod answers;

@@ -1,7 +1,7 @@
 //! Chooses which changes that wait for a file a call writes ahead, along with its own bytes, and into which places.
 //!
-//! Used by: `book`; mw_core, which passes on [`Waiting`] to mw_engine (`waiting_room.rt`). `specs/ChosenPlaces` says
-//! what is chosen. docs/FILES tells `MOST_AHEAD`; `MOST_CHANGES` is one more.
+//! Used by: `book`; mw_core; mw_turns, in whose room each [`Waiting`] waits (`waiting_room.rt`). `specs/ChosenPlaces`
+//! says what is chosen. docs/FILES tells `MOST_AHEAD`; `MOST_CHANGES` is one more.
 ghost use Rattle.std.specs.Prelude.{◌≡◌, ◌≤◌, ◌<◌, ◌+◌, ◌∷◌, ℕ, List, true, false, length, IsTrue, IfSome};
 ghost use Rattle.mw_words.specs.Change.{is_change};
 ghost use Rattle.mw_words.specs.declared.limits.TheConstants.{MAX_PLACES};

@@ -7,7 +7,7 @@
 //! - *Tested only*: all else of a command line, and the texts of refusals (`config_tests` of mw_words_tests,
 //!   scripts/check-texts).
 //!
-//! Used by: mw_plain, mw_engine, mw_opening, mw_programs; mw_law_threads, in contracts. When a server starts,
+//! Used by: mw_plain, mw_engine, mw_opening, mw_server, mw_programs; mw_law_threads, in contracts. When a server starts,
 //! mw_opening calls [`read_tenants`], and mw_programs calls [`read_args`]. A change of what they accept changes
 //! docs/OPERATING.
 #![tactic(auto)]

@@ -1,5 +1,5 @@
 -- Defines that a service, or pages, keep what was promised of their answers.
--- Used by: mw_server_pages, mw_workers, mw_programs, peer.rt, visitors.rt. A change here changes what a server's clients may be served
+-- Used by: mw_server_pages, mw_workers, mw_server, mw_programs, peer.rt, visitors.rt. A change here changes what a server's clients may be served
 -- with.
 use Rattle.std.specs.Prelude.{List}
 use Rattle.mw_session.specs.ServiceCalls.{AreAnswered}

@@ -1,25 +1,22 @@
 //! The listener for clients that stay for one request and its answer, and such a client.
 //!
-//! mw_programs listens for them, and mw_server_pages answers them. Two limits of time run from the moment when the
+//! mw_server listens for them, and mw_server_pages answers them. Two limits of time run from the moment when the
 //! client comes, one for all reads and one for all writes; `timed_stream.rt` keeps them. Nothing is proved of
 //! sockets; what was read and written is recorded.
 ghost use Rattle.mw_session.specs.KnownStreams.{reads_of, writes_of};
 
 use crate::lease::Lease;
 use crate::leased_stream::{ClientLease, LeasedStream};
-use crate::listening_socket::{Closer, ListeningSocket};
+use crate::listening_socket::{Closer, ListeningSocket, OpensSockets};
 use crate::network::Network;
 use crate::promise::PagesPromise;
-use crate::sockets::{open_door, say_goodbye};
+use crate::sockets::say_goodbye;
 use crate::timed_stream::{Span, TimedStream};
 use crate::visitors::{Visitor, VisitorListener};
 use mw_http::{Exchanged, Pages, exchange};
 use mw_session::RecordedStream;
-use std::fs::File;
 use std::io;
 use std::marker::PhantomData;
-use std::net::{Net, TcpListener, TcpStream};
-use std::rt::Files;
 use std::sync::Wait;
 use std::time::{Clock, Duration, Instant};
 
@@ -56,16 +53,13 @@ pub struct BriefClient<'a, K, Q> {
 /// # Errors
 ///
 /// As [`crate::listen_at`].
-pub fn listen_briefly<'a, R, Q>(
+pub fn listen_briefly<'a, R: OpensSockets, Q>(
     network: &Network<'a, R, Q>,
     address: &str,
     mode: u32,
     limits: BriefLimits,
-) -> io::Result<BriefListener<'a, R, Q>>
-where
-    R: Files<File = File> + Net<Listener = TcpListener, Stream = TcpStream>,
-{
-    let door = open_door(network.rt, address, mode)?;
+) -> io::Result<BriefListener<'a, R, Q>> {
+    let door = network.rt.open_socket(address, mode)?;
     Ok(BriefListener {
         door,
         clock: network.rt,

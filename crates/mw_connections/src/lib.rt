@@ -37,7 +37,7 @@
 //! - *Tested only*: sockets, and that waits end so (`scripts/check-scenes`, `scripts/check-sockets`,
 //!   `scripts/check-limits`, `scripts/check-locks`).
 //!
-//! Used by: mw_workers, which serves connections; mw_server_pages, which answers visitors; mw_programs,
+//! Used by: mw_workers, which serves connections; mw_server_pages, which answers visitors; mw_programs; mw_server,
 //! which listens for both. The proofs are about what a session read and wrote, and how long it may wait; of sockets they say
 //! nothing. What a client or an operator sees of it is in docs/PROTOCOL and docs/OPERATING: change them together.
 #![tactic(auto)]
@@ -61,7 +61,7 @@ mod visitors;
 pub use brief::{BriefClient, BriefLimits, BriefListener, listen_briefly};
 pub use lease::Lease;
 pub use leased_stream::{AsksLease, ClientLease, LeasedStream};
-pub use listening_socket::Closer;
+pub use listening_socket::{Closer, ListeningSocket, OpensSockets};
 pub use metered::{MeteredConnection, MeteredListener};
 pub use network::Network;
 pub use patience::{FIRST_PAUSE, LONGEST_PAUSE, Patient, RoomWatch};

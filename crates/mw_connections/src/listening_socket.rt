@@ -1,15 +1,21 @@
 //! A socket at which clients come: of TCP, or a local one.
 //!
-//! Used by: `brief`, `sockets.rt`, `local.rt`; mw_workers and mw_programs, for [`Closer`]. It has no contracts.
+//! Used by: `brief`, `sockets.rt`, `local.rt`; mw_workers and mw_server, for [`Closer`]; mw_programs. It has no contracts.
 //! [`BACKLOG`] may have another number; docs/PROTOCOL and docs/OPERATING tell it, and scripts/check-sockets has it.
+use crate::local::listen_local;
+use std::fs::File;
 use std::io::{self, ErrorKind};
-use std::net::{Shutdown, TcpListener, TcpStream};
+use std::net::{Net, Shutdown, TcpListener, TcpStream};
 use std::os::fd::{AsRawFd, OwnedFd};
 use std::os::unix::net::UnixListener;
+use std::rt::Files;
 
 /// How many clients may wait in the system before the listener takes them. Linux takes the lesser of this
 /// and `/proc/sys/net/core/somaxconn`, and lets one more wait.
 const BACKLOG: i32 = 4096;
+
+/// The first characters of the address of a local socket. Its path follows.
+const LOCAL: &str = "unix:";
 
 /// Makes a bound socket listen. If it listens already, it only lets [`BACKLOG`] clients wait.
 ///
@@ -37,9 +43,29 @@ impl Closer {
 
 /// A listening socket of either kind.
 #[derive(Drop)]
-pub(crate) enum ListeningSocket {
+pub enum ListeningSocket {
     Tcp(TcpListener),
     Local(UnixListener),
+}
+
+/// Opens sockets at which clients come. Each runtime that has sockets and files does.
+pub trait OpensSockets {
+    /// Listens at this address. At `127.0.0.1:7000` it listens over TCP; at port 0 the system picks a free port. At
+    /// `unix:/run/mondlexi/socket` it makes a local socket of this file mode.
+    ///
+    /// # Errors
+    ///
+    /// The text is no address, or nobody can listen there.
+    fn open_socket(&self, address: &str, mode: u32) -> io::Result<ListeningSocket>;
+}
+
+impl<R: Files<File = File> + Net<Listener = TcpListener, Stream = TcpStream>> OpensSockets for R {
+    fn open_socket(&self, address: &str, mode: u32) -> io::Result<ListeningSocket> {
+        match address.strip_prefix(LOCAL) {
+            Some(path) => Ok(ListeningSocket::Local(listen_local(self, path, mode)?)),
+            None => Ok(ListeningSocket::Tcp(listening(TcpListener::bind(self, address)?)?)),
+        }
+    }
 }
 
 impl ListeningSocket {

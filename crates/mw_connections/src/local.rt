@@ -1,6 +1,6 @@
 //! Makes local sockets for clients on the same machine, and replaces a socket file that an ended server left.
 //!
-//! Used by: `open_door` in `sockets.rt`. Change it with docs/OPERATING.
+//! Used by: `listening_socket`. Change it with docs/OPERATING.
 use crate::listening_socket::listening;
 use std::fs::{self, File, Permissions};
 use std::io::{self, ErrorKind};

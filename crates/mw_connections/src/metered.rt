@@ -1,7 +1,7 @@
 //! A listener over another one, which counts its connections: those accepted, those served, and those closed, and
 //! why. A connection that is dropped before a session serves it counts as closed.
 //!
-//! mw_programs makes one over each of its listeners. Change it with `specs/Metered`. A new way in which a session
+//! mw_server makes one over each of its listeners. Change it with `specs/Metered`. A new way in which a session
 //! ends needs a [`CloseReason`].
 ghost use Rattle.std.specs.Prelude.{◌≡◌};
 ghost use Rattle.mw_connections.specs.Metered.{inside};

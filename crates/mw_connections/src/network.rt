@@ -1,6 +1,6 @@
 //! The network of a server that has promised what its clients are served with.
 //!
-//! mw_programs has one for its engine alone, and so can listen for no client whom it may serve otherwise. Tests have
+//! mw_programs has one for its engine alone, by which mw_server listens, and so for no client whom it may serve otherwise. Tests have
 //! one for a socket. Change it with docs/PROMISES.
 use std::marker::PhantomData;
 

@@ -1,6 +1,6 @@
 //! Defines the traits of listeners and of a client's connection.
 //!
-//! Used by: `metered`, `sockets.rt`, `patience.rt`, mw_workers, mw_programs, tests. A new call needs a body in each
+//! Used by: `metered`, `sockets.rt`, `patience.rt`, mw_workers, mw_server, tests. A new call needs a body in each
 //! implementation.
 ghost use Rattle.std.specs.Prelude.{ℕ, ◌≡◌, List, Option};
 ghost use Rattle.std.specs.declared.result.Result.{Result as Outcome};

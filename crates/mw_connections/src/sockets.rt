@@ -1,6 +1,6 @@
 //! Implements listeners and connections by TCP sockets and local sockets.
 //!
-//! Used by: mw_programs, which calls [`listen_at`]; `brief.rt`, which ends its connections by [`say_goodbye`].
+//! Used by: mw_server, which calls [`listen_at`]; `brief.rt`, which ends its connections by [`say_goodbye`].
 //! No contract says what a socket carries; what was read and written is recorded. The limits at the top may have
 //! other numbers; docs/OPERATING and docs/PROTOCOL tell them.
 ghost use Rattle.std.specs.Prelude.{◌≡◌, None};
@@ -9,8 +9,7 @@ ghost use Rattle.mw_session.specs.KnownStreams.{reads_of, writes_of};
 use crate::fault_limit::FaultLimit;
 use crate::lease::Lease;
 use crate::leased_stream::{ClientLease, LeasedStream};
-use crate::listening_socket::{Closer, ListeningSocket, listening};
-use crate::local::listen_local;
+use crate::listening_socket::{Closer, ListeningSocket, OpensSockets};
 use crate::network::Network;
 use crate::peer::{Connection, Listener};
 use crate::promise::Promise;
@@ -19,11 +18,9 @@ use crate::timed_stream::TimedStream;
 use mw_metrics::ServerCounters;
 use mw_session::{Ended, NoOthers, Others, PeerStream, RecordedStream, Service, Session};
 use std::alloc::Global;
-use std::fs::File;
 use std::io::{self, ErrorKind};
 use std::marker::PhantomData;
-use std::net::{Net, TcpListener, TcpStream};
-use std::rt::Files;
+use std::net::TcpStream;
 use std::sync::Wait;
 use std::time::Clock;
 
@@ -32,9 +29,6 @@ const LINGER_READS: u32 = 1024;
 
 /// How many bytes one read of such a client takes at most. So at most 1 MiB is read.
 const LINGER_PIECE: usize = 1024;
-
-/// The first characters of the address of a local socket. Its path follows.
-const LOCAL: &str = "unix:";
 
 /// A listener for clients over TCP, or by a local socket.
 #[derive(Drop)]
@@ -68,16 +62,13 @@ pub struct Client<'a, K, Q> {
 /// # Errors
 ///
 /// The text is no address, or nobody can listen there, because somebody else does or the system refuses.
-pub fn listen_at<'a, R, Q>(
+pub fn listen_at<'a, R: OpensSockets, Q>(
     network: &Network<'a, R, Q>,
     address: &str,
     mode: u32,
     limits: TimeLimits,
-) -> io::Result<ClientListener<'a, R, Q>>
-where
-    R: Files<File = File> + Net<Listener = TcpListener, Stream = TcpStream>,
-{
-    let door = open_door(network.rt, address, mode)?;
+) -> io::Result<ClientListener<'a, R, Q>> {
+    let door = network.rt.open_socket(address, mode)?;
     Ok(ClientListener {
         door,
         clock: network.rt,
@@ -87,21 +78,6 @@ where
         lease: None,
         promise: PhantomData,
     })
-}
-
-/// Makes the listening socket of an address.
-///
-/// # Errors
-///
-/// The text is no address, or nobody can listen there.
-pub(crate) fn open_door<R>(rt: &R, address: &str, mode: u32) -> io::Result<ListeningSocket>
-where
-    R: Files<File = File> + Net<Listener = TcpListener, Stream = TcpStream>,
-{
-    match address.strip_prefix(LOCAL) {
-        Some(path) => Ok(ListeningSocket::Local(listen_local(rt, path, mode)?)),
-        None => Ok(ListeningSocket::Tcp(listening(TcpListener::bind(rt, address)?)?)),
-    }
 }
 
 /// Gives the port at which clients over TCP find the listener, and None for a local socket.

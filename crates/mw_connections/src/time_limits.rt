@@ -1,6 +1,6 @@
 //! The limits of a session's waits, and how much of each is left: a calculation with times, which reads no clock.
 //!
-//! mw_programs gives the [`TimeLimits`], and `timed_stream.rt` and `sockets.rt` ask them before a wait.
+//! mw_server gives the [`TimeLimits`], and `timed_stream.rt` and `sockets.rt` ask them before a wait.
 //! Change it with `specs/TimesLeft`. [`LOOK`] may have another number; docs/OPERATING tells the limits.
 ghost use Rattle.std.specs.Prelude.{◌≡◌, None, IsFalse, if◌then◌else◌};
 ghost use Rattle.std.specs.Time.{instant_nanos};

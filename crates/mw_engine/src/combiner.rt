@@ -2,7 +2,7 @@
 //!
 //! A worker whose request comes to a call on its file tries the file's lock. If others wait for the file, or are
 //! expected there, it leaves the request in its box (`errand_boxes`), enters the file's room, and sleeps. Whoever
-//! gets the lock makes the call that is best made next (`order`), its own or another worker's, and no more. Then it
+//! gets the lock makes the call that is best made next (mw_turns), its own or another worker's, and no more. Then it
 //! makes calls that are due and cheap, wakes others, and goes on with its own request. So a seal's sync writes the
 //! records of all that wait, and a settle settles all sealed changes. This is flat combining (Hendler, Incze, Shavit,
 //! Tzafrir, 2010) of calls, without a combiner that others depend on.
@@ -37,12 +37,10 @@ use crate::errand_boxes::ErrandBox;
 use crate::file_calls::due_call;
 use crate::file_lock::FileLock;
 use crate::hold::Hold;
-use crate::order::{Choosing, Waiter};
-use crate::waiting_room::{Look, Workers};
 use mw_core::waiting_change;
 use mw_disk::Disk;
 use mw_loan::{Kept, Receipt};
-use mw_turns::Heard;
+use mw_turns::{Choosing, Heard, Look, Waiter, Workers};
 use std::sync::Wait;
 
 /// How many microseconds a worker sleeps at most before it tries the lock again.
@@ -92,7 +90,7 @@ impl<J: EngineBrand, D: Disk + Drop, H: Hold + Drop> Engine<J, D, H> {
         ensures { GoesOn D.facts J.identity errand result }
     {
         let change = waiting_change(&errand.actor);
-        own_box.begin();
+        own_box.flag.begin();
         match own_box.loan.leave(errand) {
             Ok(receipt) => {
                 lock.room.enter(rt, waiter, change);
@@ -163,7 +161,7 @@ impl<J: EngineBrand, D: Disk + Drop, H: Hold + Drop> Engine<J, D, H> {
         ensures gone_on { (left : ErrandOf) → IsReceiptFor own_box.now.loan.table.shared.table_id left receipt → IfOk result (λ errand. GoesOn D.facts J.identity left errand) }
         ensures kept { (left : ErrandOf) → IsReceiptFor own_box.now.loan.table.shared.table_id left receipt → IfErr result (λ same. IsReceiptFor own_box.now.loan.table.shared.table_id left same) }
     {
-        if !own_box.is_done() {
+        if !own_box.flag.is_done() {
             return self.reclaim(rt, own_box, receipt);
         }
         self.go(rt, lock, waiter, has_served);
@@ -204,7 +202,7 @@ impl<J: EngineBrand, D: Disk + Drop, H: Hold + Drop> Engine<J, D, H> {
         let mut stay = stay;
         for _ in rt.forever() {
             let heard = own_box.bell.listen();
-            if own_box.is_done() {
+            if own_box.flag.is_done() {
                 return stay;
             }
             stay = self.serve_or_sleep(rt, lock, own_box, heard, stay, worker);

@@ -11,18 +11,11 @@ ghost use Rattle.mw_engine.specs.Passes.{IsOneOf};
 
 use crate::brand::EngineBrand;
 use crate::guarded_file::GuardedFile;
-use crate::waiting_room::strike_off;
 use mw_actor::{Actor, Point};
 use mw_core::{Core, Pass};
 use mw_disk::Disk;
 use mw_look::Call;
-
-/// A call on its tenant's file at which a request is, and the slot of the change that it is for.
-#[derive(Clone, Copy)]
-pub(crate) struct DueCall {
-    pub(crate) call: Call,
-    pub(crate) slot: u8,
-}
+use mw_turns::{DueCall, strike_off};
 
 /// The call on its tenant's file at which a request is. None if its next step is another one.
 pub(crate) fn due_call(actor: &Actor) -> Option<DueCall>

@@ -8,11 +8,9 @@ ghost use Rattle.mw_engine.specs.Copies.{CopiesOne};
 
 use crate::brand::EngineBrand;
 use crate::guarded_file::GuardedFile;
-use crate::order::Waiter;
-use crate::waiting_room::WaitingRoom;
 use mw_disk::Disk;
 use mw_file::CopyFault;
-use mw_turns::{FairGuard, FairLock};
+use mw_turns::{FairGuard, FairLock, Waiter, WaitingRoom};
 use std::alloc::Global;
 use std::sync::Wait;
 

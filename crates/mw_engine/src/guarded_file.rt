@@ -4,10 +4,10 @@
 ghost use Rattle.mw_engine.specs.GuardedFile.{KeepsFor};
 
 use crate::brand::EngineBrand;
-use crate::waiting_room::WaitingChanges;
 use mw_book::Book;
 use mw_core::FilePass;
 use mw_disk::Disk;
+use mw_turns::WaitingChanges;
 use std::marker::PhantomData;
 
 /// The book of a tenant's file, and the file pass of the table that the engine's identity names. The file pass is

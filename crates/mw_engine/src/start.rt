@@ -12,10 +12,10 @@ use crate::errand_boxes::errand_boxes;
 use crate::file_lock::FileLock;
 use crate::guarded_file::GuardedFile;
 use crate::parts::EngineParts;
-use crate::waiting_room::WaitingChanges;
 use mw_book::Book;
 use mw_core::FilePass;
 use mw_disk::Disk;
+use mw_turns::WaitingChanges;
 use std::alloc::{AllocError, Global};
 use std::marker::PhantomData;
 

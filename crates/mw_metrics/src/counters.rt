@@ -1,6 +1,6 @@
 //! Counters that the threads of a server share. A record is one or a few additions: no lock, no memory, no wait.
 //!
-//! Used by: `meters`, mw_connections, mw_opening, mw_service, mw_programs, mw_opening_tests. Each figure is what it was
+//! Used by: `meters`, mw_connections, mw_opening, mw_service, mw_server, mw_programs, mw_opening_tests. Each figure is what it was
 //! when it was read. Figures that are read together may be of different moments.
 
 ghost use Rattle.std.specs.Prelude.{◌≡◌};

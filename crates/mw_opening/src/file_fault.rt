@@ -5,10 +5,10 @@
 ghost use Rattle.std.specs.Prelude.{◌≡◌};
 
 use crate::last_error::LastError;
-use crate::notes::note_why;
 use log::{Log, error};
 use mw_config::TenantLine;
 use mw_file::OpenFault;
+use mw_notes::note_why;
 use std::fmt::{self, Display, Formatter, Write};
 use std::io;
 

@@ -1,10 +1,10 @@
 //! Syncs the folders of the tenants' files at a start, so that no crash from then on loses a file's name.
 //!
 //! Used by: mw_programs, once the files are open. It has no contracts. Change it with docs/OPERATING.
-use crate::notes::note_cause;
 use arrayvec::ArrayString;
 use log::{Log, warn};
 use mw_config::TenantLine;
+use mw_notes::note_cause;
 use std::fs::File;
 use std::io::{self, ErrorKind};
 use std::path::Path;
@@ -14,9 +14,25 @@ use std::str;
 /// The most bytes of the path of a folder's parent: a path of the tenants file, and what leads from a folder to its parent.
 const MAX_PARENT: usize = 204;
 
+/// Syncs folders. Each runtime that has files does.
+pub trait SyncsFolders {
+    /// Syncs the folder at this path.
+    ///
+    /// # Errors
+    ///
+    /// It can't be opened, or the sync failed.
+    fn sync_folder(&self, path: &str) -> io::Result<()>;
+}
+
+impl<R: Files<File = File>> SyncsFolders for R {
+    fn sync_folder(&self, path: &str) -> io::Result<()> {
+        File::open(self, path)?.sync_all()
+    }
+}
+
 /// Syncs the folder of each tenant's file that is open, and the parent of that folder. Files in one folder have it synced
 /// once, as far as their paths are written alike. Writes a note on a folder that can't be opened or synced.
-pub fn sync_folders<R: Files<File = File>, L: Log>(
+pub fn sync_folders<R: SyncsFolders, L: Log>(
     rt: &R,
     notes: &L,
     lines: &[TenantLine],
@@ -46,7 +62,7 @@ fn is_synced_before(
 }
 
 /// Syncs the folder of the file of this line, and the folder's parent. Writes a note if it can't.
-fn sync_for<R: Files<File = File>, L: Log>(rt: &R, notes: &L, line: &TenantLine) {
+fn sync_for<R: SyncsFolders, L: Log>(rt: &R, notes: &L, line: &TenantLine) {
     let folder = folder_of(line.path.as_str());
     if let Err(error) = sync_both(rt, folder) {
         let name = str::from_utf8(&line.name).unwrap_or("?");
@@ -60,13 +76,13 @@ fn sync_for<R: Files<File = File>, L: Log>(rt: &R, notes: &L, line: &TenantLine)
 /// # Errors
 ///
 /// One can't be opened, or a sync failed.
-fn sync_both<R: Files<File = File>>(rt: &R, folder: &str) -> io::Result<()> {
-    File::open(rt, folder)?.sync_all()?;
+fn sync_both<R: SyncsFolders>(rt: &R, folder: &str) -> io::Result<()> {
+    rt.sync_folder(folder)?;
     let mut parent = ArrayString::<MAX_PARENT>::new();
     if parent.try_push_str(folder).is_err() || parent.try_push_str("/..").is_err() {
         return Err(io::Error::from(ErrorKind::InvalidInput));
     }
-    File::open(rt, parent.as_str())?.sync_all()
+    rt.sync_folder(parent.as_str())
 }
 
 /// Gives the folder of the file at this path.

@@ -3,7 +3,7 @@
 //! [`read_tenants_file`] reads the tenants. [`open_parts`] opens their files, each on a disk that [`LockedFiles`]
 //! opens, and makes an engine's parts of them. [`sync_folders`] syncs their folders. Such a file is a
 //! [`WatchedFile`], which times its calls and counts them, and keeps in a [`FileState`] what is known of it.
-//! [`OpensPaths::open_plain`] opens a file only if it is plain. [`Notes`] writes notes.
+//! [`OpensPaths::open_plain`] opens a file only if it is plain.
 //!
 //! - *What a contract says*: [`open_parts`] makes the parts of just the files that it opened, each synced before and
 //!   fit for its line. A tenant has none only for a cause. [`read_tenants_file`] gives the tenants of the text at its path.
@@ -20,8 +20,6 @@ mod file_fault;
 mod file_state;
 mod folders;
 mod last_error;
-mod lease_file;
-mod notes;
 mod opened_parts;
 mod opening;
 mod plain_file;
@@ -30,10 +28,8 @@ mod watched_file;
 
 pub use file_fault::FileFault;
 pub use file_state::{FRONT, FileState, FileStates, SeenFile};
-pub use folders::sync_folders;
+pub use folders::{SyncsFolders, sync_folders};
 pub use last_error::LastError;
-pub use lease_file::{LeaseFault, LeaseFile};
-pub use notes::{NoteForm, Notes, note_cause, note_place, note_why};
 pub use opened_parts::{OpenedParts, are_all_open, open_parts};
 pub use opening::{TenantsFault, read_tenants_file};
 pub use plain_file::{ReadFault, read_plain};

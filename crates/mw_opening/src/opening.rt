@@ -12,7 +12,6 @@ ghost use Rattle.mw_opening.specs.TenantsAtPath.{AreReadAt};
 
 use crate::file_fault::FileFault;
 use crate::last_error::LastError;
-use crate::notes::{note_place, note_why};
 use crate::plain_file::ReadFault;
 use crate::tenant_disks::{OpensDisks, OpensPaths};
 use arrayvec::ArrayVec;
@@ -20,6 +19,7 @@ use log::{Log, error};
 use mw_config::{FormRule, Refusal, TenantLine, broken_rule, read_tenants};
 use mw_disk::Disk;
 use mw_file::TenantFile;
+use mw_notes::{note_place, note_why};
 use mw_words::{MAX_TENANTS, MAX_TENANTS_FILE};
 use std::alloc::{AllocError, Global};
 use std::io::Write;

@@ -1,4 +1,4 @@
-//! Checks what a test found. Used by: `file_tests`, `mode_tests`.
+//! Checks what a test found. Used by: `file_tests`, `mode_tests`, `room_tests`.
 use std::process::Abort;
 
 /// Checks that something is so, in this row of a test, and at this number in it. Tests share this check, because a test

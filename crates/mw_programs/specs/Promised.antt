@@ -16,12 +16,12 @@ use Rattle.mw_opening.specs.FromBelow.{DeviceCall, disks_read, line_read, openin
 use Rattle.mw_opening.specs.SyncedOpenings.{AreOfLines}
 use Rattle.mw_opening.specs.TenantsAtPath.{AreReadAt}
 use Rattle.mw_opening.specs.declared.file_fault.FileFault.{FileFault}
+use Rattle.mw_server.specs.WorkerCount.{worker_count}
 use Rattle.mw_server_pages.specs.FromHttp as page
 use Rattle.mw_server_pages.specs.Shown.{Gives}
 use Rattle.mw_service.specs.EngineAnswers.{Answers, ByBorrower, ByWorker, Pass}
 use Rattle.mw_programs.specs.Copies.{IsCopyOf}
 use Rattle.mw_programs.specs.ScriptSession.{RunsScript}
-use Rattle.mw_programs.specs.WorkerCount.{worker_count}
 
 -- One call of the pages was answered by an engine: by its figures, or by a copy of the file of the first tenant of that name.
 abbrev pub ShowsOne : {D : Type 0} → (D → Facts) → Identity → Pass → page.Call → Pass → Type 0

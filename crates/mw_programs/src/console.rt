@@ -1,8 +1,7 @@
 //! The standard output of a server: where it listens, or what a script's session is told.
 //!
-//! Used by: `serving`, `scripts`, `services`, `clients`, `addresses`; mwserve, which gives `serve` a [`Printed`].
-//! docs/OPERATING tells what is printed: change both together. Scripts read the words `ready`,
-//! `admin` and `http`.
+//! Used by: `serving`, `scripts`; mwserve, which gives `serve` a [`Printed`]. docs/OPERATING tells what is printed: change
+//! both together.
 ghost use Rattle.std.specs.Prelude.{◌≡◌, ℕ, List, Option};
 ghost use Rattle.mw_session.specs.Talk.{Call};
 ghost use Rattle.mw_service.specs.EngineAnswers.{ByWorker};
@@ -13,51 +12,13 @@ use crate::promise::{EngineNetwork, ServerPromise};
 use mw_config::ArgFault;
 use mw_disk::Disk;
 use mw_engine::{EngineBrand, NoHold};
+use mw_server::{Address, Console};
 use mw_service::{FaultWatch, Worker};
 use mw_session::{Duplex, Ended, RecordedStream};
 use std::alloc::Global;
 use std::fmt::Display;
 use std::io::{self, Read, Write};
 use std::sync::Wait;
-
-/// At which of its addresses clients find a server.
-#[derive(Clone, Copy)]
-pub enum Address {
-    /// That of all clients. It is told last, when the server is ready.
-    Clients,
-    /// That of the administrator.
-    Admin,
-    /// That of the pages.
-    Pages,
-}
-
-impl Address {
-    /// Gives the word before it.
-    fn word(self) -> &'static str {
-        match self {
-            Address::Clients => "ready",
-            Address::Admin => "admin",
-            Address::Pages => "http",
-        }
-    }
-}
-
-/// Where a server writes what it has to tell.
-pub trait Console {
-    /// Writes at which port clients find the server, or at which address if it has no port.
-    ///
-    /// # Errors
-    ///
-    /// It could not be written.
-    fn tell(&mut self, which: Address, port: Option<u16>, address: &str) -> io::Result<()>;
-
-    /// Writes what a command line asks to be told.
-    ///
-    /// # Errors
-    ///
-    /// It could not be written.
-    fn help(&mut self, asked: &ArgFault) -> io::Result<()>;
-}
 
 /// A console that can run a script, which is answered as `Q` promises.
 pub trait ScriptConsole<Q: ServerPromise>: Console {

@@ -5,12 +5,13 @@
 ghost use Rattle.std.specs.Prelude.{◌<◌};
 ghost use Rattle.mw_words.specs.declared.limits.TheConstants.{MAX_TENANTS};
 
-use crate::ending::{FILE_LOST, ServerEnd};
-use crate::replaced::{FileLook, SeesPaths, leads_elsewhere};
+use crate::replaced::{SeesPaths, leads_elsewhere};
 use log::{Log, error};
 use mw_config::TenantLine;
 use mw_metrics::Meters;
-use mw_opening::{FileState, FileStates, note_place, note_why};
+use mw_notes::{note_place, note_why};
+use mw_opening::{FileState, FileStates};
+use mw_server::{FILE_LOST, FileLook, ServerEnd};
 use mw_service::FaultWatch;
 use mw_words::MAX_TENANTS;
 use std::str;

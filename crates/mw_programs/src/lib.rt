@@ -10,29 +10,21 @@
 //! Used by: mwserve. docs/OPERATING describes the program for users: change them together.
 #![tactic(auto)]
 
-mod addresses;
-mod beats;
-mod clients;
 mod console;
 mod copies;
-mod descriptors;
-mod ending;
 mod fault_notes;
 mod lent_writer;
-mod pages;
 mod promise;
 mod replaced;
-mod room_notes;
 mod scripts;
 mod services;
 mod serving;
-mod standard_error;
 
-pub use console::{Address, Console, Printed, ScriptConsole};
-pub use ending::{ServedApart, ServerEnd, ends_on_failure};
+pub use console::{Printed, ScriptConsole};
 pub use mw_disk::Disk;
+pub use mw_notes::PromptErrors;
 pub use mw_opening::{LockedFiles, OpensDisks, OpensPaths, TenantDisk};
+pub use mw_server::{Console, ServedApart, ServerEnd, ends_on_failure};
 pub use promise::{EngineNetwork, ServerNetwork, ServerPromise};
 pub use replaced::SeesPaths;
 pub use serving::serve;
-pub use standard_error::PromptErrors;

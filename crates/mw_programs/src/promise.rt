@@ -7,11 +7,10 @@ ghost use Rattle.mw_session.specs.Talk.{Call};
 ghost use Rattle.mw_engine.specs.Brand.{Identity};
 ghost use Rattle.mw_server_pages.specs.FromHttp.{Call as PageCall};
 
-use mw_connections::{Network, Promise};
+use mw_connections::{Network, OpensSockets, Promise};
 use mw_engine::EngineBrand;
 use mw_server_pages::PagesPromise;
 use std::marker::PhantomData;
-use std::net::{Net, TcpListener, TcpStream};
 
 /// What a server promises its clients, as a type. Which engine answers them is known only once it has started.
 pub trait ServerPromise: Send + Sync + Drop {
@@ -45,7 +44,7 @@ pub struct ServerNetwork<'a, N, Q> {
     promise: PhantomData<Q>,
 }
 
-impl<'a, N: Net<Listener = TcpListener, Stream = TcpStream>, Q> ServerNetwork<'a, N, Q> {
+impl<'a, N: OpensSockets, Q> ServerNetwork<'a, N, Q> {
     /// Makes the right to listen by what `rt` may do.
     pub fn new(rt: &'a N) -> Self {
         ServerNetwork {

@@ -8,39 +8,26 @@ ghost use Rattle.mw_engine.specs.Passes.{IsNew};
 ghost use Rattle.mw_service.specs.TokenTables.{table_of};
 ghost use Rattle.mw_programs.specs.Promised.{Promises};
 
-use crate::clients::{Server, serve_clients};
-use crate::console::Console;
 use crate::copies::EngineFiles;
-use crate::pages::version;
-use crate::replaced::FileLook;
-use crate::serving::ServeFault;
 use log::Log;
 use mw_config::{Listening, SharedWorkers};
+use mw_connections::OpensSockets;
 use mw_disk::Disk;
 use mw_engine::{Engine, EngineBrand, NoHold, Pass};
+use mw_main::VERSION;
 use mw_metrics::{Meters, ServerCounters};
-use mw_server_pages::{Capacity, Pages, PagesPromise, ServerPages};
+use mw_server::{Console, FileLook, ServeFault, Server, capacity, counted, serve_clients};
+use mw_server_pages::{Pages, PagesPromise, ServerPages, Version};
 use mw_service::{
     Borrower, FaultWatch, MeteredService, NewTokenTable, PassPool, ReadPool, TokenBrand,
     TokenTable, Worker,
 };
 use mw_session::Service;
 use std::alloc::AllocError;
-use std::fs::File;
 use std::marker::Brand;
-use std::net::{Net, TcpListener, TcpStream};
-use std::rt::Files;
 use std::sync::Wait;
 use std::thread::Threads;
 use std::time::Clock;
-
-/// Gives the meters if there are pages that tell what they count.
-pub(crate) fn counted<'m>(listening: &Listening, meters: &'m Meters) -> Option<&'m Meters> {
-    match &listening.http {
-        Some(_) => Some(meters),
-        None => None,
-    }
-}
 
 /// Serves clients, by a worker for each pass or by borrowers that share them, and shows the pages if there is an address for them. The
 /// last pass is then for the pages.
@@ -63,7 +50,7 @@ pub(crate) fn serve_all_clients<
 where
     J: EngineBrand + Send + Sync,
     R: AllocGlobal + Threads + Wait + Clock + Sync,
-    N: Files<File = File> + Net<Listener = TcpListener, Stream = TcpStream> + Clock + Sync,
+    N: OpensSockets + Clock + Sync,
     requires new { All (IsNew J.identity) passes.items }
     requires clients { IfSome server.now.listening.now.shared (λ shared. 1 ≤ shared.clients) }
     requires promise { Promises D.facts J.identity Q.kept Q.shown }
@@ -112,7 +99,7 @@ fn serve_borrowers<
 where
     J: EngineBrand + Send + Sync,
     R: AllocGlobal + Threads + Wait + Clock + Sync,
-    N: Files<File = File> + Net<Listener = TcpListener, Stream = TcpStream> + Clock + Sync,
+    N: OpensSockets + Clock + Sync,
     requires named { table_of made ≡ K.table }
     requires new { All (IsNew J.identity) passes.items }
     requires clients { 1 ≤ shared.clients }
@@ -130,6 +117,11 @@ where
         }
         Err(_) => Err(ServeFault::Memory),
     }
+}
+
+/// Gives the version of this server, as its pages tell it.
+fn version() -> Version {
+    Version::try_from(VERSION.as_bytes()).unwrap_or_default()
 }
 
 /// Makes the pages if they have an address. A worker with the last of these passes gives their figures, and the engine gives
@@ -161,23 +153,6 @@ fn pages_for<'a, J: EngineBrand, D: Disk, H, R: AllocGlobal + Clock, T>(
     let capacity = capacity(listening, passes.len());
     let pages = ServerPages::new(worker, files, meters, rt, version(), capacity)?;
     Ok(Some(pages))
-}
-
-/// Gives how much a server can do at once that has so many passes beside that of the pages. As [`Pools`] does it deals these out.
-fn capacity(listening: &Listening, passes: usize) -> Capacity {
-    let Some(shared) = &listening.shared else {
-        return Capacity {
-            workers: 0,
-            sessions: passes as u64,
-        };
-    };
-    let admin = usize::from(listening.admin.is_some());
-    let left = passes.saturating_sub(admin);
-    let reads = left.saturating_sub(1).min(usize::from(shared.readers));
-    Capacity {
-        workers: left.saturating_sub(reads) as u64,
-        sessions: u64::from(shared.clients) + admin as u64,
-    }
 }
 
 /// Makes a worker for each pass. The meters, if there are any, count their requests.

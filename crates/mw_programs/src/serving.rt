@@ -12,73 +12,36 @@ ghost use Rattle.mw_engine.specs.Parts.{identity_of};
 ghost use Rattle.mw_opening.specs.TenantsAtPath.{AreReadAt};
 ghost use Rattle.mw_programs.specs.Promised.{HasServed, Promises, PromisesOfArgs, PromisesOfStart, ServesScript};
 ghost use Rattle.mw_programs.specs.ScriptSession.{RunsScript};
-ghost use Rattle.mw_programs.specs.WorkerCount.{one_for, own_workers, served_count, worker_count};
 
-use crate::beats::HeldLease;
-use crate::clients::Server;
-use crate::console::{Console, ScriptConsole};
-use crate::descriptors::{has_descriptors, has_stack, needed};
-use crate::ending::ServerEnd;
+use crate::console::ScriptConsole;
 use crate::fault_notes::TenantNotes;
 use crate::promise::{EngineNetwork, ServerNetwork, ServerPromise};
-use crate::replaced::{FileLook, SeesPaths};
+use crate::replaced::SeesPaths;
 use crate::scripts::run_script;
-use crate::services::{counted, serve_all_clients};
+use crate::services::serve_all_clients;
 use arrayvec::ArrayVec;
-use log::{Log, error, warn};
-use mw_config::{ArgFault, Args, Listening, Mode, TenantLine, read_args};
+use log::{Log, warn};
+use mw_config::{Args, Mode, TenantLine, read_args};
+use mw_connections::OpensSockets;
 use mw_disk::Disk;
 use mw_engine::{Engine, EngineBrand, EngineParts, NoHold, Pass};
 use mw_metrics::Meters;
+use mw_notes::{NoteForm, Notes};
 use mw_opening::{
-    FileStates, LockedFiles, NoteForm, Notes, OpenedParts, OpensDisks, OpensPaths, TenantDisk,
+    FileStates, LockedFiles, OpenedParts, OpensDisks, OpensPaths, SyncsFolders, TenantDisk,
     are_all_open, open_parts, read_tenants_file, sync_folders,
 };
+use mw_server::{
+    FileLook, HeldLease, OpensLeases, ServeFault, Server, ServerEnd, counted_in, has_room,
+    has_stack_for, refuse, workers_of,
+};
 use mw_service::FaultWatch;
-use mw_words::{MAX_TENANTS, MAX_WORKERS};
-use std::alloc::AllocError;
-use std::fs::File;
+use mw_words::MAX_TENANTS;
 use std::io::Write;
 use std::marker::Brand;
-use std::net::{Net, TcpListener, TcpStream};
-use std::rt::Files;
 use std::sync::Wait;
 use std::thread::Threads;
 use std::time::Clock;
-
-/// Tells why nothing more is served. Notes have told it, but of memory.
-#[derive(Clone, Copy)]
-pub(crate) enum ServeFault {
-    /// The tenants file is refused.
-    Refused,
-    /// A tenant's file didn't open or the limit of descriptors is too low, and `--strict` was given; the script can't be read;
-    /// nobody can listen at an address, or tell `ready`; or the session ended by a fault, of which no note is written.
-    Failed,
-    /// Memory was refused before the first session.
-    Memory,
-}
-
-impl ServeFault {
-    /// Writes a note if memory was refused. Gives the exit status of this fault.
-    fn tell<L: Log>(self, notes: &L) -> u8
-        ensures { 1 ≤ result }
-    {
-        match self {
-            ServeFault::Refused => 2,
-            ServeFault::Failed => 1,
-            ServeFault::Memory => {
-                error!(notes; "mwserve: memory");
-                1
-            }
-        }
-    }
-}
-
-impl From<AllocError> for ServeFault {
-    fn from(_: AllocError) -> Self {
-        ServeFault::Memory
-    }
-}
 
 /// Serves what the command line `args` asks for. Its first argument is the program's own name.
 ///
@@ -126,23 +89,24 @@ pub fn serve<'a, R, N, Q: ServerPromise, C: ScriptConsole<Q>, E: Write + Send>(
     end: &'a ServerEnd,
 ) -> u8
 where
-    R: Files<File = File>
-        + AllocGlobal
+    R: AllocGlobal
         + Threads
         + Wait
         + Clock
         + Sync
         + SeesPaths
         + OpensPaths
+        + OpensLeases
+        + SyncsFolders
         + 'a,
-    N: Files<File = File> + Net<Listener = TcpListener, Stream = TcpStream> + Clock + Sync,
+    N: OpensSockets + Clock + Sync,
     requires promise { PromisesOfStart ⟦<TenantDisk<'a, R> as Disk>⟧.facts ⟦<TenantDisk<'a, R> as Disk>⟧.made ⟦<LockedFiles<'a, R> as OpensDisks>⟧.is_over ⟦<LockedFiles<'a, R> as OpensDisks>⟧.is_refused R.is_text (map string_bytes args.now) Q.kept_by Q.shown_by }
     ensures script { result ≡ 0 → AreTaken (map string_bytes args.now)
         → HasServed ⟦<TenantDisk<'a, R> as Disk>⟧.facts ⟦<TenantDisk<'a, R> as Disk>⟧.made ⟦<LockedFiles<'a, R> as OpensDisks>⟧.is_over ⟦<LockedFiles<'a, R> as OpensDisks>⟧.is_refused R.is_text R.is_plain R.Plain.remaining (map string_bytes args.now) (C.printed console.old) (C.printed console.new) }
 {
     let args = match read_args(rt.alloc(), args) {
         Ok(args) => args,
-        Err(fault) => return refuse(&fault, front_of(args), console, err),
+        Err(fault) => return refuse(&fault, args, console, err),
     };
     let form = NoteForm {
         verbose: args.verbose,
@@ -163,37 +127,6 @@ fn status_of<L: Log>(notes: &L, ended: Result<(), ServeFault>) -> u8
     match ended {
         Ok(()) => 0,
         Err(fault) => fault.tell(notes),
-    }
-}
-
-/// Gives what stands before the text on a wrong command line: the level of an error, if it asks for levels.
-fn front_of(args: &[String]) -> &'static str {
-    for word in args {
-        if word.as_str() == "--journal" {
-            return "<3>";
-        }
-    }
-    ""
-}
-
-/// Writes why a command line isn't served, with this before it, or what it asks to be told. Gives the exit status.
-fn refuse<C: Console, E: Write>(fault: &ArgFault, front: &str, console: &mut C, err: &mut E) -> u8
-    ensures { result ≡ 0 → IsRefused fault.now }
-{
-    match fault {
-        ArgFault::Refused(text) if !text.use_stderr() => u8::from(console.help(fault).is_err()),
-        ArgFault::Refused(_) => {
-            let _ = write!(err, "{front}{fault}");
-            2
-        }
-        ArgFault::Mode(_) => {
-            let _ = writeln!(err, "{front}{fault}");
-            2
-        }
-        ArgFault::Memory => {
-            let _ = writeln!(err, "{front}{fault}");
-            1
-        }
     }
 }
 
@@ -246,16 +179,17 @@ fn serve_args<'a, R, N, Q: ServerPromise, C: ScriptConsole<Q>, L: Log + Sync>(
     end: &'a ServerEnd,
 ) -> Result<(), ServeFault>
 where
-    R: Files<File = File>
-        + AllocGlobal
+    R: AllocGlobal
         + Threads
         + Wait
         + Clock
         + Sync
         + SeesPaths
         + OpensPaths
+        + OpensLeases
+        + SyncsFolders
         + 'a,
-    N: Files<File = File> + Net<Listener = TcpListener, Stream = TcpStream> + Clock + Sync,
+    N: OpensSockets + Clock + Sync,
     requires args { ArePermittedArgs args }
     requires promise { PromisesOfArgs ⟦<TenantDisk<'a, R> as Disk>⟧.facts ⟦<TenantDisk<'a, R> as Disk>⟧.made ⟦<LockedFiles<'a, R> as OpensDisks>⟧.is_over ⟦<LockedFiles<'a, R> as OpensDisks>⟧.is_refused R.is_text args Q.kept_by Q.shown_by }
     ensures script { (path : _) → args.mode ≡ Script path → OnOk result (ServesScript ⟦<TenantDisk<'a, R> as Disk>⟧.facts ⟦<TenantDisk<'a, R> as Disk>⟧.made ⟦<LockedFiles<'a, R> as OpensDisks>⟧.is_over ⟦<LockedFiles<'a, R> as OpensDisks>⟧.is_refused R.is_text R.is_plain R.Plain.remaining args (string_bytes path) (C.printed console.old) (C.printed console.new)) }
@@ -288,8 +222,16 @@ fn serve_files<D, P, R, N, Q, C, L>(
 where
     D: Disk + Drop + Send + Sync,
     P: OpensDisks<Device = D>,
-    R: Files<File = File> + AllocGlobal + Threads + Wait + Clock + Sync + SeesPaths + OpensPaths,
-    N: Files<File = File> + Net<Listener = TcpListener, Stream = TcpStream> + Clock + Sync,
+    R: AllocGlobal
+        + Threads
+        + Wait
+        + Clock
+        + Sync
+        + SeesPaths
+        + OpensPaths
+        + OpensLeases
+        + SyncsFolders,
+    N: OpensSockets + Clock + Sync,
     Q: ServerPromise,
     C: ScriptConsole<Q>,
     L: Log + Sync,
@@ -328,65 +270,6 @@ where
     serve_engine::<Brand, _, _, _, _, _, _, _>(
         rt, parts, passes, network, setup, console, notes, &watch, meters,
     )
-}
-
-/// Tells whether the limit of the stack is large enough for the threads of a server, and writes a note if not. A script has none.
-fn has_stack_for<L: Log>(notes: &L, mode: &Mode) -> bool {
-    match mode {
-        Mode::Listen(_) => has_stack(notes),
-        Mode::Script(_) => true,
-    }
-}
-
-/// Gives the meters if there are pages that tell what they count.
-fn counted_in<'m>(mode: &Mode, meters: &'m Meters) -> Option<&'m Meters> {
-    match mode {
-        Mode::Listen(listening) => counted(listening, meters),
-        Mode::Script(_) => None,
-    }
-}
-
-/// Tells whether the limit of descriptors leaves room for the clients of so many tenants, and writes a note if not. A
-/// script has no clients.
-fn has_room<L: Log>(notes: &L, args: &Args, tenants: usize) -> bool
-    requires args { ArePermittedArgs args.now }
-    requires tenants { tenants ≤ MAX_TENANTS }
-{
-    match &args.mode {
-        Mode::Script(_) => true,
-        Mode::Listen(listening) => {
-            let served = served_at_once(args, listening);
-            let needed = needed(
-                tenants,
-                served,
-                listening.wait.is_some(),
-                listening.admin.is_some(),
-                listening.http.is_some(),
-                listening.lease.is_some(),
-            );
-            has_descriptors(notes, needed)
-        }
-    }
-}
-
-/// Gives how many connections are served at once, those of the administrator and of the pages included.
-fn served_at_once(args: &Args, listening: &Listening) -> u16
-    requires args { ArePermittedArgs args.now }
-    requires mode { args.now.mode ≡ Listen listening.now }
-    ensures count { result ≡ served_count args.now listening.now }
-{
-    match &listening.shared {
-        Some(shared) => shared.clients + u16::from(for_further(listening)),
-        None => u16::from(workers_of(args)),
-    }
-}
-
-/// Gives how many workers there are for further addresses: one for the administrator's, and one for that of the pages.
-fn for_further(listening: &Listening) -> u8
-    ensures count { result ≡ one_for listening.now.admin + one_for listening.now.http }
-    ensures few { result ≤ 2 }
-{
-    u8::from(listening.admin.is_some()) + u8::from(listening.http.is_some())
 }
 
 /// Tells whether the tenants may be served, of whose files these are open. Writes a note if the limit of descriptors is too low,
@@ -429,26 +312,6 @@ fn note_down<L: Log>(notes: &L, are_open: &[bool]) {
     }
 }
 
-/// Gives the number of workers: as many as were asked for, and one for each further address, but at most [`MAX_WORKERS`].
-fn workers_of(args: &Args) -> u8
-    requires { ArePermittedArgs args.now }
-    ensures range { (1 ≤ result) × (result ≤ MAX_WORKERS) }
-    ensures count { result ≡ worker_count args.now }
-{
-    MAX_WORKERS.min(args.workers + own_workers(&args.mode))
-}
-
-/// Gives how many workers there are for further addresses. A script has none.
-fn own_workers(mode: &Mode) -> u8
-    ensures count { result ≡ own_workers mode.now }
-    ensures few { result ≤ 2 }
-{
-    match mode {
-        Mode::Listen(listening) => for_further(listening),
-        Mode::Script(_) => 0,
-    }
-}
-
 /// Starts the engine, uses the network up for it, and serves what the command line asks for.
 fn serve_engine<
     J: EngineBrand + Send + Sync,
@@ -471,8 +334,8 @@ fn serve_engine<
     meters: &Meters,
 ) -> Result<(), ServeFault>
 where
-    R: Files<File = File> + AllocGlobal + Threads + Wait + Clock + Sync + OpensPaths,
-    N: Files<File = File> + Net<Listener = TcpListener, Stream = TcpStream> + Clock + Sync,
+    R: AllocGlobal + Threads + Wait + Clock + Sync + OpensPaths + OpensLeases,
+    N: OpensSockets + Clock + Sync,
     requires identity { identity_of parts ≡ J.identity }
     requires new { All (IsNew J.identity) passes.items }
     requires some { 0 < vec_len passes }
@@ -520,8 +383,8 @@ fn serve_started<
     meters: &'e Meters,
 ) -> Result<(), ServeFault>
 where
-    R: Files<File = File> + AllocGlobal + Threads + Wait + Clock + Sync + OpensPaths,
-    N: Files<File = File> + Net<Listener = TcpListener, Stream = TcpStream> + Clock + Sync,
+    R: AllocGlobal + Threads + Wait + Clock + Sync + OpensPaths + OpensLeases,
+    N: OpensSockets + Clock + Sync,
     requires new { All (IsNew J.identity) passes.items }
     requires some { 0 < vec_len passes }
     requires args { ArePermittedArgs setup.now.args }

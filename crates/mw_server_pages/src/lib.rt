@@ -9,7 +9,7 @@
 //! [`serve_pages`] makes one [`mw_http::exchange`] with each client that a listener gives, and closes its connection.
 //! `specs/Clients` says which clients were served.
 //!
-//! Used by: mw_programs, tests.
+//! Used by: mw_server, mw_programs, tests.
 #![tactic(auto)]
 
 mod bodies;

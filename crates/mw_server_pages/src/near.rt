@@ -1,6 +1,6 @@
 //! Tells how much of each limit of a server was used, and which limits are near.
 //!
-//! `samples` keeps it, `server_pages` asks for it, and mw_programs gives the [`Capacity`]. No contract says how much
+//! `samples` keeps it, `server_pages` asks for it, and mw_server gives the [`Capacity`]. No contract says how much
 //! is used or which are near: mw_serving_tests tests it, and docs/HTTP tells it.
 
 use crate::limits::{Limit, LimitKind, MAX_LIMITS};

@@ -1,6 +1,6 @@
 //! Serves the clients that a listener gives, one after the other.
 //!
-//! mw_programs runs it on a thread of its own. `specs/Clients` says what it promises: change both together. [`PAUSE`] may
+//! mw_server runs it on a thread of its own. `specs/Clients` says what it promises: change both together. [`PAUSE`] may
 //! have another number.
 ghost use Rattle.std.specs.Prelude.{◌≡◌, map, string_bytes};
 ghost use Rattle.mw_session.specs.StreamRecords.{no_reads, no_writes};

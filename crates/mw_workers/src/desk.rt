@@ -1,6 +1,6 @@
 //! Serves the clients of a second address by a worker of their own, which no other client can take.
 //!
-//! mw_programs calls [`serve_beside`] (`clients.rt`). [`TURN`] and [`DESK_QUEUE`] may have other numbers, the latter 1
+//! mw_server calls [`serve_beside`] (`clients.rt`). [`TURN`] and [`DESK_QUEUE`] may have other numbers, the latter 1
 //! or more; docs/OPERATING and docs/PROTOCOL tell both. Change the rest with `specs/ListenerCalls` and
 //! `specs/ServedConnections`.
 ghost use Rattle.std.specs.Prelude.{◌≡◌, ℕ, Bool, List, length, ◌<◌, vec_len};

@@ -18,7 +18,7 @@
 //! - *Tested only*: [`crossbeam_channel`]'s queue between them: that a connection comes out of it once (`crowd_tests`
 //!   of mw_serving_tests). Also that all workers begin, waits and turns (`scripts/check-scenes`, `scripts/check-crowd`).
 //!
-//! Used by: mw_programs. The proofs are about which connection is put where, and what its session read and wrote; of
+//! Used by: mw_server. The proofs are about which connection is put where, and what its session read and wrote; of
 //! threads they say nothing. Change it with docs/PROTOCOL and docs/OPERATING.
 #![tactic(auto)]
 

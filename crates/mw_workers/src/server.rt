@@ -1,6 +1,6 @@
 //! Serves all clients: runs the acceptor, the queue of connections, and the workers, each on a thread.
 //!
-//! Used by: `desk`, mw_programs. [`QUEUE`] may have another number of 1 or more; docs/OPERATING and docs/PROTOCOL tell
+//! Used by: `desk`, mw_server. [`QUEUE`] may have another number of 1 or more; docs/OPERATING and docs/PROTOCOL tell
 //! it. docs/PROMISES cites `serve_all`.
 ghost use Rattle.std.specs.Prelude.{◌<◌, vec_len};
 ghost use Rattle.mw_connections.specs.Promises.{KeepsPromise};

@@ -2,7 +2,7 @@
 //!
 //! `server.rt` runs an [`Usher`] on a thread, if connections may wait for so many seconds only. The acceptor puts them
 //! into the [`ArrivalQueue`], and the workers take them from the [`WorkerQueue`]. [`WAITING`] may have another number
-//! of 1 or more; docs/OPERATING and docs/PROTOCOL tell it, and mw_programs counts descriptors by it. Nothing is proved
+//! of 1 or more; docs/OPERATING and docs/PROTOCOL tell it, and mw_server counts descriptors by it. Nothing is proved
 //! of the channels.
 ghost use Rattle.std.specs.Prelude.{◌≡◌};
 ghost use Rattle.std.specs.Duration.{as_nanos};

@@ -20,18 +20,16 @@ use crate::brand::EngineBrand;
 use crate::engine::Engine;
 use crate::errand::Errand;
 use crate::errand_boxes::ErrandBox;
-use crate::file_calls::{DueCall, due_call};
+use crate::file_calls::due_call;
 use crate::file_lock::FileLock;
 use crate::guarded_file::GuardedFile;
 use crate::hold::Hold;
-use crate::order::{Choosing, Waiter};
-use crate::waiting_room::Workers;
 use core::mem::replace_with;
 use mw_actor::Actor;
 use mw_core::Pass;
 use mw_disk::Disk;
 use mw_loan::Kept;
-use mw_turns::FairGuard;
+use mw_turns::{Choosing, DueCall, FairGuard, Waiter, Workers};
 use std::sync::Wait;
 
 impl<J: EngineBrand, D: Disk + Drop, H: Hold + Drop> Engine<J, D, H> {
@@ -192,11 +190,11 @@ impl<J: EngineBrand, D: Disk + Drop, H: Hold + Drop> Engine<J, D, H> {
         match self.make_for(file, waiter.worker) {
             Some(own_box) if waiter.worker != worker => {
                 lock.room
-                    .end_for(rt, &waiter, &file.book, &mut file.called, own_box);
+                    .end_for(rt, &waiter, &file.book, &mut file.called, &own_box.flag);
             }
             Some(own_box) => {
                 lock.room.end(rt, &waiter, &file.book, &mut file.called);
-                own_box.end();
+                own_box.flag.end();
             }
             None => lock.room.end(rt, &waiter, &file.book, &mut file.called),
         }

@@ -1,46 +1,44 @@
 //! Serves the clients that come to the addresses of a server, each by a service that is free.
 //!
-//! Used by: `serving`, `services`. Change it with docs/OPERATING, which has what it prints and its notes.
+//! Used by: mw_programs. Change it with docs/OPERATING, which has what it prints and its notes.
 ghost use Rattle.std.specs.Prelude.{◌<◌, vec_len};
 ghost use Rattle.mw_connections.specs.Promises.{KeepsPromise, PagesKeep};
 
 use crate::addresses::{AdminDoor, ClientDoors, DoorTerms, Doors, open_doors};
 use crate::beats::{HeldLease, LeaseLook};
 use crate::console::Console;
+use crate::looks::{FileLook, PERIOD, Stop, look_on};
 use crate::pages::{PagesEnd, show_pages};
-use crate::replaced::{FileLook, PERIOD, Stop, look_on};
 use crate::room_notes::RoomNotes;
-use crate::serving::ServeFault;
+use crate::serve_fault::ServeFault;
 use log::Log;
 use mw_config::Listening;
 use mw_connections::{
-    BriefListener, ClientListener, Lease, Listener, MeteredListener, Network, Patient, RoomWatch,
+    BriefListener, ClientListener, Lease, Listener, MeteredListener, Network, OpensSockets,
+    Patient, RoomWatch,
 };
 use mw_metrics::Meters;
 use mw_server_pages::{Pages, PagesPromise};
 use mw_session::Service;
 use mw_workers::{Desk, ServeEnd, serve_all, serve_beside};
 use std::alloc::AllocError;
-use std::fs::File;
-use std::net::{Net, TcpListener, TcpStream};
-use std::rt::Files;
 use std::sync::Wait;
 use std::thread::{self, JoinHandle, Scope, Threads};
 use std::time::Clock;
 
 /// What the start of a server made, but its engine.
 #[derive(Drop)]
-pub(crate) struct Server<'e, R, N, Q, L, T> {
-    pub(crate) rt: &'e R,
+pub struct Server<'e, R, N, Q, L, T> {
+    pub rt: &'e R,
     /// Where it listens, and what its clients are promised.
-    pub(crate) network: &'e Network<'e, N, Q>,
-    pub(crate) listening: &'e Listening,
-    pub(crate) notes: &'e L,
+    pub network: &'e Network<'e, N, Q>,
+    pub listening: &'e Listening,
+    pub notes: &'e L,
     /// Is told of each request that is answered FAULT, and looks at the tenants' files.
-    pub(crate) watch: &'e T,
-    pub(crate) meters: &'e Meters,
+    pub watch: &'e T,
+    pub meters: &'e Meters,
     /// The lease that it has taken, if it has to have one.
-    pub(crate) held: Option<&'e HeldLease<'e>>,
+    pub held: Option<&'e HeldLease<'e>>,
 }
 
 impl<'e, R, N, Q, L, T> Server<'e, R, N, Q, L, T> {
@@ -56,12 +54,12 @@ impl<'e, R, N, Q, L, T> Server<'e, R, N, Q, L, T> {
 /// Opens the addresses of a server, tells where it listens, and serves clients, each by one of these services, if there was
 /// memory for them. If there is an address for the administrator, the last of them serves only the clients of that address. Meanwhile a thread
 /// looks at the tenants' files, and if there are pages another one shows them.
-pub(crate) fn serve_clients<
+pub fn serve_clients<
     'e,
     S: Service + Send + Drop,
     G: Pages + Send + Drop,
-    R,
-    N,
+    R: AllocGlobal + Threads + Wait + Clock + Sync,
+    N: OpensSockets + Clock + Sync,
     Q: PagesPromise,
     C: Console,
     L: Log + Sync,
@@ -72,9 +70,6 @@ pub(crate) fn serve_clients<
     pages: Option<G>,
     console: &mut C,
 ) -> Result<(), ServeFault>
-where
-    R: AllocGlobal + Threads + Wait + Clock + Sync,
-    N: Files<File = File> + Net<Listener = TcpListener, Stream = TcpStream> + Clock + Sync,
     requires keeps { KeepsPromise S.answered Q.kept }
     requires pages { PagesKeep G.answered Q.shown }
 {

@@ -1,6 +1,6 @@
 //! The standard error of a program, which keeps nobody waiting.
 //!
-//! `mwserve` gives it to `serve` for its notes. Nothing is proved of it. docs/OPERATING tells its limit (`MOST`).
+//! Used by: mw_programs, which passes it on to `mwserve` for its notes. Nothing is proved of it. docs/OPERATING tells its limit (`MOST`).
 
 use libc::net::{POLLOUT, poll};
 use libc::types::pollfd;

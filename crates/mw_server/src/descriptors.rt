@@ -1,27 +1,30 @@
 //! Finds out whether the limits of descriptors and of the stack leave room for what a server needs.
 //!
-//! `serving` asks before it serves clients. `specs/Descriptors`, docs/OPERATING and scripts/check-limits (`NEEDED`,
+//! mw_programs asks before it serves clients. `specs/Descriptors`, docs/OPERATING and scripts/check-limits (`NEEDED`,
 //! `WITH_ADMIN`, `STACK`) have the same numbers: change them together.
 ghost use Rattle.std.specs.Prelude.{◌≡◌, ◌≤◌};
-ghost use Rattle.mw_programs.specs.Descriptors.{needed, needed_to_wait};
+ghost use Rattle.mw_server.specs.Descriptors.{needed, needed_to_wait};
+ghost use Rattle.mw_config.specs.CommandLine.{ArePermittedArgs};
 ghost use Rattle.mw_words.specs.declared.limits.TheConstants.{MAX_TENANTS};
 
+use crate::worker_count::served_at_once;
 use log::{Log, error, warn};
+use mw_config::{Args, Mode};
 use mw_words::MAX_TENANTS;
 use mw_workers::{DESK_QUEUE, QUEUE, WAITING};
 
 /// How many standard streams a program has.
-pub(crate) const STREAMS: u64 = 3;
+const STREAMS: u64 = 3;
 
 /// How many more are needed to look at the tenants' files: one is opened at a time.
-pub(crate) const FOR_LOOKS: u64 = 1;
+const FOR_LOOKS: u64 = 1;
 
 /// How many more are needed for the administrator's address: its listener, what ends the wait there, the connections that
 /// wait for their turn, and one that is being accepted.
-pub(crate) const FOR_ADMIN: u64 = 3 + DESK_QUEUE as u64;
+const FOR_ADMIN: u64 = 3 + DESK_QUEUE as u64;
 
 /// How many more are needed for the address of the pages: its listener, and what ends the wait there.
-pub(crate) const FOR_PAGES: u64 = 2;
+const FOR_PAGES: u64 = 2;
 
 /// How many are needed for connections that no session serves yet: those that wait for one, and one that is being accepted.
 /// If they wait for a limited time, one more is on its way to a session.
@@ -38,7 +41,7 @@ fn needed_to_wait(is_limited: bool) -> u64
 /// Gives how many descriptors a server needs: for the standard streams, the tenants' files and a look at them, the listener,
 /// each connection that is served at once, and the connections that wait for a session, for ever or for a limited time. With an address for
 /// the administrator it needs more, and with one for the pages too. A lease needs one.
-pub(crate) fn needed(
+fn needed(
     tenants: usize,
     served: u16,
     is_limited: bool,
@@ -54,6 +57,29 @@ pub(crate) fn needed(
     let admin = if has_admin { FOR_ADMIN } else { 0 };
     let pages = if has_pages { FOR_PAGES } else { 0 };
     clients + admin + pages + u64::from(has_lease)
+}
+
+/// Tells whether the limit of descriptors leaves room for the clients of so many tenants, and writes a note if not. A
+/// script has no clients.
+pub fn has_room<L: Log>(notes: &L, args: &Args, tenants: usize) -> bool
+    requires args { ArePermittedArgs args.now }
+    requires tenants { tenants ≤ MAX_TENANTS }
+{
+    match &args.mode {
+        Mode::Script(_) => true,
+        Mode::Listen(listening) => {
+            let served = served_at_once(args, listening);
+            let needed = needed(
+                tenants,
+                served,
+                listening.wait.is_some(),
+                listening.admin.is_some(),
+                listening.http.is_some(),
+                listening.lease.is_some(),
+            );
+            has_descriptors(notes, needed)
+        }
+    }
 }
 
 /// How large the stack of a thread must be, in bytes. The system gives each the limit of the stack.
@@ -73,7 +99,7 @@ fn limit_of(resource: i32) -> Option<u64> {
 }
 
 /// Tells whether the program may have so many descriptors, and writes a note if not.
-pub(crate) fn has_descriptors<L: Log>(notes: &L, needed: u64) -> bool {
+fn has_descriptors<L: Log>(notes: &L, needed: u64) -> bool {
     match limit_of(libc::RLIMIT_NOFILE) {
         Some(limit) if limit < needed => {
             warn!(notes; "mwserve: too few descriptors");
@@ -85,7 +111,7 @@ pub(crate) fn has_descriptors<L: Log>(notes: &L, needed: u64) -> bool {
 }
 
 /// Tells whether the limit of the stack is large enough for a thread, and writes a note if not.
-pub(crate) fn has_stack<L: Log>(notes: &L) -> bool {
+fn has_stack<L: Log>(notes: &L) -> bool {
     match limit_of(libc::RLIMIT_STACK) {
         Some(limit) if limit < STACK => {
             error!(notes; "mwserve: small stack");
@@ -93,5 +119,13 @@ pub(crate) fn has_stack<L: Log>(notes: &L) -> bool {
             false
         }
         _ => true,
+    }
+}
+
+/// Tells whether the limit of the stack is large enough for the threads of a server, and writes a note if not. A script has none.
+pub fn has_stack_for<L: Log>(notes: &L, mode: &Mode) -> bool {
+    match mode {
+        Mode::Listen(_) => has_stack(notes),
+        Mode::Script(_) => true,
     }
 }

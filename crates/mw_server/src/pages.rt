@@ -1,11 +1,12 @@
 //! Shows the server's pages over HTTP, beside its clients, on a thread of its own.
 //!
-//! Used by: `services`, `addresses`, `clients`. Change it with docs/OPERATING.
+//! Used by: `addresses`, `clients`; mw_programs, for [`counted`]. Change it with docs/OPERATING.
 ghost use Rattle.mw_connections.specs.Promises.{PagesKeep};
 
+use mw_config::{Listening, Mode};
 use mw_connections::{BriefLimits, BriefListener, Closer};
-use mw_main::VERSION;
-use mw_server_pages::{Pages, PagesPromise, Version, serve_pages};
+use mw_metrics::Meters;
+use mw_server_pages::{Pages, PagesPromise, serve_pages};
 use std::sync::Wait;
 use std::sync::atomic::{AtomicBool, Ordering};
 use std::time::Clock;
@@ -15,11 +16,6 @@ pub(crate) const LIMITS: BriefLimits = BriefLimits {
     request: 2,
     whole: 10,
 };
-
-/// Gives the version of this server, as its pages tell it.
-pub(crate) fn version() -> Version {
-    Version::try_from(VERSION.as_bytes()).unwrap_or_default()
-}
 
 /// Ends the pages of another thread.
 #[derive(Drop)]
@@ -59,4 +55,20 @@ pub(crate) fn show_pages<G: Pages + Drop, R: Wait + Clock + Sync, N: Clock + Syn
 {
     let (mut listener, mut pages) = (listener, pages);
     serve_pages(rt, &mut listener, &mut pages, names, &end.is_open);
+}
+
+/// Gives the meters if there are pages that tell what they count.
+pub fn counted<'m>(listening: &Listening, meters: &'m Meters) -> Option<&'m Meters> {
+    match &listening.http {
+        Some(_) => Some(meters),
+        None => None,
+    }
+}
+
+/// As [`counted`], by what the command line asks for. A script has no pages.
+pub fn counted_in<'m>(mode: &Mode, meters: &'m Meters) -> Option<&'m Meters> {
+    match mode {
+        Mode::Listen(listening) => counted(listening, meters),
+        Mode::Script(_) => None,
+    }
 }

@@ -1,6 +1,6 @@
 //! The file of a server's lease: opened under a lock, and beaten by writes that are synced.
 //!
-//! Used by: mw_programs. docs/OPERATING tells the notes and the file's text: change them together.
+//! Used by: `beats`; mw_programs, for [`OpensLeases`]. docs/OPERATING tells the notes and the file's text: change them together.
 //! scripts/check-refusals and check-locks expect notes. It has no contracts.
 use arrayvec::ArrayVec;
 use std::fmt::{self, Display, Formatter};
@@ -45,17 +45,29 @@ impl Display for LeaseFault {
     }
 }
 
-/// The file of a lease, under a lock that is held until it is closed.
-#[derive(Drop)]
-pub struct LeaseFile(File);
-
-impl LeaseFile {
+/// Opens files of leases. Each runtime that has files does.
+pub trait OpensLeases {
     /// Opens the file at this path, and locks it. A file that isn't there is made.
     ///
     /// # Errors
     ///
     /// As [`LeaseFault`] tells. Nothing was written to the file.
-    pub fn open<R: Files<File = File>>(rt: &R, path: &str) -> Result<Self, LeaseFault> {
+    fn open_lease(&self, path: &str) -> Result<LeaseFile, LeaseFault>;
+}
+
+impl<R: Files<File = File>> OpensLeases for R {
+    fn open_lease(&self, path: &str) -> Result<LeaseFile, LeaseFault> {
+        LeaseFile::open(self, path)
+    }
+}
+
+/// The file of a lease, under a lock that is held until it is closed.
+#[derive(Drop)]
+pub struct LeaseFile(File);
+
+impl LeaseFile {
+    /// Opens the file at this path as [`OpensLeases::open_lease`] says.
+    fn open<R: Files<File = File>>(rt: &R, path: &str) -> Result<Self, LeaseFault> {
         let mut options = OpenOptions::new();
         options.read(true).write(true).create(true);
         let file = match options.open(rt, path) {
@@ -79,7 +91,7 @@ impl LeaseFile {
     /// # Errors
     ///
     /// A call on the file failed, or took only a part.
-    pub fn beat(&self, number: u64) -> io::Result<()> {
+    pub(crate) fn beat(&self, number: u64) -> io::Result<()> {
         let mut text = ArrayVec::<u8, MAX_TEXT>::new();
         text.write_all(FRONT)?;
         writeln!(text, "{number}")?;

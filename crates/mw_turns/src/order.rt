@@ -4,9 +4,8 @@
 //! and last a prepare whose record nobody has written yet. These two wait while a worker is expected to come with its
 //! seal soon.
 //!
-//! Used by: `waiting_room`, `combiner`, `file_lock`, `one_call`. No contract speaks of the order. After a change run
-//! scripts/check-wakes and scripts/check-waits, whose model (scripts/wait_parts/model.py) changes with it.
-use crate::file_calls::DueCall;
+//! Used by: `waiting_room`; mw_engine. No contract speaks of the order. After a change run scripts/check-wakes and
+//! scripts/check-waits, whose model (scripts/wait_parts/model.py) changes with it.
 use crate::hints::Hints;
 use mw_look::Call;
 
@@ -25,10 +24,20 @@ const SETTLE: u8 = 2;
 /// The rank of a prepare that syncs.
 const PREPARE: u8 = 3;
 
+/// A call on its tenant's file at which a request is.
+#[derive(Clone, Copy)]
+pub struct DueCall {
+    /// The call.
+    pub call: Call,
+    /// The slot of the change that it is for.
+    pub slot: u8,
+}
+
 /// A worker whose request is at a call on its tenant's file.
 #[derive(Clone, Copy, Drop)]
-pub(crate) struct Waiter {
-    pub(crate) worker: u8,
+pub struct Waiter {
+    /// The worker's number.
+    pub worker: u8,
     pub(crate) call: Call,
     /// The slot of the change that the call is for.
     pub(crate) slot: u8,
@@ -49,7 +58,7 @@ impl Default for Waiter {
 
 /// Which of the calls that wait may be made.
 #[derive(Clone, Copy, PartialEq, Eq)]
-pub(crate) enum Choosing {
+pub enum Choosing {
     /// Those that need no sync.
     WithoutSync,
     /// Those, and seals.
@@ -79,8 +88,8 @@ impl Choosing {
 }
 
 impl Waiter {
-    /// A worker comes to a call.
-    pub(crate) fn new(worker: u8, due: DueCall) -> Waiter {
+    /// Makes the waiter of a worker that comes to a call.
+    pub fn new(worker: u8, due: DueCall) -> Waiter {
         Waiter {
             worker,
             call: due.call,
@@ -116,7 +125,7 @@ impl Waiter {
     }
 
     /// Whether its worker comes back to the file soon, with the next call for its change.
-    pub(crate) fn comes_back(&self) -> bool {
+    pub fn comes_back(&self) -> bool {
         match self.call {
             Call::Prepare | Call::Seal => true,
             Call::Settle | Call::Cancel => false,

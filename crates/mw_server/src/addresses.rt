@@ -5,19 +5,16 @@
 
 use crate::console::{Address, Console};
 use crate::pages::{LIMITS, PagesEnd};
-use crate::serving::ServeFault;
+use crate::serve_fault::ServeFault;
 use log::{Log, error, warn};
 use mw_config::Listening;
 use mw_connections::{
-    BriefListener, ClientListener, Closer, Lease, Network, TimeLimits, listen_at, listen_briefly,
-    port_of,
+    BriefListener, ClientListener, Closer, Lease, Network, OpensSockets, TimeLimits, listen_at,
+    listen_briefly, port_of,
 };
 use mw_metrics::ServerCounters;
-use mw_opening::{note_place, note_why};
-use std::fs::File;
+use mw_notes::{note_place, note_why};
 use std::io::{self, ErrorKind};
-use std::net::{Net, TcpListener, TcpStream};
-use std::rt::Files;
 
 /// The addresses of a server, at each of which it listens.
 #[derive(Drop)]
@@ -71,14 +68,11 @@ struct PagesDoor<'e, N, Q> {
 /// Listens at all addresses, and tells where: first at that of the pages, and once all are open the administrator's
 /// place, then `ready`. A note tells of an address at which nobody can listen, and of one at which clients of other machines
 /// may come.
-pub(crate) fn open_doors<'e, N, Q, C: Console, L: Log>(
+pub(crate) fn open_doors<'e, N: OpensSockets, Q, C: Console, L: Log>(
     terms: &DoorTerms<'e, N, Q>,
     console: &mut C,
     notes: &L,
-) -> Result<Doors<'e, N, Q>, ServeFault>
-where
-    N: Files<File = File> + Net<Listener = TcpListener, Stream = TcpStream>,
-{
+) -> Result<Doors<'e, N, Q>, ServeFault> {
     let (pages, pages_end) = open_pages(terms, console, notes)?;
     match open_client_doors(terms, console, notes) {
         Ok(clients) => Ok(Doors {
@@ -91,14 +85,11 @@ where
 }
 
 /// Listens at the addresses for clients and for the administrator, and tells where.
-fn open_client_doors<'e, N, Q, C: Console, L: Log>(
+fn open_client_doors<'e, N: OpensSockets, Q, C: Console, L: Log>(
     terms: &DoorTerms<'e, N, Q>,
     console: &mut C,
     notes: &L,
-) -> Result<ClientDoors<'e, N, Q>, ServeFault>
-where
-    N: Files<File = File> + Net<Listener = TcpListener, Stream = TcpStream>,
-{
+) -> Result<ClientDoors<'e, N, Q>, ServeFault> {
     let (all, port) = open_clients(terms, terms.listening.address.as_str(), notes)?;
     let admin = open_admin(terms, notes)?;
     let clients = ClientDoors { all, port, admin };
@@ -153,14 +144,11 @@ fn note_open<L: Log>(notes: &L, listening: &Listening, address: &str, is_open: i
 }
 
 /// Listens at this address for clients. Gives also its port, if it has one.
-fn open_clients<'e, N, Q, L: Log>(
+fn open_clients<'e, N: OpensSockets, Q, L: Log>(
     terms: &DoorTerms<'e, N, Q>,
     address: &str,
     notes: &L,
-) -> Result<(ClientListener<'e, N, Q>, Option<u16>), ServeFault>
-where
-    N: Files<File = File> + Net<Listener = TcpListener, Stream = TcpStream>,
-{
+) -> Result<(ClientListener<'e, N, Q>, Option<u16>), ServeFault> {
     match clients_at(terms, address) {
         Ok((clients, port)) => {
             note_open(notes, terms.listening, address, clients.is_open());
@@ -171,13 +159,10 @@ where
 }
 
 /// Listens at an address for clients, whose bytes the counters count if there are pages that tell them.
-fn clients_at<'e, N, Q>(
+fn clients_at<'e, N: OpensSockets, Q>(
     terms: &DoorTerms<'e, N, Q>,
     address: &str,
-) -> io::Result<(ClientListener<'e, N, Q>, Option<u16>)>
-where
-    N: Files<File = File> + Net<Listener = TcpListener, Stream = TcpStream>,
-{
+) -> io::Result<(ClientListener<'e, N, Q>, Option<u16>)> {
     let listening = terms.listening;
     let limits = TimeLimits {
         silence: listening.idle,
@@ -196,13 +181,10 @@ where
 }
 
 /// Listens at the administrator's address, if there is one.
-fn open_admin<'e, N, Q, L: Log>(
+fn open_admin<'e, N: OpensSockets, Q, L: Log>(
     terms: &DoorTerms<'e, N, Q>,
     notes: &L,
-) -> Result<Option<AdminDoor<'e, N, Q>>, ServeFault>
-where
-    N: Files<File = File> + Net<Listener = TcpListener, Stream = TcpStream>,
-{
+) -> Result<Option<AdminDoor<'e, N, Q>>, ServeFault> {
     let listening = terms.listening;
     let Some(address) = &listening.admin else {
         return Ok(None);
@@ -221,14 +203,11 @@ where
 }
 
 /// Listens at the address of the pages, if there is one, and tells where. Gives also what ends them.
-fn open_pages<'e, N, Q, C: Console, L: Log>(
+fn open_pages<'e, N: OpensSockets, Q, C: Console, L: Log>(
     terms: &DoorTerms<'e, N, Q>,
     console: &mut C,
     notes: &L,
-) -> Result<(Option<BriefListener<'e, N, Q>>, PagesEnd), ServeFault>
-where
-    N: Files<File = File> + Net<Listener = TcpListener, Stream = TcpStream>,
-{
+) -> Result<(Option<BriefListener<'e, N, Q>>, PagesEnd), ServeFault> {
     let listening = terms.listening;
     let Some(address) = &listening.http else {
         return Ok((None, PagesEnd::new(None)));
@@ -253,10 +232,10 @@ where
 }
 
 /// Listens at an address for clients of the pages.
-fn pages_at<'e, N, Q>(terms: &DoorTerms<'e, N, Q>, address: &str) -> io::Result<PagesDoor<'e, N, Q>>
-where
-    N: Files<File = File> + Net<Listener = TcpListener, Stream = TcpStream>,
-{
+fn pages_at<'e, N: OpensSockets, Q>(
+    terms: &DoorTerms<'e, N, Q>,
+    address: &str,
+) -> io::Result<PagesDoor<'e, N, Q>> {
     let mode = terms.listening.socket_mode;
     let listener = listen_briefly(terms.network, address, mode, LIMITS)?.with_lease(terms.lease);
     let end = PagesEnd::new(Some(listener.closer()?));

@@ -1,19 +1,18 @@
 //! Beats a server's lease, and writes a note when it is lost, and when it is good again.
 //!
-//! `serving` takes the lease, and `clients` has it beaten by a thread of its own, and looked at once a second.
+//! mw_programs takes the lease, and `clients` has it beaten by a thread of its own, and looked at once a second.
 //! docs/OPERATING tells the notes, and what a server without its lease still tells: change them together.
 //! scripts/check-locks reads the notes.
 
-use crate::replaced::{FileLook, Stop};
-use crate::serving::ServeFault;
+use crate::lease_file::{LeaseFault, LeaseFile, OpensLeases};
+use crate::looks::{FileLook, Stop};
+use crate::serve_fault::ServeFault;
 use log::{Log, error, warn};
 use mw_config::LeaseTerms;
 use mw_connections::Lease;
 use mw_metrics::Meters;
-use mw_opening::{LeaseFault, LeaseFile, note_place, note_why};
-use std::fs::File;
+use mw_notes::{note_place, note_why};
 use std::io;
-use std::rt::Files;
 use std::sync::Wait;
 use std::sync::atomic::{AtomicBool, AtomicU64, Ordering};
 use std::time::{Clock, Duration, Instant};
@@ -26,7 +25,7 @@ const NANOS_OF_MILLI: u64 = 1_000_000;
 
 /// A lease that a server has taken.
 #[derive(Drop)]
-pub(crate) struct HeldLease<'a> {
+pub struct HeldLease<'a> {
     terms: &'a LeaseTerms,
     file: LeaseFile,
     lease: Lease,
@@ -39,7 +38,7 @@ pub(crate) struct HeldLease<'a> {
 
 impl<'a> HeldLease<'a> {
     /// Takes the lease of these terms, if there are some, and beats it once. Writes a note if it can't be had.
-    pub(crate) fn take<R: Files<File = File> + Wait + Clock, L: Log>(
+    pub fn take<R: OpensLeases + Wait + Clock, L: Log>(
         rt: &R,
         terms: Option<&'a LeaseTerms>,
         meters: &'a Meters,
@@ -55,14 +54,14 @@ impl<'a> HeldLease<'a> {
     }
 
     /// Opens the file of these terms, and beats it once.
-    fn begun<R: Files<File = File> + Wait + Clock>(
+    fn begun<R: OpensLeases + Wait + Clock>(
         rt: &R,
         terms: &'a LeaseTerms,
         meters: &'a Meters,
     ) -> Result<Self, LeaseFault> {
         let held = HeldLease {
             terms,
-            file: LeaseFile::open(rt, terms.path.as_str())?,
+            file: rt.open_lease(terms.path.as_str())?,
             lease: Lease::new(terms.seconds),
             meters,
             beats: AtomicU64::new(0),

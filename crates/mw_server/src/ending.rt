@@ -1,6 +1,6 @@
 //! Ends a server while its threads run, so that the system takes the locks of its files.
 //!
-//! `mwserve` has a thread of its own serve, and waits for the [`ServerEnd`]. `fault_notes` ends
+//! `mwserve` has a thread of its own serve, and waits for the [`ServerEnd`]. mw_programs ends
 //! the server. docs/OPERATING tells the exit status: change both together.
 ghost use Rattle.std.specs.Prelude.{◌≡◌, IfOk, map, string_bytes};
 
@@ -9,7 +9,7 @@ use std::alloc::{AllocError, Global};
 use std::sync::{Arc, Condvar, Mutex, Wait};
 
 /// The exit status of a server that ends because a tenant's file has failed or was given up.
-pub(crate) const FILE_LOST: u8 = 3;
+pub const FILE_LOST: u8 = 3;
 
 /// The end of a server: its exit status, once it has one.
 #[derive(Drop)]

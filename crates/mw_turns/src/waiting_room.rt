@@ -1,16 +1,13 @@
 //! Who waits for a tenant's file: workers, one of whose calls is made next, and changes, whose records a call on the
 //! file writes along with its own bytes.
 //!
-//! Used by: `file_calls`, `file_lock`, `one_call`, `guarded_file`, `start`, `combiner`. No contract says who is there.
-//! A worker that nobody serves tries the lock itself. After a change run scripts/check-wakes and scripts/check-waits,
-//! whose model (scripts/wait_parts/model.py) changes with it.
-use crate::brand::EngineBrand;
-use crate::errand_boxes::ErrandBox;
+//! Used by: mw_engine. No contract says who is there. A worker that nobody serves tries the lock itself. After a change
+//! run scripts/check-wakes and scripts/check-waits, whose model (scripts/wait_parts/model.py) changes with it.
+use crate::call_flag::CallFlag;
 use crate::hints::Hints;
 use crate::order::{Choosing, Waiter, next_of};
 use arrayvec::ArrayVec;
-use mw_book::Book;
-use mw_core::Waiting;
+use mw_book::{Book, Waiting};
 use mw_disk::Disk;
 use mw_look::Call;
 use mw_words::{MAX_WORKERS, copy_of};
@@ -25,11 +22,11 @@ const WOKEN_FIRST: usize = 3;
 /// How many of them a worker wakes before it syncs.
 const WOKEN_BEFORE_SYNC: usize = 1;
 
-/// Some of the changes that wait for a file.
-pub(crate) type WaitingChanges = ArrayVec<Waiting, MOST_WAITING>;
+/// Some of the changes that wait for a file, one for each worker at most.
+pub type WaitingChanges = ArrayVec<Waiting, MOST_WAITING>;
 
-/// Some workers.
-pub(crate) type Workers = ArrayVec<u8, MOST_WAITING>;
+/// The numbers of some workers.
+pub type Workers = ArrayVec<u8, MOST_WAITING>;
 
 /// Who is in a room.
 #[derive(Drop)]
@@ -46,7 +43,7 @@ struct Waits {
 
 /// What a worker finds that may make a call for those that wait.
 #[derive(Clone, Copy, PartialEq, Eq)]
-pub(crate) enum Look {
+pub enum Look {
     /// A call may be made now.
     Ready,
     /// None may be made yet.
@@ -64,16 +61,16 @@ struct Made {
     has_settled: bool,
 }
 
-/// The room of a file.
+/// The waiting room of a file. A method that takes its lock releases it before it returns.
 #[derive(Drop)]
-pub(crate) struct WaitingRoom {
+pub struct WaitingRoom {
     waits: Mutex<Waits>,
     hints: Hints,
 }
 
 impl WaitingRoom {
     /// Makes a room in which nobody waits.
-    pub(crate) fn new() -> WaitingRoom {
+    pub fn new() -> WaitingRoom {
         WaitingRoom {
             waits: Mutex::new(Waits {
                 changes: WaitingChanges::new(),
@@ -87,7 +84,7 @@ impl WaitingRoom {
 
     /// Whether a worker that comes to a call may try the file's lock at once. Else it waits here, so that its call goes
     /// along with another one's.
-    pub(crate) fn may_try(&self, waiter: &Waiter) -> bool {
+    pub fn may_try(&self, waiter: &Waiter) -> bool {
         self.hints.come(waiter.worker);
         if self.hints.is_syncing() {
             return false;
@@ -97,7 +94,7 @@ impl WaitingRoom {
 
     /// Lets a worker wait here, and its change if it has one. Tells whether there was room for the worker. If there is
     /// none for the change, its own prepare writes its record.
-    pub(crate) fn enter(&self, rt: &impl Wait, waiter: Waiter, change: Option<Waiting>) -> bool {
+    pub fn enter(&self, rt: &impl Wait, waiter: Waiter, change: Option<Waiting>) -> bool {
         let mut waits = self.waits.lock(rt);
         if waits.waiters.is_full() {
             return false;
@@ -115,7 +112,7 @@ impl WaitingRoom {
     /// Takes the worker out of the room whose call is made next, if one may be made, and adds the changes that wait
     /// here to a list. If the call syncs, the first worker that was served is woken meanwhile, and is added to
     /// `woken`. The caller has the file's lock.
-    pub(crate) fn choose(
+    pub fn choose(
         &self,
         rt: &impl Wait,
         choosing: Choosing,
@@ -137,7 +134,7 @@ impl WaitingRoom {
     }
 
     /// Whether one of the calls that wait may be made now.
-    pub(crate) fn look(&self, rt: &impl Wait, choosing: Choosing) -> Look {
+    pub fn look(&self, rt: &impl Wait, choosing: Choosing) -> Look {
         if self.hints.is_nobody_waiting() {
             return Look::Nobody;
         }
@@ -148,16 +145,16 @@ impl WaitingRoom {
         }
     }
 
-    /// A call is about to be made. The caller has the file's lock.
-    pub(crate) fn begin(&self, waiter: &Waiter) {
+    /// Notes that a call is about to be made. The caller has the file's lock.
+    pub fn begin(&self, waiter: &Waiter) {
         if waiter.syncs(&self.hints) {
             self.hints.set_syncing(true);
         }
     }
 
-    /// A worker's own thread made its call on this book. Strikes those off the list of changes that wait whose records
-    /// the book has by now. The caller has the file's lock.
-    pub(crate) fn end<D: Disk>(
+    /// Notes that a worker's own thread made its call on this book. Strikes those off the list of changes that wait whose
+    /// records the book has by now. The caller has the file's lock.
+    pub fn end<D: Disk>(
         &self,
         rt: &impl Wait,
         waiter: &Waiter,
@@ -180,15 +177,16 @@ impl WaitingRoom {
         self.count(&waits);
     }
 
-    /// The same of a call that another thread made, for a request in a box. The box then tells that the call was made.
-    /// Its worker is woken later, and whoever wakes it finds it in the room.
-    pub(crate) fn end_for<J: EngineBrand, D: Disk>(
+    /// Notes that another thread made a worker's call on this book, for the request in its box. Strikes off as
+    /// [`WaitingRoom::end`] does. The box's flag then tells that the call was made. The worker is woken later, and
+    /// whoever wakes it finds it in the room. The caller has the file's lock.
+    pub fn end_for<D: Disk>(
         &self,
         rt: &impl Wait,
         waiter: &Waiter,
         book: &Book<D>,
         called: &mut WaitingChanges,
-        own_box: &ErrandBox<J, D>,
+        flag: &CallFlag,
     ) {
         let made = self.note(waiter);
         let mut waits = self.waits.lock(rt);
@@ -196,15 +194,15 @@ impl WaitingRoom {
             wake_sealed(&mut waits);
         }
         add_served(&mut waits, waiter);
-        own_box.end();
+        flag.end();
         if made.has_synced {
             strike_off_written(called, book, waits.waiters.as_mut_slice());
         }
         self.count(&waits);
     }
 
-    /// A worker has taken its request back, whose call another one made. Gives a worker that it wakes.
-    pub(crate) fn take_back(&self, rt: &impl Wait, worker: u8) -> Option<u8> {
+    /// Notes that a worker has taken its request back, whose call another one made. Gives a worker that it wakes.
+    pub fn take_back(&self, rt: &impl Wait, worker: u8) -> Option<u8> {
         let mut waits = self.waits.lock(rt);
         remove(&mut waits.served, worker);
         remove(&mut waits.sealed, worker);
@@ -213,8 +211,8 @@ impl WaitingRoom {
         next
     }
 
-    /// Gives the first of the workers whose calls were made, to be woken.
-    pub(crate) fn woken(&self, rt: &impl Wait) -> Workers {
+    /// Gives the first three of the workers whose calls were made, to be woken.
+    pub fn woken(&self, rt: &impl Wait) -> Workers {
         let mut woken = Workers::new();
         if self.hints.is_nobody_served() {
             return woken;
@@ -225,15 +223,16 @@ impl WaitingRoom {
         woken
     }
 
-    /// A worker goes that comes back to the file soon. If others wait, it wakes none of them yet.
-    pub(crate) fn owe(&self, worker: u8) {
+    /// Notes that a worker goes that comes back to the file soon. If others wait, it wakes none of them yet.
+    pub fn owe(&self, worker: u8) {
         if !self.is_empty() {
             self.hints.owe(worker);
         }
     }
 
-    /// A worker's request has its reply. If others waited for it to come back to the file, gives one that is woken.
-    pub(crate) fn depart(&self, rt: &impl Wait, worker: u8) -> Option<u8> {
+    /// Notes that a worker's request has its reply. If others waited for it to come back to the file, gives one that it
+    /// wakes.
+    pub fn depart(&self, rt: &impl Wait, worker: u8) -> Option<u8> {
         if self.hints.come(worker) {
             self.next(rt)
         } else {
@@ -241,9 +240,9 @@ impl WaitingRoom {
         }
     }
 
-    /// A worker to be woken when nobody else is to come: the first of those that wait here, else of those whose changes
-    /// are sealed.
-    pub(crate) fn next(&self, rt: &impl Wait) -> Option<u8> {
+    /// Gives a worker to be woken when nobody else is to come: the first of those that wait here, else of those whose
+    /// changes are sealed.
+    pub fn next(&self, rt: &impl Wait) -> Option<u8> {
         if self.is_empty() || !self.hints.expects_nobody() {
             return None;
         }
@@ -255,7 +254,7 @@ impl WaitingRoom {
     }
 
     /// Whether nobody is here.
-    pub(crate) fn is_empty(&self) -> bool {
+    pub fn is_empty(&self) -> bool {
         self.hints.is_nobody_waiting() && self.hints.is_nobody_served()
     }
 
@@ -355,7 +354,7 @@ fn note_written(waiters: &mut [Waiter], slot: u8) {
 }
 
 /// Strikes the change of a slot off a list of those that wait, if it is there.
-pub(crate) fn strike_off(called: &mut WaitingChanges, slot: u8) {
+pub fn strike_off(called: &mut WaitingChanges, slot: u8) {
     if let Some(index) = called.iter().position(|waiting| waiting.slot == slot) {
         strike_off_at(called, index);
     }

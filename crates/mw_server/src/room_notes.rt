@@ -5,7 +5,7 @@
 
 use log::{Log, warn};
 use mw_connections::RoomWatch;
-use mw_opening::note_cause;
+use mw_notes::note_cause;
 use std::io;
 use std::sync::{Mutex, Wait};
 use std::time::{Clock, Duration, Instant};
@@ -15,7 +15,7 @@ const ROOM_PERIOD: u64 = 1;
 
 /// Writes a note when there is no room for connections, with the address.
 #[derive(Drop)]
-pub(crate) struct RoomNotes<'e, L, R> {
+pub struct RoomNotes<'e, L, R> {
     rt: &'e R,
     notes: &'e L,
     address: &'e str,
@@ -25,7 +25,7 @@ pub(crate) struct RoomNotes<'e, L, R> {
 
 impl<'e, L, R: Wait + Clock> RoomNotes<'e, L, R> {
     /// Makes the notes about an address. None was written yet.
-    pub(crate) fn new(rt: &'e R, notes: &'e L, address: &'e str) -> Self {
+    pub fn new(rt: &'e R, notes: &'e L, address: &'e str) -> Self {
         RoomNotes {
             rt,
             notes,

@@ -1,5 +1,5 @@
 -- Defines how many workers a server has, and how many connections it serves at once, by its command line.
--- Used by: workers_of, own_workers, served_at_once (src/serving.rt). Change it with docs/OPERATING.
+-- Used by: src/worker_count.rt; mw_programs, which promises what such an engine does. Change it with docs/OPERATING.
 use Rattle.std.specs.Prelude.{ℕ, ◌+◌, min, is_some, if◌then◌else◌, Option, Some, None}
 use Rattle.mw_words.specs.declared.limits.TheConstants.{MAX_WORKERS}
 use Rattle.mw_config.specs.declared.command_line.Args.{Args}
