@@ -1,6 +1,6 @@
 -- Defines what the command line of `mwserve` may ask for: connections, clients, limits of time, file modes, pool and workers. Defines also
 -- which words ask for a tenants file, a script, addresses, a pool and workers.
--- Used by: mw_server, mw_programs, command_line.rt, lease_terms.rt. Change it with the program's help and docs/OPERATING.
+-- Used by: mw_upkeep, mw_server, mw_programs, command_line.rt, lease_terms.rt. Change it with the program's help and docs/OPERATING.
 use Rattle.std.specs.Prelude.{◌≡◌, ℕ, ◌≤◌, ◌<◌, [], codes, drop, IfSome, List, None, Option, Some, string_bytes, true, vec_len}
 use Rattle.std.specs.Option.{option_map}
 use Rattle.std.specs.Str.Parse.{digits_value, without_leading_plus}

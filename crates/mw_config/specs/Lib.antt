@@ -1,3 +1,4 @@
+pub mod FittingFiles
 pub mod ServerOptions
 pub mod LineTexts
 pub mod Limits

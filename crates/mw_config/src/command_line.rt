@@ -1,6 +1,6 @@
 //! Reads the command line of `mwserve`.
 //!
-//! Used by: `lease_terms`, `options`, mw_server, mw_programs. A new option needs a field here, its row in `options`, its use in
+//! Used by: `lease_terms`, `options`, mw_upkeep, mw_server, mw_programs. A new option needs a field here, its row in `options`, its use in
 //! mw_server or mw_programs, a clause in `specs/CommandLine` if it has limits, and its row in docs/OPERATING. Change a limit there and in
 //! docs/PROTOCOL too, an option's name in contrib and scripts (`git grep`), a text of [`ArgFault`] in scripts/text_parts
 //! and scripts/check-sockets.

@@ -1,6 +1,6 @@
 //! The lease that a command line asks for.
 //!
-//! Used by: `command_line`; mw_server, which takes the lease (`beats.rt`). The options' names are in `command_line`
+//! Used by: `command_line`; mw_upkeep, which takes the lease (`beats.rt`). The options' names are in `command_line`
 //! and docs/OPERATING too, and contrib/ha/mondlexi-ha gives the options: change them together.
 ghost use Rattle.std.specs.Prelude.{IfOk, IfSome};
 ghost use Rattle.mw_config.specs.CommandLine.{IsUpTo};

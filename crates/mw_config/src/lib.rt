@@ -4,11 +4,12 @@
 //!   that is broken. [`read_args`] gives only what is in its range, and the tenants file, pool, workers, script or addresses
 //!   that the words ask for.
 //! - *Proved*: a text has one answer ([`one_answer`]).
+//! - *Defined*: when an opened file fits a line (`specs/FittingFiles`).
 //! - *Tested only*: all else of a command line, and the texts of refusals (`config_tests` of mw_words_tests,
 //!   scripts/check-texts).
 //!
-//! Used by: mw_plain, mw_engine, mw_opening, mw_server, mw_programs; mw_law_threads, in contracts. When a server starts,
-//! mw_opening calls [`read_tenants`], and mw_programs calls [`read_args`]. A change of what they accept changes
+//! Used by: mw_plain, mw_engine, mw_opening, mw_upkeep, mw_server, mw_programs; mw_law_threads, in contracts. When a server
+//! starts, mw_opening calls [`read_tenants`], and mw_programs calls [`read_args`]. A change of what they accept changes
 //! docs/OPERATING.
 #![tactic(auto)]
 

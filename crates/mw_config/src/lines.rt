@@ -1,6 +1,6 @@
 //! Reads the lines of a tenants file, before any limit is checked.
 //!
-//! Used by: `tenants.rt`; mw_plain, mw_engine, mw_opening and mw_programs, for [`TenantLine`]. A new field needs a
+//! Used by: `tenants.rt`; mw_plain, mw_engine, mw_opening, mw_upkeep and mw_programs, for [`TenantLine`]. A new field needs a
 //! place in `specs/LineTexts`.
 ghost use Rattle.std.specs.Prelude.{◌≡◌, MatchOption, true, false};
 ghost use Rattle.std.specs.List.{list_all};

@@ -1,6 +1,6 @@
 //! A lease: what a server may tell of its tenants by a file that it alone has locked, and beats.
 //!
-//! mw_server beats it. `leased_stream.rt` asks it before a reply. `specs/Leases` says when it is good: change both together.
+//! mw_upkeep beats it, for mw_server. `leased_stream.rt` asks it before a reply. `specs/Leases` says when it is good: change both together.
 ghost use Rattle.std.specs.Prelude.{◌≡◌, true, None};
 ghost use Rattle.std.specs.Duration.{as_nanos};
 ghost use Rattle.mw_connections.specs.Leases.{Tells, after_beat, is_good};

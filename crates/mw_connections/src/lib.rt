@@ -37,9 +37,10 @@
 //! - *Tested only*: sockets, and that waits end so (`scripts/check-scenes`, `scripts/check-sockets`,
 //!   `scripts/check-limits`, `scripts/check-locks`).
 //!
-//! Used by: mw_workers, which serves connections; mw_server_pages, which answers visitors; mw_programs; mw_server,
-//! which listens for both. The proofs are about what a session read and wrote, and how long it may wait; of sockets they say
-//! nothing. What a client or an operator sees of it is in docs/PROTOCOL and docs/OPERATING: change them together.
+//! Used by: mw_workers, which serves connections; mw_server_pages, which answers visitors; mw_upkeep, which beats its leases;
+//! mw_programs; mw_server, which listens for both. The proofs are about what a session read and wrote, and how long it may
+//! wait; of sockets they say nothing. What a client or an operator sees of it is in docs/PROTOCOL and docs/OPERATING: change
+//! them together.
 #![tactic(auto)]
 
 mod brief;

@@ -1,6 +1,6 @@
 //! A listener over another one: it waits, longer each time, while the system has no room for a connection.
 //!
-//! Used by: mw_server; mw_workers, for the desk's listener. The two waits may have other numbers; docs/OPERATING
+//! Used by: mw_upkeep, mw_server; mw_workers, for the desk's listener. The two waits may have other numbers; docs/OPERATING
 //! tells them.
 ghost use Rattle.std.specs.Prelude.{◌≡◌, false};
 ghost use Rattle.mw_connections.specs.Pauses.{GoesOn, is_of_client, longer};

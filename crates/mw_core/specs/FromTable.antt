@@ -1,5 +1,5 @@
 -- Definitions of mw_table that crates above need too, passed on so that they name this crate alone.
--- Used by: mw_engine (`specs/FromBelow` passes some on), mw_opening, mw_law_threads, mw_table_tests. Add and take out names as
+-- Used by: mw_engine (`specs/FromBelow` passes some on), mw_programs, mw_law_threads, mw_table_tests. Add and take out names as
 -- these crates need them.
 pub use Rattle.mw_table.specs.Basis.{Basis}
 pub use Rattle.mw_table.specs.CarriedRequest.{IsCarried}

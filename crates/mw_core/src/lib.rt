@@ -15,7 +15,7 @@
 //! - *Tested only*: that threads' requests get replies (mw_engine_tests), and ask for no memory
 //!   (`scripts/check-memory`).
 //!
-//! Used by: mw_engine, mw_table_tests; mw_opening and mw_law_threads, in contracts.
+//! Used by: mw_engine, mw_table_tests; mw_programs and mw_law_threads, in contracts.
 //!
 //! [`Book`]: mw_book::Book
 #![tactic(auto)]

@@ -1,5 +1,5 @@
 -- At its end an engine gives each tenant's disk under that tenant's number.
--- Used by: Engine::into_disks, into_disks_with, GuardedFile::into_disk, into_disk_with.
+-- Used by: Engine::into_disks, GuardedFile::into_disk.
 use Rattle.std.specs.Prelude.{◌≡◌, ℕ, zero, suc, is_some, List, [], ◌∷◌, ◌++◌, length, slice_get, Option, Some, None, IsTrue}
 use Rattle.std.proofs.Common.{refl, sym, ap, subst, ◌∙◌}
 use Rattle.mw_disk.specs.Facts.{Facts}
@@ -13,7 +13,7 @@ use Rattle.mw_book.specs.OpenFile.{FileRecoversTo, disk_in}
 use Rattle.mw_core.specs.FromTable.{FilePass, IsSamePass, IsSoOfWorld, Pass, SeesFile, View, file_kept, file_told, opening_at, put_sealed, seen_at, words_given}
 use Rattle.mw_core.proofs.FromTable.{keeps_all, keeps_on}
 use Rattle.mw_engine.specs.Brand.{Identity}
-use Rattle.mw_engine.specs.DisksAtEnd.{EachIsGiven, EachIsGivenSeen, GivenAs, GivenSeenAs, SeesMore}
+use Rattle.mw_engine.specs.DisksAtEnd.{EachIsGivenSeen, GivenSeenAs, SeesMore}
 use Rattle.mw_engine.specs.GuardedFile.{IsKept}
 use Rattle.mw_engine.proofs.AgreementForms.{agrees_of}
 
@@ -30,18 +30,6 @@ by_number P (first ∷ rest) one all so zero x is = all zero x is
 by_number P (first ∷ rest) one all so (suc k) x is = by_number (λ j. P (suc j)) rest one (λ j. all (suc j)) so k x is
 
 module _ {D : Type 0} (facts : D → Facts) (identity : Identity) where
-  nothing : EachIsGiven facts identity []
-  nothing tenant found is = absurd (cc)
-
-  pub none_given : (disks : List (Option D)) → disks ≡ [] → EachIsGiven facts identity disks
-  none_given disks none = subst (EachIsGiven facts identity) (sym none) nothing
-
-  pub one_more : (old new : List (Option D)) (one : Option D) (tenant : ℕ) → new ≡ old ++ one ∷ [] → length old ≡ tenant
-      → EachIsGiven facts identity old → GivenAs facts identity tenant one → EachIsGiven facts identity new
-  one_more old new one tenant is many all so =
-      subst (EachIsGiven facts identity) (sym is)
-      (by_number (GivenAs facts identity) old one all (subst (λ (n : ℕ). GivenAs facts identity n one) (sym many) so))
-
   -- if there is a file, it represents the words that it has in the world
   stands_so : (tenant : ℕ) (file_pass : FilePass) (so : IsSoOfWorld identity.config identity.openings file_pass.seat.me.0.known_run tenant (file_kept file_pass)) (file : TenantFile D)
       → FileRecoversTo facts (Some file) (file_told (file_kept file_pass)).contents (pairs_of (file_told (file_kept file_pass)).doubt)
@@ -49,30 +37,6 @@ module _ {D : Type 0} (facts : D → Facts) (identity : Identity) where
   stands_so tenant file_pass so file stands honest =
       subst (λ (words : List ℕ). RecoversTo facts file words (pairs_of (so.state.tenant_states tenant).file.doubt)) (sym so.tells.contents)
       (subst (λ (change : List Entry). RecoversTo facts file (file_kept file_pass).contents (pairs_of change)) (sym so.tells.doubt) (stands honest))
-
-  -- what the book that was kept for a tenant gives
-  pub given_as : (book : Book D) (file_pass : FilePass) (tenant : ℕ) (result : Option D) → result ≡ disk_in book.held → IsKept facts identity book file_pass → file_pass.tenant ≡ tenant
-      → IsSoOfWorld identity.config identity.openings file_pass.seat.me.0.known_run file_pass.tenant (file_kept file_pass) → GivenAs facts identity tenant result
-  given_as book file_pass tenant result is kept its so = subst (GivenAs facts identity tenant) (sym is) (by book.held refl)
-    where
-      here : IsSoOfWorld identity.config identity.openings file_pass.seat.me.0.known_run tenant (file_kept file_pass)
-      here = subst (λ (n : ℕ). IsSoOfWorld identity.config identity.openings file_pass.seat.me.0.known_run n (file_kept file_pass)) its so
-
-      by : (held : Option (TenantFile D)) → book.held ≡ held → GivenAs facts identity tenant (disk_in held)
-      by None none = sym (ap (λ (one : Option (TenantFile D)). is_some one) (sym none) ∙ (kept.opened ∙ ap (λ (n : ℕ). (opening_at identity.openings n).is_up) its))
-      by (Some file) there = record {
-        book = book;
-        file_pass = file_pass;
-        file = file;
-        kept = kept;
-        its = its;
-        held = there;
-        on = refl;
-        so = here;
-        stands = stands_so tenant file_pass here file
-            (subst (λ (one : Option (TenantFile D)). FileRecoversTo facts one (file_told (file_kept file_pass)).contents (pairs_of (file_told (file_kept file_pass)).doubt)) there
-            (agrees_of facts book (file_kept file_pass) (opening_at identity.openings file_pass.tenant).quota identity.config.pool kept.agrees).shows.stands);
-      }
 
 -- Knowledge that has grown twice has grown, and what has not changed has grown.
 pub sees_on : (first between last : View) → SeesMore first between → SeesMore between last → SeesMore first last

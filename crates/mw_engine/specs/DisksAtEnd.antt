@@ -30,20 +30,6 @@ module _ {D : Type 0} (facts : D → Facts) (identity : Identity) where
     pub so : IsSoOfWorld identity.config identity.openings file_pass.seat.me.0.known_run tenant (file_kept file_pass)
     pub stands : IsTrue (facts disk).honest → RecoversTo facts file (so.state.tenant_states tenant).file.contents (pairs_of (so.state.tenant_states tenant).file.doubt)
 
-  -- What is given for a tenant: its disk, or none. None is given only if the tenant's file didn't open at the start.
-  abbrev pub GivenAs : ℕ → Option D → Type 0
-  GivenAs tenant None = (opening_at identity.openings tenant).is_up ≡ false
-  GivenAs tenant (Some disk) = IsGiven tenant disk
-
-  -- each of these is given for the tenant of its number
-  abbrev pub EachIsGiven : List (Option D) → Type 0
-  EachIsGiven disks = (tenant : ℕ) (found : Option D) → slice_get disks tenant ≡ Some found → GivenAs tenant found
-
-  -- The disks are given: one entry for each tenant, by number.
-  pub record AreGiven (disks : List (Option D)) : Type 0 where
-    pub count : length disks ≡ length identity.lines
-    pub each : EachIsGiven disks
-
   -- This disk is given, and a thread saw all changes that were sealed in the file. `before` is what it knew just before, and `now` what
   -- it knew just after. If the disk is honest, the file represents the words that the latest start gave the tenant, with the changes
   -- put over them that the thread has seen in `now`, in order. The change in doubt may be there too.

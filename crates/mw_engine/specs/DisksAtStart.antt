@@ -1,6 +1,6 @@
 -- Defines what an engine keeps of each tenant's disk from the moment at which its parts were made, and when an open file is still on
 -- that disk.
--- Used by: specs/Brand, specs/GuardedFile, specs/Parts, src/new_parts.rt, src/parts.rt, mw_opening, mw_law_threads. A change
+-- Used by: specs/Brand, specs/GuardedFile, specs/Parts, src/new_parts.rt, src/parts.rt, mw_programs, mw_law_threads. A change
 -- here changes which disk an engine's lock may keep.
 use Rattle.std.specs.Prelude.{◌≡◌, ◌≤◌, ℕ, Bool, true, List, map, is_some, slice_get, Option, Some, None, Vec, IsTrue}
 use Rattle.std.specs.declared.alloc.Global.{Global}

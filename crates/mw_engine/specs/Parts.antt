@@ -1,5 +1,5 @@
 -- Defines the identity of an engine from its parts, and the world that its lines make.
--- Used by: new_parts.rt, start.rt, mw_opening, mw_programs, mw_engine_tests. A change here changes which world an engine
+-- Used by: new_parts.rt, start.rt, mw_programs, mw_engine_tests. A change here changes which world an engine
 -- serves.
 use Rattle.std.specs.Prelude.{ℕ, List, map}
 use Rattle.mw_disk.specs.declared.device.Disk.{Ghosts}

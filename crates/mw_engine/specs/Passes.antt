@@ -1,6 +1,6 @@
 -- Defines which passes belong to an engine.
 -- Used by: src/end.rt, src/figures.rt, src/file_calls.rt, src/file_lock/one_call.rt, src/meet.rt, src/new_parts.rt,
--- src/notes.rt, src/reads.rt, src/serving.rt, src/steps.rt, src/tenants.rt, mw_opening, mw_service, mw_law_threads,
+-- src/notes.rt, src/reads.rt, src/serving.rt, src/steps.rt, src/tenants.rt, mw_service, mw_law_threads,
 -- mw_programs, mw_engine_tests.
 use Rattle.std.specs.Prelude.{◌≡◌, ◌<◌, true, [], Some}
 use Rattle.mw_core.specs.FromTable.{IsFree, IsOf, Pass, Shared, config_of, known_run_of, opening_at}

@@ -1,11 +1,11 @@
 //! Ends an engine and gives the disks of its tenants' files.
 //!
-//! Only tests call `into_disks` and `into_disks_with`. `mwserve` drops its engine when it ends. Change it with
+//! Only tests call `into_disks`. `mwserve` drops its engine when it ends. Change it with
 //! `specs/Brand`, `specs/DisksAtEnd` and `specs/Passes`.
 ghost use Rattle.std.specs.Prelude.{◌≡◌, IfOk};
 ghost use Rattle.mw_engine.specs.Brand.{identity_on};
 ghost use Rattle.mw_core.specs.FromTable.{IsSamePass, known};
-ghost use Rattle.mw_engine.specs.DisksAtEnd.{AreGiven, AreGivenSeen, GivenAs, GivenSeenAs, SeesMore};
+ghost use Rattle.mw_engine.specs.DisksAtEnd.{AreGivenSeen, GivenSeenAs, SeesMore};
 ghost use Rattle.mw_engine.specs.Passes.{IsPassOf};
 
 use crate::brand::EngineBrand;
@@ -27,47 +27,17 @@ pub enum NoDisks {
 
 impl<J: EngineBrand, D: Disk + Drop, H: Drop> Engine<J, D, H> {
     /// Ends the engine and gives the disks of the tenants' files, by the tenant's number; `None` for a file that
-    /// didn't open. On each disk that keeps the model, the file represents the words that it has in the world of
-    /// the shared words, with the change in doubt there. That is the world after some run that goes on from what
-    /// the file pass knew.
+    /// didn't open. The pass sees all changes that were sealed in the files. On each disk that keeps the model, the file
+    /// represents the words that it has in the world of the shared words, after some run that goes on from what its file pass
+    /// knew. They are the words of the latest start, with all changes put over them that the pass had seen when it saw that
+    /// file, in order. The change in doubt may be there too. Each change for which the pass was answered YES is one of
+    /// these changes, at its place, and no request has two. If passes have met this one before, that holds of the requests of
+    /// all of them.
     ///
     /// # Errors
     ///
-    /// [`NoDisks`] says which. The disks are dropped.
-    pub fn into_disks(self, alloc: Global) -> Result<Vec<Option<D>>, NoDisks>
-        ensures { IfOk result (λ disks. AreGiven D.facts J.identity disks.items) }
-    {
-        let Engine {
-            words,
-            hold: _,
-            books,
-            errands: _,
-        } = self;
-        let Ok(mut disks) = Vec::with_capacity(alloc, books.len()) else {
-            return Err(NoDisks::Memory);
-        };
-        for book in books {
-            let kept = book.into_inner();
-            if usize::from(kept.tenant) != disks.len() {
-                return Err(NoDisks::Misplaced);
-            }
-            let Ok(()) = disks.push(kept.into_disk(&words.core)) else {
-                return Err(NoDisks::Memory);
-            };
-        }
-        Ok(disks)
-    }
-
-    /// Ends the engine as [`Engine::into_disks`] does, and lets a pass see all changes that were sealed in the files. On
-    /// each disk that keeps the model, the file represents the words of the latest start, with all changes put over them
-    /// that the pass had seen when it saw that file, in order. The change in doubt may be there too. Each change for
-    /// which the pass was answered YES is one of these changes, at its place, and no request has two. If passes have met
-    /// this one before, that holds of the requests of all of them.
-    ///
-    /// # Errors
-    ///
-    /// As [`Engine::into_disks`]. The pass stays the engine's. No clause says that disks are given.
-    pub fn into_disks_with(self, alloc: Global, pass: &mut Pass) -> Result<Vec<Option<D>>, NoDisks>
+    /// [`NoDisks`] says which. The disks are dropped. The pass stays the engine's. No clause says that disks are given.
+    pub fn into_disks(self, alloc: Global, pass: &mut Pass) -> Result<Vec<Option<D>>, NoDisks>
         requires own { IsPassOf J.identity pass.old }
         ensures own { IsPassOf J.identity pass.new }
         ensures stays { IsSamePass pass.old pass.new }
@@ -88,7 +58,7 @@ impl<J: EngineBrand, D: Disk + Drop, H: Drop> Engine<J, D, H> {
             if usize::from(kept.tenant) != disks.len() {
                 return Err(NoDisks::Misplaced);
             }
-            let Ok(()) = disks.push(kept.into_disk_with(&words.core, pass)) else {
+            let Ok(()) = disks.push(kept.into_disk(&words.core, pass)) else {
                 return Err(NoDisks::Memory);
             };
         }
@@ -98,27 +68,9 @@ impl<J: EngineBrand, D: Disk + Drop, H: Drop> Engine<J, D, H> {
 
 impl<J: EngineBrand, D: Disk> GuardedFile<J, D> {
     /// The disk of the tenant's file; `None` if the file didn't open. The file pass is dropped, after the table
-    /// confirms that what it tells is so in the world of the shared words.
-    fn into_disk(self, core: &Core) -> Option<D>
-        requires engine { identity_on core.now.shared J.identity.lines J.identity.disks ≡ J.identity }
-        ensures { GivenAs D.facts J.identity self.tenant result }
-    {
-        let GuardedFile {
-            book,
-            file_pass,
-            tenant: _,
-            called: _,
-            brand: _,
-        } = self;
-        let Some(file_pass) = file_pass else {
-            unreachable!()
-        };
-        core.shared().confirm(file_pass);
-        book.into_disk()
-    }
-
-    /// The same, and a pass sees all changes that were sealed in the file.
-    fn into_disk_with(self, core: &Core, pass: &mut Pass) -> Option<D>
+    /// confirms that what it tells is so in the world of the shared words, and the pass has seen all changes that were
+    /// sealed in the file.
+    fn into_disk(self, core: &Core, pass: &mut Pass) -> Option<D>
         requires engine { identity_on core.now.shared J.identity.lines J.identity.disks ≡ J.identity }
         requires own { IsPassOf J.identity pass.old }
         ensures own { IsPassOf J.identity pass.new }

@@ -26,7 +26,7 @@
 //! - *Tested only*: that no lock is kept over a point of [`Hold`] or a reply (`held_tests` of mw_engine_tests), and
 //!   that whoever waits is woken (`scripts/check-waits`, `scripts/check-wakes`).
 //!
-//! Used by: mw_opening, mw_service, mw_law_threads, mw_programs, mw_engine_tests.
+//! Used by: mw_service, mw_law_threads, mw_programs, mw_engine_tests.
 #![tactic(auto)]
 
 mod brand;

@@ -1,6 +1,6 @@
 //! Makes an engine's parts of the tenants' lines and their opened files: `EngineParts::new`.
 //!
-//! mw_opening calls it for `mwserve`. Change it with `specs/DisksAtStart`, `specs/Lines`, `specs/OpenedFiles`,
+//! mw_programs calls it for `mwserve`. Change it with `specs/DisksAtStart`, `specs/Lines`, `specs/OpenedFiles`,
 //! `specs/Passes` and `specs/Parts`.
 ghost use Rattle.std.specs.Prelude.{◌≡◌, ◌≤◌, All, length, map, IfOk};
 ghost use Rattle.mw_config.specs.Limits.{ArePermitted};

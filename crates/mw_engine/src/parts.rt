@@ -1,6 +1,6 @@
 //! The parts of an engine, before it has an identity of its own.
 //!
-//! `new_parts` makes them for mw_opening, and `start` makes an engine of them for mw_programs. Change it with
+//! `new_parts` makes them, and `start` an engine of them, for mw_programs. Change it with
 //! `specs/Brand`, `specs/DisksAtStart`, `specs/GuardedFile` and `specs/TenantWords`.
 ghost use Rattle.std.specs.Prelude.{◌≡◌, length};
 ghost use Rattle.mw_engine.specs.Brand.{identity_on};

@@ -210,7 +210,7 @@ where
     requires passes { All (IsNew J.identity) passes.items }
 {
     let mut passes = passes;
-    let last = last_pass::<J>(&mut passes, case);
+    let last = last_pass::<J>(&mut passes);
     let engine = parts.into_engine::<J>(alloc).expect(rt, MEMORY);
     let mut plain = new_plain(alloc, case, hold.latch);
     let workers = workers_of(rt, alloc, &engine, passes);
@@ -218,21 +218,18 @@ where
     are_left(alloc, disks_of(alloc, engine, last), case, plain) && have_done
 }
 
-/// Takes the pass that looks at the files in the end: the last one. Gives None if none does.
+/// Takes the pass that looks at the files in the end: the last one. Gives None if there is none.
 #[tactic(auto, using(crate::proofs::LastPass::last_is, crate::proofs::LastPass::others_are))]
-fn last_pass<J: EngineBrand>(passes: &mut Vec<Pass>, case: &Case<'_>) -> Option<Pass>
+fn last_pass<J: EngineBrand>(passes: &mut Vec<Pass>) -> Option<Pass>
     requires new { All (IsNew J.identity) passes.old.items }
     ensures last { IfSome result (IsNew J.identity) }
     ensures others { All (IsNew J.identity) passes.new.items }
 {
-    match case.play {
-        Play::Sockets => None,
-        _ => passes.pop(),
-    }
+    passes.pop()
 }
 
-/// Takes an engine apart, and gives its disks: none if memory is refused. This pass of it looks at the files before, if
-/// there is one.
+/// Takes an engine apart, and gives its disks, after this pass of it has looked at the files: none if there is no pass, or
+/// memory is refused.
 fn disks_of<'l, J: EngineBrand>(
     alloc: Global,
     engine: LatchedEngine<'l, J>,
@@ -240,14 +237,10 @@ fn disks_of<'l, J: EngineBrand>(
 ) -> Vec<Option<LatchedDisk<'l>>>
     requires new { IfSome pass (IsNew J.identity) }
 {
-    let ended = match pass {
-        Some(last) => {
-            let mut last = last;
-            engine.into_disks_with(alloc, &mut last)
-        }
-        None => engine.into_disks(alloc),
+    let Some(mut last) = pass else {
+        return Vec::new(alloc);
     };
-    match ended {
+    match engine.into_disks(alloc, &mut last) {
         Ok(disks) => disks,
         Err(_) => Vec::new(alloc),
     }

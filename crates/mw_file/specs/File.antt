@@ -1,5 +1,5 @@
 -- Defines the parts of a tenant's open file by name, and how a call on it ends.
--- Used by: many crates from mw_plain on, laws.rt, tenant_file.rt. A change here changes what each call promises.
+-- Used by: many crates from mw_config on, laws.rt, tenant_file.rt. A change here changes what each call promises.
 use Rattle.std.specs.Prelude.{◌≡◌, ℕ, Bool, true, false, List, Result, Ok, Err}
 use Rattle.mw_disk.specs.Facts.{Facts}
 use Rattle.mw_disk.specs.Runs.{Good, Bad}

@@ -1,6 +1,6 @@
 -- Defines the states of a file's record places in memory: which are free, what each will write, and which change may be
 -- sealed.
--- Used by: laws.rt, new_changes.rt, opening.rt, roll.rt, tenant_file.rt, mw_plain, mw_world_file, mw_book, mw_engine,
+-- Used by: laws.rt, new_changes.rt, opening.rt, roll.rt, tenant_file.rt, mw_config, mw_plain, mw_world_file, mw_book, mw_engine,
 -- mw_file_tests. A change of MaySeal changes which calls may be made, one of IsStaged what each promises.
 use Rattle.std.specs.Prelude.{◌≡◌, ◌≢◌, ℕ, ◌+◌, Bool, true, false, List, [], ◌∷◌, length, Option, Some, None, slice_get, sum_by, if◌then◌else◌}
 use Rattle.std.specs.List.{list_all}

@@ -1,6 +1,6 @@
 -- Defines the words to which a file recovers after a crash: its words, and after a failed seal perhaps one change more. By it
 -- a crash leaves a change wholly or not at all.
--- Used by: mw_memory_disk, mw_plain, mw_world, mw_world_file, mw_book, mw_engine, mw_law_threads, laws.rt, migration.rt, new_changes.rt,
+-- Used by: mw_config, mw_memory_disk, mw_plain, mw_world, mw_world_file, mw_book, mw_engine, mw_law_threads, laws.rt, migration.rt, new_changes.rt,
 -- opening.rt, tenant_file.rt.
 use Rattle.std.specs.Prelude.{◌≡◌, ◌⊎◌, ◌≤◌, ℕ, false, Some, List, [], length, Result, Ok, Err, IsTrue}
 use Rattle.mw_disk.specs.Facts.{Facts, MayLeave}

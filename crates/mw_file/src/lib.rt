@@ -27,7 +27,7 @@
 //! - *Proved*: what a crash leaves, in a call or an opening, is undamaged (`laws.rt`).
 //! - *Tested only*: that an opening with enough memory goes well (`opening_tests` of mw_file_tests).
 //!
-//! Used by: many crates from mw_plain on. A change of a contract changes what these promise.
+//! Used by: many crates from mw_config on. A change of a contract changes what these promise.
 #![tactic(auto)]
 
 mod laws;

@@ -1,8 +1,9 @@
 //! Counts what a server does, and writes the figures in the text format of Prometheus.
 //!
 //! mw_programs makes one [`Meters`] before it opens a file, and lends it to all that counts. mw_server_pages shows
-//! the figures, and mw_opening_tests tests some. mw_opening counts the calls of the devices, mw_service the requests and
-//! the passes, mw_connections the connections and their bytes, and mw_server beats. A [`Stopwatch`] tells how long something took.
+//! the figures, and mw_opening_tests tests some. mw_opening counts the calls of the devices, mw_service the passes,
+//! mw_connections the connections and their bytes, mw_server the requests, mw_upkeep beats. A [`Stopwatch`] tells how long
+//! something took.
 //!
 //! Threads record what happens by calls on a `&` of [`TenantCounters`] and [`ServerCounters`]: one or a few additions
 //! each, with no lock, no memory, no wait. [`metrics_text`] writes what they have counted, with the figures of the

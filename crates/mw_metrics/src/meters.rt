@@ -1,6 +1,6 @@
 //! All counters of one server.
 //!
-//! Used by: mw_programs, which makes them; mw_server, mw_server_pages, mw_opening, mw_service. `specs/Counted` says what the
+//! Used by: mw_programs, which makes them; mw_server, mw_server_pages, mw_opening, mw_upkeep. `specs/Counted` says what the
 //! text is of: change both together.
 ghost use Rattle.std.specs.Prelude.{◌≡◌, ◌<◌, ◌≤◌, length, map, IfOk};
 ghost use Rattle.mw_metrics.specs.declared.samples.TheConstants.{MAX_LABEL_VALUE};

@@ -1,6 +1,6 @@
 //! Tells how long something took.
 //!
-//! Used by: `meters`, mw_server_pages, mw_opening, mw_service. It promises nothing of the clock.
+//! Used by: `meters`, mw_server_pages, mw_opening, mw_server. It promises nothing of the clock.
 
 use std::time::{Clock, Instant};
 

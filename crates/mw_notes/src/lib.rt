@@ -5,7 +5,7 @@
 //!
 //! Nothing is proved of either. docs/OPERATING tells the forms and the limits, and scripts/check-limits tries one.
 //!
-//! Used by: mw_opening, mw_server, mw_programs.
+//! Used by: mw_opening, mw_upkeep, mw_server, mw_programs.
 #![tactic(auto)]
 
 mod notes;

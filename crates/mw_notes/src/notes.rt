@@ -1,6 +1,6 @@
 //! Writes notes for whoever runs the server, each on a line of its own.
 //!
-//! Used by: mw_opening, mw_server, mw_programs. It has no contracts. docs/OPERATING tells the limits at
+//! Used by: mw_opening, mw_upkeep, mw_server, mw_programs. It has no contracts. docs/OPERATING tells the limits at
 //! the top, and scripts/check-limits tries one.
 
 use arrayvec::ArrayVec;

@@ -1,5 +1,5 @@
 -- An opened file that has its tenant's words and places fits the tenant's line, and one for each line fit all lines.
--- Used by: open_files, open_synced, open_parts.
+-- Used by: open_files, open_synced; mw_programs.
 use Rattle.std.proofs.Common.{◌≡◌, ◌≤◌, ℕ, zero, suc, ◌+◌, List, [], ◌∷◌, ◌++◌, Option, Some, Result, Ok, Err, OnOk, is_err, false, Vec, take, slice_get, get_or, length, ◌<◌, ◌∙◌, ap, subst, sym, refl, arith, IsTrue}
 use Rattle.std.specs.declared.alloc.Global.{Global}
 use Rattle.std.proofs.lemmas.Option.{none-some, same_Some, slice_get-get_or}
@@ -11,7 +11,7 @@ use Rattle.mw_config.specs.declared.lines.TenantLine.{TenantLine}
 use Rattle.mw_file.specs.declared.tenant_file.TenantFile.{TenantFile}
 use Rattle.mw_file.specs.File.{states_of}
 use Rattle.mw_file.specs.OpeningEnds.{IsOpened}
-use Rattle.mw_engine.specs.OpenedFiles.{IsFresh, FitsLine, FitLines}
+use Rattle.mw_config.specs.FittingFiles.{IsFresh, FitsLine, FitLines}
 
 -- if a call went well, the clause for that case holds
 pub of_ok : {A E P : Type 0} (r : Result A E) → is_err r ≡ false → OnOk r P → P

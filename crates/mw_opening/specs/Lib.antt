@@ -1,4 +1,4 @@
-pub mod MadeOfOpened
+pub mod Replaced
 pub mod SyncedOpenings
 pub mod TenantsAtPath
 pub mod FromBelow

@@ -1,8 +1,8 @@
 //! What is known of a tenant's file: which file of the system it is, how long it must be and how it must begin. Also
 //! whether others have replaced, cut or overwritten it, whether it was given up, and its last error.
 //!
-//! Used by: `watched_file`, `tenant_disks`; mw_programs, which looks whether the file was replaced; mw_opening_tests. Many
-//! threads may share it; the calls on one file come one after the other.
+//! Used by: `watched_file`, `tenant_disks`, `replaced`; mw_upkeep, which keeps that a file was replaced; mw_programs;
+//! mw_opening_tests. Many threads may share it; the calls on one file come one after the other.
 ghost use Rattle.std.specs.Prelude.{◌≡◌, ◌<◌, IfErr, is_ok, not};
 ghost use Rattle.std.specs.Fs.{metadata_len};
 ghost use Rattle.std.specs.IoError.{error_kind};

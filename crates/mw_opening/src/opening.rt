@@ -1,12 +1,12 @@
 //! Opens the tenants file and each tenant's own file, under a lock.
 //!
-//! Used by: `opened_parts`; mw_programs, which reads the tenants. Change it with docs/OPERATING, which has the notes;
+//! Used by: mw_programs, which reads the tenants and makes an engine of the files. Change it with docs/OPERATING, which has the notes;
 //! scripts/check-stories and scripts/check-refusals expect some. A new [`Cause`] needs a case in `Cause::tell`. docs/PROMISES
 //! cites `open_files` and `read_tenants_file`.
 ghost use Rattle.std.specs.Prelude.{◌<◌, ◌≤◌, ◌≢◌, length, IfErr, IfOk, Some};
 ghost use Rattle.mw_config.specs.Limits.{ArePermitted};
 ghost use Rattle.mw_words.specs.declared.limits.TheConstants.{MAX_TENANTS};
-ghost use Rattle.mw_engine.specs.OpenedFiles.{FitsLine, FitLines};
+ghost use Rattle.mw_config.specs.FittingFiles.{FitsLine, FitLines};
 ghost use Rattle.mw_opening.specs.SyncedOpenings.{AreOfLines, GivesNoFile, HasNoFile, IsOfLine, OpensAfterSync};
 ghost use Rattle.mw_opening.specs.TenantsAtPath.{AreReadAt};
 
@@ -182,7 +182,7 @@ pub fn read_tenants_file<R: OpensPaths>(
 /// # Errors
 ///
 /// Memory was refused.
-pub(crate) fn open_files<P: OpensDisks, L: Log>(
+pub fn open_files<P: OpensDisks, L: Log>(
     alloc: Global,
     notes: &L,
     lines: &[TenantLine],

@@ -1,7 +1,7 @@
-//! Opens the disks of the tenants' files: what [`open_parts`](crate::open_parts) needs of whoever opens them, and the
+//! Opens the disks of the tenants' files: what [`open_files`](crate::open_files) needs of whoever opens them, and the
 //! system's files, each under a lock.
 //!
-//! Used by: `opening`, `opened_parts`; mw_programs makes the [`LockedFiles`]. [`OpensPaths`] says what is known of
+//! Used by: `opening`; mw_programs makes the [`LockedFiles`]. [`OpensPaths`] says what is known of
 //! the files that a server opens.
 ghost use Rattle.std.specs.Prelude.{◌<◌, ℕ, List, length, take, IfErr, IfOk};
 ghost use Rattle.std.specs.declared.fs.File.{File as SystemFile};

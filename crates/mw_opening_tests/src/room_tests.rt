@@ -4,7 +4,7 @@ use log::kv::Source;
 use log::span::Spans;
 use log::{Level, Log, Metadata, Record};
 use mw_connections::RoomWatch;
-use mw_server::RoomNotes;
+use mw_upkeep::RoomNotes;
 use std::fmt::Display;
 use std::io::{self, ErrorKind};
 use std::process::Abort;

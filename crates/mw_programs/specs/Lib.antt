@@ -1,5 +1,5 @@
 pub mod Copies
-pub mod Replaced
+pub mod MadeOfOpened
 pub mod ScriptSession
 pub mod Promised
 pub mod FromBelow

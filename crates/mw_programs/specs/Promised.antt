@@ -10,9 +10,11 @@ use Rattle.mw_disk.specs.Facts.{Facts}
 use Rattle.mw_file.specs.declared.tenant_file.TenantFile.{TenantFile}
 use Rattle.mw_session.specs.Talk.{Call}
 use Rattle.mw_engine.specs.Brand.{Identity}
+use Rattle.mw_engine.specs.DisksAtStart.{disks_read}
+use Rattle.mw_engine.specs.OpenedFiles.{line_read, openings_read}
 use Rattle.mw_engine.specs.Parts.{world_read}
 use Rattle.mw_engine.specs.Passes.{IsPassOf}
-use Rattle.mw_opening.specs.FromBelow.{DeviceCall, disks_read, line_read, openings_read}
+use Rattle.mw_opening.specs.FromBelow.{DeviceCall}
 use Rattle.mw_opening.specs.SyncedOpenings.{AreOfLines}
 use Rattle.mw_opening.specs.TenantsAtPath.{AreReadAt}
 use Rattle.mw_opening.specs.declared.file_fault.FileFault.{FileFault}

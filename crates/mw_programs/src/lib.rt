@@ -12,10 +12,9 @@
 
 mod console;
 mod copies;
-mod fault_notes;
 mod lent_writer;
+mod opened_parts;
 mod promise;
-mod replaced;
 mod scripts;
 mod services;
 mod serving;
@@ -23,8 +22,7 @@ mod serving;
 pub use console::{Printed, ScriptConsole};
 pub use mw_disk::Disk;
 pub use mw_notes::PromptErrors;
-pub use mw_opening::{LockedFiles, OpensDisks, OpensPaths, TenantDisk};
-pub use mw_server::{Console, ServedApart, ServerEnd, ends_on_failure};
+pub use mw_opening::{LockedFiles, OpensDisks, OpensPaths, SeesPaths, TenantDisk};
+pub use mw_upkeep::{Console, ServedApart, ServerEnd, ends_on_failure};
 pub use promise::{EngineNetwork, ServerNetwork, ServerPromise};
-pub use replaced::SeesPaths;
 pub use serving::serve;

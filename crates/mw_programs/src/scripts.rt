@@ -14,9 +14,8 @@ use mw_disk::Disk;
 use mw_engine::{Engine, EngineBrand, NoHold, Pass};
 use mw_notes::note_why;
 use mw_opening::OpensPaths;
-use mw_server::ServeFault;
-use mw_service::FaultWatch;
-use mw_session::Ended;
+use mw_session::{Ended, FaultWatch};
+use mw_upkeep::ServeFault;
 use std::sync::Wait;
 use std::time::Clock;
 

@@ -16,13 +16,11 @@ use mw_disk::Disk;
 use mw_engine::{Engine, EngineBrand, NoHold, Pass};
 use mw_main::VERSION;
 use mw_metrics::{Meters, ServerCounters};
-use mw_server::{Console, FileLook, ServeFault, Server, capacity, counted, serve_clients};
+use mw_server::{MeteredService, Server, capacity, counted, serve_clients};
 use mw_server_pages::{Pages, PagesPromise, ServerPages, Version};
-use mw_service::{
-    Borrower, FaultWatch, MeteredService, NewTokenTable, PassPool, ReadPool, TokenBrand,
-    TokenTable, Worker,
-};
-use mw_session::Service;
+use mw_service::{Borrower, NewTokenTable, PassPool, ReadPool, TokenBrand, TokenTable, Worker};
+use mw_session::{FaultWatch, Service};
+use mw_upkeep::{Console, FileLook, ServeFault};
 use std::alloc::AllocError;
 use std::marker::Brand;
 use std::sync::Wait;

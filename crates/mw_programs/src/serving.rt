@@ -14,9 +14,8 @@ ghost use Rattle.mw_programs.specs.Promised.{HasServed, Promises, PromisesOfArgs
 ghost use Rattle.mw_programs.specs.ScriptSession.{RunsScript};
 
 use crate::console::ScriptConsole;
-use crate::fault_notes::TenantNotes;
+use crate::opened_parts::{OpenedParts, are_all_open, open_parts};
 use crate::promise::{EngineNetwork, ServerNetwork, ServerPromise};
-use crate::replaced::SeesPaths;
 use crate::scripts::run_script;
 use crate::services::serve_all_clients;
 use arrayvec::ArrayVec;
@@ -28,14 +27,12 @@ use mw_engine::{Engine, EngineBrand, EngineParts, NoHold, Pass};
 use mw_metrics::Meters;
 use mw_notes::{NoteForm, Notes};
 use mw_opening::{
-    FileStates, LockedFiles, OpenedParts, OpensDisks, OpensPaths, SyncsFolders, TenantDisk,
-    are_all_open, open_parts, read_tenants_file, sync_folders,
+    FileStates, LockedFiles, OpensDisks, OpensPaths, SeesPaths, SyncsFolders, TenantDisk,
+    read_tenants_file, sync_folders,
 };
-use mw_server::{
-    FileLook, HeldLease, OpensLeases, ServeFault, Server, ServerEnd, counted_in, has_room,
-    has_stack_for, refuse, workers_of,
-};
-use mw_service::FaultWatch;
+use mw_server::{Server, counted_in, has_room, has_stack_for, workers_of};
+use mw_session::FaultWatch;
+use mw_upkeep::{FileLook, HeldLease, OpensLeases, ServeFault, ServerEnd, TenantNotes, refuse};
 use mw_words::MAX_TENANTS;
 use std::io::Write;
 use std::marker::Brand;

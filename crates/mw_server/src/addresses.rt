@@ -3,9 +3,7 @@
 //! `clients` opens them once all services are made, and then serves. docs/OPERATING tells what is printed, and the
 //! notes; scripts/check-stories, check-limits and check-sockets expect them: change them together.
 
-use crate::console::{Address, Console};
 use crate::pages::{LIMITS, PagesEnd};
-use crate::serve_fault::ServeFault;
 use log::{Log, error, warn};
 use mw_config::Listening;
 use mw_connections::{
@@ -14,6 +12,7 @@ use mw_connections::{
 };
 use mw_metrics::ServerCounters;
 use mw_notes::{note_place, note_why};
+use mw_upkeep::{Address, Console, ServeFault};
 use std::io::{self, ErrorKind};
 
 /// The addresses of a server, at each of which it listens.

@@ -5,12 +5,7 @@ ghost use Rattle.std.specs.Prelude.{◌<◌, vec_len};
 ghost use Rattle.mw_connections.specs.Promises.{KeepsPromise, PagesKeep};
 
 use crate::addresses::{AdminDoor, ClientDoors, DoorTerms, Doors, open_doors};
-use crate::beats::{HeldLease, LeaseLook};
-use crate::console::Console;
-use crate::looks::{FileLook, PERIOD, Stop, look_on};
 use crate::pages::{PagesEnd, show_pages};
-use crate::room_notes::RoomNotes;
-use crate::serve_fault::ServeFault;
 use log::Log;
 use mw_config::Listening;
 use mw_connections::{
@@ -20,6 +15,9 @@ use mw_connections::{
 use mw_metrics::Meters;
 use mw_server_pages::{Pages, PagesPromise};
 use mw_session::Service;
+use mw_upkeep::{
+    Console, FileLook, HeldLease, LeaseLook, PERIOD, RoomNotes, ServeFault, Stop, look_on,
+};
 use mw_workers::{Desk, ServeEnd, serve_all, serve_beside};
 use std::alloc::AllocError;
 use std::sync::Wait;

@@ -7,11 +7,10 @@ ghost use Rattle.mw_service.specs.Borrowed.{IsNoteOfEngine};
 use crate::pass_pool::PassPool;
 use crate::read_pool::ReadPool;
 use crate::request_tokens::{OwnTokens, TokenBrand, TokenTable};
-use crate::watch::FaultWatch;
 use mw_disk::Disk;
 use mw_engine::{Engine, EngineBrand, Hold, Note};
 use mw_report::Figures;
-use mw_session::Service;
+use mw_session::{FaultWatch, Service};
 use mw_words::{Job, Name, Reply};
 use std::sync::Wait;
 

@@ -7,8 +7,7 @@
 //! that it borrows learns from the note before the request. So a value, a YES and a NO are right at a place in the
 //! tenant's history that is no earlier than what the session has seen, whichever passes it borrows.
 //!
-//! A [`MeteredService`] is a service over another one, which times its requests and counts them. A [`PassPool`] counts its
-//! passes that are in use, and the requests that waited for one.
+//! A [`PassPool`] counts its passes that are in use, and the requests that waited for one.
 //!
 //! Each reply of a [`Borrower`] comes with the token of its request, from the source that goes with the pass. No two
 //! borrowers have one token ([`TokenTable`]), so no two are told the reply to one request. A borrower serves one session at a time.
@@ -29,22 +28,18 @@ mod borrower;
 mod idle_pass;
 mod laws;
 mod locked_passes;
-mod metered;
 mod pass_pool;
 mod read_pool;
 mod request_tokens;
 mod served;
 mod token_rule;
 mod token_views;
-mod watch;
 mod worker;
 
 pub use borrower::Borrower;
 pub use idle_pass::IdlePass;
 pub use laws::replies_are_in_order;
-pub use metered::MeteredService;
 pub use pass_pool::PassPool;
 pub use read_pool::ReadPool;
 pub use request_tokens::{NewTokenTable, TokenBrand, TokenTable};
-pub use watch::FaultWatch;
 pub use worker::Worker;

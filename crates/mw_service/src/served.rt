@@ -3,12 +3,11 @@
 //!
 //! mw_session calls it for the lines of a session, which `worker` runs. A new question needs a call here and in
 //! `Service` of mw_session.
-use crate::watch::FaultWatch;
 use crate::worker::Worker;
 use mw_disk::Disk;
 use mw_engine::{EngineBrand, Hold};
 use mw_report::Figures;
-use mw_session::Service;
+use mw_session::{FaultWatch, Service};
 use mw_words::{Job, Name, Reply};
 use std::sync::Wait;
 

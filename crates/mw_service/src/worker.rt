@@ -10,10 +10,9 @@ ghost use Rattle.mw_session.specs.declared.session.Ended.TheVariants.{PeerEnd};
 ghost use Rattle.mw_engine.specs.Passes.{IsPassOf};
 ghost use Rattle.mw_service.specs.Served.{IsSession};
 
-use crate::watch::FaultWatch;
 use mw_disk::Disk;
 use mw_engine::{Engine, EngineBrand, Hold, Pass};
-use mw_session::{Ended, NoOthers, PeerStream, RecordedStream, Session};
+use mw_session::{Ended, FaultWatch, NoOthers, PeerStream, RecordedStream, Session};
 use std::alloc::Global;
 use std::sync::Wait;
 

@@ -41,6 +41,7 @@ mod steps;
 mod stream;
 mod stream_call;
 mod transcript;
+mod watch;
 mod writer;
 
 pub use laws::one_hearing;
@@ -48,3 +49,4 @@ pub use recorded_stream::RecordedStream;
 pub use service::Service;
 pub use session::{Ended, Session};
 pub use stream::{Duplex, NoOthers, Others, PeerStream};
+pub use watch::FaultWatch;

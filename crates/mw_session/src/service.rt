@@ -1,6 +1,6 @@
 //! The trait of a service: what a session asks of the server (to find a tenant, to serve a job, to report).
 //!
-//! Used by: many crates from mw_connections on. mw_service implements it (`served.rt`, `borrower.rt`, `metered.rt`),
+//! Used by: many crates from mw_connections on. mw_service implements it (`served.rt`, `borrower.rt`), mw_server (`metered.rt`),
 //! and so do five services of tests. A new call needs a body in each, and a `Call` in `specs/Talk`.
 ghost use Rattle.std.specs.Prelude.{ℕ, IfSome, IsTrue};
 ghost use Rattle.mw_words.specs.Change.{is_well_formed};

@@ -1,7 +1,7 @@
 -- Goals of `open_files` (src/opening.rt).
 use Rattle.std.proofs.Common.{sym, subst, arith}
 use Rattle.std.proofs.lemmas.List.{take_all}
-use Rattle.mw_engine.specs.OpenedFiles.{FitLines}
+use Rattle.mw_config.specs.FittingFiles.{FitLines}
 use Rattle.mw_opening.specs.SyncedOpenings.{AreOfLines}
 use Rattle.mw_opening.proofs.DisksOpened.{of_next}
 use Rattle.mw_opening.proofs.FilesFitLines.{fit_next, so_many}

@@ -1,6 +1,6 @@
 -- Loop invariants of `open_files` (src/opening.rt).
 use Rattle.std.proofs.Common.{take}
-use Rattle.mw_engine.specs.OpenedFiles.{FitLines}
+use Rattle.mw_config.specs.FittingFiles.{FitLines}
 use Rattle.mw_opening.specs.SyncedOpenings.{AreOfLines}
 use Rattle.mw_opening.proofs.opening.open_files.Given as goal
 

@@ -1,6 +1,6 @@
 //! Opens the tenants' files, and makes an engine's parts of just these.
 //!
-//! Used by: mw_programs. docs/PROMISES cites `open_parts`. What its clause `opened` says is in specs/MadeOfOpened: change
+//! Used by: `serving`. docs/PROMISES cites `open_parts`. What its clause `opened` says is in specs/MadeOfOpened: change
 //! both together.
 ghost use Rattle.std.specs.Prelude.{◌≡◌, ◌≤◌, All, length, map, is_some, IfOk};
 ghost use Rattle.std.specs.List.{list_all};
@@ -10,26 +10,24 @@ ghost use Rattle.mw_words.specs.declared.limits.TheConstants.{MAX_POOL, MAX_TENA
 ghost use Rattle.mw_engine.specs.OpenedFiles.{line_read};
 ghost use Rattle.mw_engine.specs.Passes.{IsNew};
 ghost use Rattle.mw_engine.specs.Parts.{identity_of, world_read};
-ghost use Rattle.mw_opening.specs.MadeOfOpened.{AreMadeOfOpened, IfMade};
+ghost use Rattle.mw_programs.specs.MadeOfOpened.{AreMadeOfOpened, IfMade};
 
-use crate::opening::open_files;
-use crate::tenant_disks::OpensDisks;
 use arrayvec::ArrayVec;
 use log::Log;
 use mw_config::TenantLine;
 use mw_disk::Disk;
 use mw_engine::{EngineParts, Pass};
-use mw_file::TenantFile;
+use mw_opening::{OpensDisks, open_files};
 use mw_words::MAX_TENANTS;
 use std::alloc::{AllocError, Global};
 
 /// What is made of the tenants' files at a start.
 #[derive(Drop)]
-pub struct OpenedParts<D: Disk, H> {
+pub(crate) struct OpenedParts<D: Disk, H> {
     /// Whether each tenant's file has opened and fits its line, in the order of the lines.
-    pub are_open: ArrayVec<bool, MAX_TENANTS>,
+    pub(crate) are_open: ArrayVec<bool, MAX_TENANTS>,
     /// The engine's parts, which have the files, and a pass for each worker. If memory was refused, the files are closed.
-    pub made: Result<(EngineParts<D, H>, Vec<Pass>), AllocError>,
+    pub(crate) made: Result<(EngineParts<D, H>, Vec<Pass>), AllocError>,
 }
 
 /// Opens the tenants' files, and makes the parts of an engine of them. The files are opened in the order of their lines.
@@ -37,7 +35,7 @@ pub struct OpenedParts<D: Disk, H> {
 /// isn't as the tenants file says. Then every request of that tenant is answered FAULT. All tenants share a pool of
 /// `pool` slots.
 ///
-/// - `opened`: the parts are made of just the files that it opened. Each of these is what [`TenantFile::open`] gave, with
+/// - `opened`: the parts are made of just the files that it opened. Each of these is what `TenantFile::open` gave, with
 ///   the words that it found. The disk was synced just before. `disks` opened it at the path of the line. A tenant has no
 ///   file only for a cause: `disks` gave a fault, the sync or the opening failed, or the file has other sizes than the line
 ///   says.
@@ -46,7 +44,7 @@ pub struct OpenedParts<D: Disk, H> {
 /// # Errors
 ///
 /// Memory was refused before all files were opened.
-pub fn open_parts<P: OpensDisks, L: Log, H: Drop>(
+pub(crate) fn open_parts<P: OpensDisks, L: Log, H: Drop>(
     alloc: Global,
     notes: &L,
     lines: &[TenantLine],
@@ -72,7 +70,7 @@ pub fn open_parts<P: OpensDisks, L: Log, H: Drop>(
 }
 
 /// Tells of each tenant's file whether it has opened.
-fn which_are_open<D>(files: &[Option<(TenantFile<D>, Vec<u64>)>]) -> ArrayVec<bool, MAX_TENANTS>
+fn which_are_open<T>(files: &[Option<T>]) -> ArrayVec<bool, MAX_TENANTS>
     requires few { length files.now ≤ MAX_TENANTS }
     ensures each { result.items ≡ map (λ file. is_some file) files.now }
 {
@@ -84,7 +82,7 @@ fn which_are_open<D>(files: &[Option<(TenantFile<D>, Vec<u64>)>]) -> ArrayVec<bo
 }
 
 /// Tells whether each tenant's file has opened and fits its line.
-pub fn are_all_open(are_open: &[bool]) -> bool
+pub(crate) fn are_all_open(are_open: &[bool]) -> bool
     ensures { result ≡ list_all (λ is_open. is_open) are_open.now }
 {
     are_open.iter().all(|is_open| *is_open)

@@ -1,6 +1,6 @@
 //! What a server tells on its standard output: where it listens, or what its command line asks to be told.
 //!
-//! Used by: `addresses`, `clients`; mw_programs, which prints it. docs/OPERATING tells what is printed: change both
+//! Used by: `wrong_lines`; mw_server; mw_programs, which prints it. docs/OPERATING tells what is printed: change both
 //! together. Scripts read the words `ready`, `admin` and `http`.
 use mw_config::ArgFault;
 use std::io;

@@ -1,6 +1,6 @@
 //! Is told of the requests that are answered FAULT.
 //!
-//! `served` and `borrower` tell it; mw_programs writes notes by it.
+//! mw_service tells it; mw_upkeep writes notes by it, and mw_programs hands it on.
 
 /// Is told when a request was answered FAULT.
 pub trait FaultWatch {

@@ -1,11 +1,10 @@
 //! Looks whether a tenant's path still leads to the file that was opened, as long as it must be and with the same front.
 //!
-//! Used by: `fault_notes`, which writes the notes; `serving`.
-//! Change it with `specs/Replaced` and docs/OPERATING.
+//! Used by: mw_upkeep, which writes the notes; mw_programs. Change it with `specs/Replaced` and docs/OPERATING.
 ghost use Rattle.std.specs.Prelude.{◌≡◌, ◌↔◌, false};
-ghost use Rattle.mw_programs.specs.Replaced.{LeadsTo};
+ghost use Rattle.mw_opening.specs.Replaced.{LeadsTo};
 
-use mw_opening::{FRONT, FileState, SeenFile};
+use crate::file_state::{FRONT, FileState, SeenFile};
 use std::fs;
 use std::io::{self, ErrorKind, Read};
 use std::rt::Files;
@@ -41,7 +40,7 @@ impl<R: Files> SeesPaths for R {
 
 /// Tells whether the path of a file that was opened leads elsewhere now, or others have cut or overwritten the file. If the
 /// system doesn't say what is at the path, that is not known, and the answer is no.
-pub(crate) fn leads_elsewhere<R: SeesPaths>(rt: &R, path: &str, opened: &FileState) -> bool {
+pub fn leads_elsewhere<R: SeesPaths>(rt: &R, path: &str, opened: &FileState) -> bool {
     if opened.was_replaced() {
         return true;
     }

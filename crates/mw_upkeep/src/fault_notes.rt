@@ -1,18 +1,18 @@
 //! Writes a note, once, on each tenant whose file fails while it is served, and on each whose file is replaced.
 //!
-//! `serving` makes the notes, mw_service tells of each FAULT, and `clients` has the files looked at. Change it with
+//! mw_programs makes the notes, mw_service tells of each FAULT, and mw_server has the files looked at. Change it with
 //! docs/OPERATING; scripts/check-locks and check-prometheus read the notes.
 ghost use Rattle.std.specs.Prelude.{◌<◌};
 ghost use Rattle.mw_words.specs.declared.limits.TheConstants.{MAX_TENANTS};
 
-use crate::replaced::{SeesPaths, leads_elsewhere};
+use crate::ending::{FILE_LOST, ServerEnd};
+use crate::looks::FileLook;
 use log::{Log, error};
 use mw_config::TenantLine;
 use mw_metrics::Meters;
 use mw_notes::{note_place, note_why};
-use mw_opening::{FileState, FileStates};
-use mw_server::{FILE_LOST, FileLook, ServerEnd};
-use mw_service::FaultWatch;
+use mw_opening::{FileState, FileStates, SeesPaths, leads_elsewhere};
+use mw_session::FaultWatch;
 use mw_words::MAX_TENANTS;
 use std::str;
 use std::sync::{Mutex, Wait};

@@ -1,11 +1,10 @@
 -- Defines that an engine's parts are made of just the files that were opened, each of its own tenant's line.
--- Used by: opened_parts.rt. A change here changes which files a server may serve. docs/PROMISES cites
+-- Used by: src/opened_parts.rt. A change here changes which files a server may serve. docs/PROMISES cites
 -- `AreMadeOfOpened`.
 use Rattle.std.specs.Prelude.{◌≡◌, ℕ, Bool, List, map, Option, is_some, Result, Ok, Err, IfOk, Vec}
 use Rattle.std.specs.declared.alloc.AllocError.{AllocError}
 use Rattle.std.specs.declared.alloc.Global.{Global}
 use Rattle.mw_config.specs.declared.lines.TenantLine.{TenantLine}
-use Rattle.mw_disk.specs.DeviceCalls.{DeviceCall}
 use Rattle.mw_disk.specs.Facts.{Facts}
 use Rattle.mw_disk.specs.declared.device.Disk.{Ghosts}
 use Rattle.mw_file.specs.declared.tenant_file.TenantFile.{TenantFile}
@@ -14,9 +13,10 @@ use Rattle.mw_engine.specs.declared.parts.EngineParts.{EngineParts}
 use Rattle.mw_engine.specs.DisksAtStart.{disks_read}
 use Rattle.mw_engine.specs.OpenedFiles.{book_file, held_read, line_read, openings_read}
 use Rattle.mw_engine.specs.Parts.{identity_of}
+use Rattle.mw_opening.specs.FromBelow.{DeviceCall}
 use Rattle.mw_opening.specs.SyncedOpenings.{AreOfLines}
 use Rattle.mw_opening.specs.declared.file_fault.FileFault.{FileFault}
-use Rattle.mw_opening.specs.declared.opened_parts.OpenedParts.{OpenedParts}
+use Rattle.mw_programs.specs.declared.opened_parts.OpenedParts.{OpenedParts}
 
 module _ {D H : Type 0} {device : Ghosts D} where
   -- if the parts were made, with their passes, this is true of them

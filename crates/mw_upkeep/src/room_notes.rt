@@ -1,6 +1,6 @@
 //! Writes a note when there is no room for connections, once a second at most.
 //!
-//! `clients` makes one for each address. docs/OPERATING tells the note, and scripts/check-stories and check-limits
+//! mw_server makes one for each address. docs/OPERATING tells the note, and scripts/check-stories and check-limits
 //! expect it: change them together.
 
 use log::{Log, warn};

@@ -2,7 +2,7 @@
 use Rattle.std.proofs.Common.{length, map, ap, ◌∙◌, arith}
 use Rattle.std.specs.Prelude.{is_some}
 use Rattle.mw_opening.proofs.FilesFitLines.{as_many}
-use Rattle.mw_opening.proofs.opened_parts.open_parts.Goals as goal
+use Rattle.mw_programs.proofs.opened_parts.open_parts.Goals as goal
 
 -- there are no more files than lines
 pub which_are_open-are_open-requires : goal.which_are_open-are_open-requires

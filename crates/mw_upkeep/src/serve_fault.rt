@@ -1,6 +1,6 @@
 //! Why a server serves nothing more.
 //!
-//! Used by: `addresses`, `beats`, `clients`; mw_programs, which gives the exit status. Change it with docs/OPERATING.
+//! Used by: `beats`; mw_server; mw_programs, which gives the exit status. Change it with docs/OPERATING.
 ghost use Rattle.std.specs.Prelude.{◌≤◌};
 
 use log::{Log, error};

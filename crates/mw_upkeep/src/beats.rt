@@ -1,6 +1,6 @@
 //! Beats a server's lease, and writes a note when it is lost, and when it is good again.
 //!
-//! mw_programs takes the lease, and `clients` has it beaten by a thread of its own, and looked at once a second.
+//! mw_programs takes the lease, and mw_server has it beaten by a thread of its own, and looked at once a second.
 //! docs/OPERATING tells the notes, and what a server without its lease still tells: change them together.
 //! scripts/check-locks reads the notes.
 
@@ -74,7 +74,7 @@ impl<'a> HeldLease<'a> {
     }
 
     /// Gives what sessions ask.
-    pub(crate) fn lease(&self) -> &Lease {
+    pub fn lease(&self) -> &Lease {
         &self.lease
     }
 
@@ -90,7 +90,7 @@ impl<'a> HeldLease<'a> {
     }
 
     /// Beats again and again until it is asked to end. This may wait for ever.
-    pub(crate) fn beat_on<R: Wait + Clock>(&self, rt: &R, stop: &Stop) {
+    pub fn beat_on<R: Wait + Clock>(&self, rt: &R, stop: &Stop) {
         let pause = Duration::from_millis(u64::from(self.terms.seconds).saturating_mul(PAUSE));
         for _ in rt.forever() {
             if stop.comes_within(rt, pause) {
@@ -134,11 +134,11 @@ fn cannot_take<L: Log>(notes: &L, path: &str, fault: &LeaseFault) -> ServeFault 
 
 /// Looks at the lease, if there is one, and then at the files of all tenants.
 #[derive(Drop)]
-pub(crate) struct LeaseLook<'a, R, L, T> {
-    pub(crate) rt: &'a R,
-    pub(crate) notes: &'a L,
-    pub(crate) held: Option<&'a HeldLease<'a>>,
-    pub(crate) files: &'a T,
+pub struct LeaseLook<'a, R, L, T> {
+    pub rt: &'a R,
+    pub notes: &'a L,
+    pub held: Option<&'a HeldLease<'a>>,
+    pub files: &'a T,
 }
 
 impl<R: Wait + Clock, L: Log, T: FileLook> FileLook for LeaseLook<'_, R, L, T> {
