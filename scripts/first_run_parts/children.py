@@ -1,9 +1,10 @@
 """Child processes: each writes into files, and ends when this process ends.
 
-Used by: scripts/build-libraries, scripts/check-wrong-bodies, scripts/first-run, scripts/gate-cost, example.py, proving.py,
+Used by: scripts/build-libraries, scripts/check-wrong-bodies, scripts/first-run, scripts/gate-cost, course.py, example.py, runs.py,
 edit_parts/room.py, library_parts/building.py.
 """
 import ctypes
+import os
 import signal
 import subprocess
 import sys
@@ -48,6 +49,13 @@ def end_with_parent() -> None:
         signal.signal(it, signal.SIG_DFL)
 
 
+def apart() -> None:
+    """The same, in a group of its own, so that Ctrl-C comes to the parent alone, and the children are told in order. (Sessions of their own
+    would share the processors evenly on some kernels, however nice each is.)"""
+    os.setpgid(0, 0)
+    end_with_parent()
+
+
 class Child:
     """A command that runs in a folder of its own. Its two streams go to files in `logs`."""
 
@@ -55,10 +63,8 @@ class Child:
         self.answer_file, self.log_file = logs / f"{name}.answer", logs / f"{name}.log"
         self.began, self.seen = time.monotonic(), 0
         with open(self.answer_file, "wb") as answer, open(self.log_file, "wb") as log:
-            # (a session of its own, so that Ctrl-C comes here alone, and the children are told in order)
             self.process = subprocess.Popen(
-                words, cwd=folder, stdin=subprocess.DEVNULL, stdout=answer, stderr=log,
-                start_new_session=True, preexec_fn=end_with_parent)
+                words, cwd=folder, stdin=subprocess.DEVNULL, stdout=answer, stderr=log, preexec_fn=apart)
 
     def has_ended(self) -> bool:
         """Whether the command has ended."""

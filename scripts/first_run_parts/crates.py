@@ -1,6 +1,6 @@
 """The crates of a repository: what each uses, how long its proof is likely to take, and a sum of its text.
 
-Used by: scripts/bench-table, scripts/build-libraries, scripts/check-wrong-bodies, scripts/first-run, copies.py, example.py, proving.py,
+Used by: scripts/bench-table, scripts/build-libraries, scripts/check-wrong-bodies, scripts/first-run, copies.py, course.py, example.py, proving.py, runs.py,
 edit_parts/room.py, library_parts/building.py, library_parts/rooms.py. It reads crates.txt. proving.py and building.py keep the sums in
 out/: if they are made otherwise, each crate is given to `rt` again.
 """

@@ -1,6 +1,6 @@
 """The Rattle kit that is installed here.
 
-Used by: scripts/bench-table, scripts/build-libraries, scripts/check-wrong-bodies, scripts/first-run, library_parts/building.py.
+Used by: scripts/bench-table, scripts/build-libraries, scripts/check-wrong-bodies, scripts/first-run, proving.py, library_parts/building.py.
 """
 import shutil
 import subprocess

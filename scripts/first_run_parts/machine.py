@@ -1,6 +1,6 @@
 """What this machine has to give: processors and free memory, under the limits of a control group too.
 
-Used by: scripts/check-wrong-bodies, scripts/gate-cost, example.py, proving.py, library_parts/building.py. It looks as `processors` and
+Used by: scripts/check-wrong-bodies, scripts/gate-cost, course.py, example.py, proving.py, library_parts/building.py. It looks as `processors` and
 `free` of the installed kit's `rt` do.
 """
 import os
