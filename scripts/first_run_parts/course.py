@@ -97,6 +97,7 @@ class Course:
         self.progress, self.tree, self.logs = Progress(crates), tree, logs
         self.fixed = (f"RT_JOBS={jobs}",) if jobs else ()
         self.left = parts_of(crates) if has_room and not jobs else [WHOLE]
+        # (the first crate tells nothing: each earlier run has proved it)
         self.late = {name for part in self.left if part.is_late and part.needs for name in part.names}
         self.running: List[Run] = []
 
@@ -117,7 +118,7 @@ class Course:
     def run(self) -> None:
         """Waits for the end of all runs, with a line for each crate that is proved."""
         while self.running:
-            self.running = [it for it in self.running if not it.has_ended()]
+            self.running = [it for it in self.running if not it.look()]
             self.progress.settle()
             if self.left and self.late.intersection(self.progress.kept):
                 # (an earlier run came so far: what is left is too little for several)

@@ -37,6 +37,7 @@ class Progress:
     def __init__(self, crates: Dict[str, Crate]):
         self.crates, self.left = crates, set(crates)
         self.kept: List[str] = []
+        # (the crates that runs were given, by the last look and by the one before)
         self.given: List[str] = []
         self.before: List[str] = []
         self.notes: List[str] = []
@@ -100,8 +101,8 @@ class Run:
         # (in CI `rt` takes no names; this isn't the gate)
         self.child = Child(["env", "-u", "CI", *before, "rt", "ci", *names], tree, logs, "-".join(["rt-ci", *names[:1]]))
 
-    def has_ended(self) -> bool:
-        """Takes what was said since the last look. Whether the run has ended, and well."""
+    def look(self) -> bool:
+        """Takes what was said since the last look, and tells whether the run has ended. One that ended badly raises NotProved."""
         has_ended = self.child.has_ended()
         new = self.child.answer()[self.read:]
         whole = new.rfind("\n") + 1
